@@ -1,0 +1,62 @@
+-- Every row of document 01's table of examples holds, computed from the definitions.
+-- Assumes nothing.
+use mathlib.Core.Path.{_≡_, refl, ap}
+use mathlib.Core.Bool.{Bool, true, false, _&&_}
+use mathlib.Core.List.{List, [], _∷_}
+use Prim.Native.Nat.{ℕ, _<_}
+use lib.Dec.{T, eqb, eqb→eq}
+use lib.ListN.{length, getD}
+use Rattle.model.specs.Base.{Answer, refused, value, allOf}
+use Rattle.model.specs.Netlist.{counts, pathTotal}
+use Rattle.model.specs.Path.{pathOf, pathAt, split, faultNumber}
+use Rattle.model.specs.Detect.{inNetSet, detects, allOpen, hasEdge, openPin, values, detectsNumber}
+use Rattle.model.specs.Runs.{runsOf, runsFrom, addNumber, workingRuns, inRuns, size, howMany, howManyFrom, separatedRuns}
+use Rattle.model.specs.Read.{readNetlist, readGates, readOutputs, testOf}
+use Rattle.model.specs.Store.{storeRuns, storeOf}
+use Rattle.model.specs.Calls.{testCall, testStage, tested}
+use Rattle.model.specs.Report.{sameBytes, reportHead, reportRecord, testAll, auditCall}
+use Rattle.model.specs.Encode.{headerBytes, netBytes, gateBytes, outputBytes, testBytes}
+use Rattle.model.specs.Examples.{Row, row, starred, further, reply, faultIf, faultList, enoughWork, firstRuns, Q, detectsNone, detectsFalling, detectsRising, chain, doubling, spread, aRises, reportOfThree, netCounts}
+use Rattle.model.proofs.ListLaws.{allOf-at}
+use Rattle.model.proofs.BoolLaws.{and-left, and-right}
+use Rattle.model.proofs.AnswerLaws.{same→}
+
+same : Answer (List ℕ) → Answer (List ℕ) → Bool
+same (refused m) (refused n) = eqb m n
+same (refused m) (value ys) = false
+same (value xs) (refused n) = false
+same (value xs) (value ys) = sameBytes xs ys
+
+same-answer : (a b : Answer (List ℕ)) → T (same a b) → a ≡ b
+unfolding same
+same-answer (refused m) (refused n) t = ap refused (eqb→eq m n t)
+same-answer (refused m) (value ys) t = absurd t
+same-answer (value xs) (refused n) t = absurd t
+same-answer (value xs) (value ys) t = ap value (same→ xs ys t)
+
+right : Row → Bool
+right r = same (reply (r .netlist) (r .question)) (r .answer)
+
+all-right : T (allOf right starred && allOf right further)
+unfolding starred further right same row aRises spread doubling Q detectsNone detectsFalling detectsRising reportOfThree enoughWork firstRuns
+    outputBytes headerBytes chain gateBytes netBytes testBytes reply faultList faultIf
+    readNetlist readGates readOutputs counts pathTotal pathOf pathAt split detectsNumber detects allOpen hasEdge openPin values faultNumber
+    testOf workingRuns inNetSet runsOf runsFrom addNumber testCall testStage tested storeRuns separatedRuns inRuns howMany howManyFrom
+    auditCall testAll storeOf reportRecord reportHead size
+all-right = tt
+
+abbrev noRow : Row
+noRow = record { netlist = []; question = netCounts; answer = refused 10 }
+
+-- Every row of a table of right rows holds
+rows-hold : (table : List Row) → T (allOf right table)
+    → (i : ℕ) → i < length table → reply (getD table i noRow .netlist) (getD table i noRow .question) ≡ getD table i noRow .answer
+unfolding right
+rows-hold table t i h = same-answer _ _ (allOf-at right table noRow t i h)
+
+-- Document 01's table of starred examples holds for the definitions
+pub starred-hold : (i : ℕ) → i < length starred → reply (getD starred i noRow .netlist) (getD starred i noRow .question) ≡ getD starred i noRow .answer
+starred-hold = rows-hold starred (and-left (allOf right starred) (allOf right further) all-right)
+
+pub further-hold : (i : ℕ) → i < length further → reply (getD further i noRow .netlist) (getD further i noRow .question) ≡ getD further i noRow .answer
+further-hold = rows-hold further (and-right (allOf right starred) (allOf right further) all-right)

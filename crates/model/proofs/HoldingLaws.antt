@@ -1,0 +1,167 @@
+-- A store that holds exactly the numbers of a set, and one test on it.
+-- Assumes nothing.
+use mathlib.Core.Path.{_≡_, refl, ap, ap₂, sym, _∙_, subst}
+use mathlib.Core.Bool.{Bool, true, false, _&&_, _||_, not}
+use mathlib.Core.List.{List, [], _∷_, _++_}
+use Prim.Native.Nat.{ℕ, zero, suc, _+_, _≤_, _<_}
+use native.Mathlib.Omega.{arith}
+use lib.Dec.{T, leb, leb→le, le→leb}
+use lib.ListN.{length}
+use Rattle.model.specs.Base.{Answer, refused, value, _>>=_, _>>_, checks, Rule}
+use Rattle.model.specs.Netlist.{Netlist, pathTotal}
+use Rattle.model.specs.Path.{Edge, rising, falling}
+use Rattle.model.specs.Detect.{Test, detectsNumber}
+use Rattle.model.specs.Runs.{Run, runsOf, inRuns, howMany, workingRuns, size}
+use Rattle.model.specs.Read.{testRules, testOf}
+use Rattle.model.specs.Store.{ByEdge, byEdge, ofEdge, storeWords, maxRuns, emptyStore, storeRuns, runsByEdge, storeOf, bothEdges, storeRules}
+use Rattle.model.specs.Calls.{Tested, tested, testStage, stageRules, workRules, heldThen, newThen, runsThen}
+use Rattle.model.proofs.BoolLaws.{both, and-left, and-right}
+use Rattle.model.proofs.AnswerLaws.{AllPass, Passed, checks→, →checks, then-first, then-second, value-inj, pass-first, pass-second, pass-both}
+use Rattle.model.proofs.RunLaws.{runs-separated, runs-test, runs-same, howMany-same, runs-none, →separated, runs-size}
+use Rattle.model.proofs.StoreLaws.{runs-store, length-store, store-passes, empty-store}
+
+-- for each edge the numbers of a set
+abbrev pub Sets : Type 0
+Sets = Edge → ℕ → Bool
+
+abbrev pub runsFor : Netlist → Sets → ByEdge (List Run)
+runsFor N D = byEdge (λ e. runsOf (D e) (pathTotal N))
+
+pub record Holding (N : Netlist) (ws : List ℕ) (D : Sets) : Type 0 where
+  pub is : ws ≡ storeOf (runsFor N D)
+  pub fits : (e : Edge) → length (runsOf (D e) (pathTotal N)) ≤ maxRuns
+
+-- with a test's numbers too
+abbrev pub withTest : Netlist → Test → Sets → Sets
+withTest N t D e k = detectsNumber N t e k || D e k
+
+ofEdge-runsFor : (N : Netlist) (D : Sets) (e : Edge) → ofEdge (runsFor N D) e ≡ runsOf (D e) (pathTotal N)
+ofEdge-runsFor N D rising = refl
+ofEdge-runsFor N D falling = refl
+
+pub ofEdge-byEdge : {A : Type 0} (f : Edge → A) (e : Edge) → ofEdge (byEdge f) e ≡ f e
+ofEdge-byEdge f rising = refl
+ofEdge-byEdge f falling = refl
+
+pub holding-empty : (N : Netlist) → Holding N emptyStore (λ e k. false)
+holding-empty N = record {
+  is = empty-store ∙ ap {B = List ℕ} (λ (rs : List Run). storeOf (byEdge (λ e. rs))) (sym (runs-none (pathTotal N)));
+  fits = λ e. rw (runs-none (pathTotal N)) (omega arith);
+}
+
+pub holding-same : (N : Netlist) (ws : List ℕ) (D D′ : Sets) → ((e : Edge) (k : ℕ) → D e k ≡ D′ e k) → Holding N ws D → Holding N ws D′
+holding-same N ws D D′ h x = subst (λ (E : Sets). Holding N ws E) (λ i e k. h e k i) x
+
+module _ (N : Netlist) (ws : List ℕ) (D : Sets) (x : Holding N ws D) where
+  fits-ofEdge : (e : Edge) → length (ofEdge (runsFor N D) e) ≤ maxRuns
+  fits-ofEdge e = rw (ofEdge-runsFor N D e) (x .fits e)
+
+  pub holding-runs : (e : Edge) → storeRuns ws e ≡ runsOf (D e) (pathTotal N)
+  holding-runs e = ap (λ s. storeRuns s e) (x .is) ∙ runs-store (runsFor N D) fits-ofEdge e ∙ ofEdge-runsFor N D e
+
+  pub holding-length : length ws ≡ storeWords
+  holding-length = ap length (x .is) ∙ length-store (runsFor N D) fits-ofEdge
+
+  pub holding-passes : AllPass (storeRules (pathTotal N) ws)
+  holding-passes =
+      subst (λ s. AllPass (storeRules (pathTotal N) s)) (sym (x .is))
+      (store-passes (runsFor N D) fits-ofEdge (pathTotal N) (λ e. rw (ofEdge-runsFor N D e) (→separated (pathTotal N) 1 _ (runs-separated (D e) (pathTotal N)))))
+
+  pub holding-size : (e : Edge) → size (storeRuns ws e) ≡ howMany (D e) (pathTotal N)
+  holding-size e = ap size (holding-runs e) ∙ runs-size (D e) (pathTotal N)
+
+  -- a number in the set, by the store's runs
+  in-held : (e : Edge) (k : ℕ) → 1 ≤ k → k ≤ pathTotal N → inRuns (ofEdge (runsByEdge ws) e) k ≡ D e k
+  in-held e k l h = ap (λ rs. inRuns rs k) (ofEdge-byEdge (storeRuns ws) e ∙ holding-runs e) ∙ runs-test (D e) (pathTotal N) k l h
+
+  pub runs-then : (t : Test) (e : Edge) → runsThen N (runsByEdge ws) t e ≡ runsOf (withTest N t D e) (pathTotal N)
+  runs-then t e =
+      runs-same (heldThen N (runsByEdge ws) t e) (withTest N t D e) (pathTotal N) (λ k l h. ap (λ b. detectsNumber N t e k || b) (in-held e k l h))
+
+  pub held-then : (t : Test) (e : Edge) → howMany (heldThen N (runsByEdge ws) t e) (pathTotal N) ≡ howMany (withTest N t D e) (pathTotal N)
+  held-then t e =
+      howMany-same (heldThen N (runsByEdge ws) t e) (withTest N t D e) (pathTotal N) (λ k l h. ap (λ b. detectsNumber N t e k || b) (in-held e k l h))
+
+  pub new-then : (t : Test) (e : Edge)
+      → howMany (newThen N (runsByEdge ws) t e) (pathTotal N) ≡ howMany (λ k. detectsNumber N t e k && not (D e k)) (pathTotal N)
+  new-then t e =
+      howMany-same (newThen N (runsByEdge ws) t e) (λ k. detectsNumber N t e k && not (D e k)) (pathTotal N)
+      (λ k l h. ap (λ b. detectsNumber N t e k && not b) (in-held e k l h))
+
+pub at-edge : (f : Edge → Bool) → T (bothEdges f) → (e : Edge) → T (f e)
+at-edge f t rising = and-left (f rising) (f falling) t
+at-edge f t falling = and-right (f rising) (f falling) t
+
+pub at-both : (f : Edge → Bool) → ((e : Edge) → T (f e)) → T (bothEdges f)
+at-both f h = both (f rising) (f falling) (h rising) (h falling)
+
+-- The places Test, Store and Work: all rules pass, exactly when there is a result
+pub stage-passes : (N : Netlist) (rec ws : List ℕ) (r : Tested) → testStage N rec ws ≡ value r → AllPass (stageRules N rec ws)
+unfolding testStage
+stage-passes N rec ws r e =
+    checks→ (stageRules N rec ws) (then-first (checks (stageRules N rec ws)) (value (tested N (runsByEdge ws) (testOf N rec))) e)
+
+pub stage-result : (N : Netlist) (rec ws : List ℕ) (r : Tested) → testStage N rec ws ≡ value r → tested N (runsByEdge ws) (testOf N rec) ≡ r
+unfolding testStage
+stage-result N rec ws r e = value-inj (then-second (checks (stageRules N rec ws)) (value (tested N (runsByEdge ws) (testOf N rec))) e)
+
+pub stage-taken : (N : Netlist) (rec ws : List ℕ) → AllPass (stageRules N rec ws) → testStage N rec ws ≡ value (tested N (runsByEdge ws) (testOf N rec))
+unfolding testStage
+stage-taken N rec ws p = rw (→checks (stageRules N rec ws) p) refl
+
+module _ (N : Netlist) (rec ws : List ℕ) (D : Sets) (x : Holding N ws D) where
+  pub test-part : AllPass (stageRules N rec ws) → AllPass (testRules N rec)
+  test-part p = (p .0, (p .1 .0, (p .1 .1 .0, tt)))
+
+  work-part : AllPass (stageRules N rec ws) → AllPass (workRules N (runsByEdge ws) (testOf N rec))
+  work-part p = p .1 .1 .1 .1 .1 .1
+
+  -- the rules of Work, over the sets
+  pub work-few : AllPass (stageRules N rec ws) → (e : Edge) → workingRuns N (testOf N rec) e ≤ maxRuns
+  work-few p e =
+      leb→le _ _ (at-edge (λ d. leb (workingRuns N (testOf N rec) d) maxRuns)
+      (work-part p .0) e)
+
+  pub work-room : AllPass (stageRules N rec ws) → (e : Edge) → length (runsOf (withTest N (testOf N rec) D e) (pathTotal N)) ≤ maxRuns
+  work-room p e =
+      subst (λ rs. length rs ≤ maxRuns) (runs-then N ws D x (testOf N rec) e)
+      (leb→le _ _ (at-edge (λ d. leb (length (runsThen N (runsByEdge ws) (testOf N rec) d)) maxRuns)
+      (work-part p .1 .0) e))
+
+  pub stage-rules : AllPass (testRules N rec) → ((e : Edge) → workingRuns N (testOf N rec) e ≤ maxRuns)
+      → ((e : Edge) → length (runsOf (withTest N (testOf N rec) D e) (pathTotal N)) ≤ maxRuns) → AllPass (stageRules N rec ws)
+  stage-rules p f g =
+      pass-both (testRules N rec) (storeRules (pathTotal N) ws ++ workRules N (runsByEdge ws) (testOf N rec)) p
+      (pass-both (storeRules (pathTotal N) ws) (workRules N (runsByEdge ws) (testOf N rec)) (holding-passes N ws D x) (
+        at-both (λ d. leb (workingRuns N (testOf N rec) d) maxRuns) (λ e. le→leb _ _ (f e)),
+        (
+          at-both (λ d. leb (length (runsThen N (runsByEdge ws) (testOf N rec) d)) maxRuns)
+              (λ e. le→leb _ _ (subst (λ rs. length rs ≤ maxRuns) (sym (runs-then N ws D x (testOf N rec) e)) (g e))),
+          tt,
+        ),
+      ))
+
+  -- One test: the store then holds its numbers too
+  pub holding-next : (r : Tested) → testStage N rec ws ≡ value r → Holding N (storeOf (r .runs)) (withTest N (testOf N rec) D)
+  unfolding tested
+  holding-next r e = record {
+    is = ap (λ (q : Tested). storeOf (q .runs)) (sym (stage-result N rec ws r e))
+        ∙ ap storeOf (λ i. record { onRising = runs-then N ws D x (testOf N rec) rising i; onFalling = runs-then N ws D x (testOf N rec) falling i });
+    fits = work-room (stage-passes N rec ws r e);
+  }
+
+  pub returned-new : (r : Tested) → testStage N rec ws ≡ value r → (e : Edge)
+      → ofEdge (r .returned .newFaults) e ≡ howMany (λ k. detectsNumber N (testOf N rec) e k && not (D e k)) (pathTotal N)
+  unfolding tested
+  returned-new r q e =
+      ap (λ (y : Tested). ofEdge (y .returned .newFaults) e) (sym (stage-result N rec ws r q))
+      ∙ ofEdge-byEdge (λ d. howMany (newThen N (runsByEdge ws) (testOf N rec) d) (pathTotal N)) e
+      ∙ new-then N ws D x (testOf N rec) e
+
+  pub returned-held : (r : Tested) → testStage N rec ws ≡ value r → (e : Edge)
+      → ofEdge (r .returned .heldFaults) e ≡ howMany (withTest N (testOf N rec) D e) (pathTotal N)
+  unfolding tested
+  returned-held r q e =
+      ap (λ (y : Tested). ofEdge (y .returned .heldFaults) e) (sym (stage-result N rec ws r q))
+      ∙ ofEdge-byEdge (λ d. howMany (heldThen N (runsByEdge ws) (testOf N rec) d) (pathTotal N)) e
+      ∙ held-then N ws D x (testOf N rec) e

@@ -1,0 +1,42 @@
+-- Lists: tests of all their elements, elements by place, and consecutive numbers.
+-- Assumes nothing.
+use mathlib.Core.Path.{_≡_, refl, ap}
+use mathlib.Core.Bool.{Bool, true, _&&_}
+use mathlib.Core.List.{List, [], _∷_, _++_, map}
+use Prim.Native.Nat.{ℕ, zero, suc, _+_, _<_}
+use native.Mathlib.Nat.{le-of-suc-le-suc, not-suc-le-zero}
+use native.Mathlib.Omega.{arith}
+use lib.Dec.{T}
+use lib.ListN.{length, getD}
+use Rattle.model.specs.Base.{allOf, numbersFrom}
+use Rattle.model.proofs.BoolLaws.{and-left, and-right, both}
+
+module _ {A : Type 0} (P : A → Bool) (x : A) (xs : List A) where
+  pub allOf-head : T (allOf P (x ∷ xs)) → T (P x)
+  allOf-head t = and-left (P x) (allOf P xs) t
+
+  pub allOf-tail : T (allOf P (x ∷ xs)) → T (allOf P xs)
+  allOf-tail t = and-right (P x) (allOf P xs) t
+
+pub getD-map-in : {A B : Type 0} (f : A → B) (xs : List A) (p : ℕ) (d : A) (e : B) → p < length xs → getD (map f xs) p e ≡ f (getD xs p d)
+getD-map-in f [] p d e h = absurd (not-suc-le-zero h)
+getD-map-in f (x ∷ xs) zero d e h = refl
+getD-map-in f (x ∷ xs) (suc p) d e h = getD-map-in f xs p d e (le-of-suc-le-suc h)
+
+pub allOf-at : {A : Type 0} (P : A → Bool) (xs : List A) (d : A) → T (allOf P xs) → (p : ℕ) → p < length xs → T (P (getD xs p d))
+allOf-at P [] d t p h = absurd (not-suc-le-zero h)
+allOf-at P (x ∷ xs) d t zero h = allOf-head P x xs t
+allOf-at P (x ∷ xs) d t (suc p) h = allOf-at P xs d (allOf-tail P x xs t) p (le-of-suc-le-suc h)
+
+pub allOf-append : {A : Type 0} (P : A → Bool) (xs : List A) (y : A) → T (allOf P xs) → T (P y) → T (allOf P (xs ++ (y ∷ [])))
+allOf-append P [] y t u = both (P y) true u tt
+allOf-append P (x ∷ xs) y t u = both (P x) (allOf P (xs ++ (y ∷ []))) (allOf-head P x xs t) (allOf-append P xs y (allOf-tail P x xs t) u)
+
+pub length-numbersFrom : (k n : ℕ) → length (numbersFrom k n) ≡ n
+length-numbersFrom k zero = refl
+length-numbersFrom k (suc n) = ap suc (length-numbersFrom (suc k) n)
+
+pub numbersFrom-at : (n k i : ℕ) → i < n → getD (numbersFrom k n) i 0 ≡ k + i
+numbersFrom-at zero k i h = absurd (not-suc-le-zero h)
+numbersFrom-at (suc n) k zero h = omega arith
+numbersFrom-at (suc n) k (suc i) h = omega (arith, numbersFrom-at n (suc k) i (le-of-suc-le-suc h))

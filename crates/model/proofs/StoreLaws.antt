@@ -1,0 +1,161 @@
+-- A store's words and the runs that they hold.
+-- Assumes nothing.
+use mathlib.Core.Path.{_≡_, refl, ap, ap₂, sym, _∙_, subst}
+use mathlib.Core.Bool.{Bool, true, false, _&&_}
+use mathlib.Core.List.{List, [], _∷_, _++_, append-assoc, append-nil}
+use Prim.Native.Nat.{ℕ, zero, suc, _+_, _-_, _*_, _≤_, _<_}
+use native.Mathlib.Omega.{arith}
+use lib.Dec.{T, ltb, leb, eqb, le→leb, leb→le, eqb-refl, eqb→eq}
+use lib.ListN.{length, getD, take, drop, replicate, length-append, length-replicate, length-drop, take-append-drop}
+use lib.Seq.{getD-append-seam, getD-at, take-at, drop-at, drop-cons, length-take-le, take-add, drop-drop, take-all}
+use Rattle.model.specs.Base.{allOf, Rule}
+use Rattle.model.specs.Path.{Edge, rising, falling}
+use Rattle.model.specs.Runs.{Run, separatedRuns}
+use Rattle.model.specs.Store.{ByEdge, byEdge, ofEdge, storeWords, maxRuns, emptyStore, runsAt, runCount, storeRuns, runsByEdge, lowsHighs, places, storeOf, wordsAfter, bothEdges, storeRules, firstWord}
+use Rattle.model.proofs.ListLaws.{allOf-head, allOf-tail}
+use Rattle.model.proofs.BoolLaws.{both, and-left, and-right}
+use Rattle.model.proofs.AnswerLaws.{AllPass}
+
+length-lowsHighs : (rs : List Run) → length (lowsHighs rs) ≡ 2 * length rs
+length-lowsHighs [] = refl
+length-lowsHighs (r ∷ rs) = omega (arith, length-lowsHighs rs)
+
+pub length-places : (rs : List Run) → length rs ≤ maxRuns → length (places rs) ≡ 2048
+length-places rs h = simp (length-append, length-lowsHighs, length-replicate) (omega arith)
+
+-- runs read where they were written
+runsAt-written : (rs : List Run) (pre post : List ℕ) (n : ℕ) → length pre ≡ n → runsAt (pre ++ (lowsHighs rs ++ post)) n (length rs) ≡ rs
+runsAt-written [] pre post n h = refl
+runsAt-written (r ∷ rs) pre post n h =
+    let ws : List ℕ = pre ++ (r .low ∷ r .high ∷ (lowsHighs rs ++ post)) in
+    let pre′ : List ℕ = pre ++ (r .low ∷ r .high ∷ []) in
+    let e : pre′ ++ (lowsHighs rs ++ post) ≡ ws = append-assoc pre (r .low ∷ r .high ∷ []) (lowsHighs rs ++ post) in
+    let f : (pre ++ (r .low ∷ [])) ++ (r .high ∷ (lowsHighs rs ++ post)) ≡ ws = append-assoc pre (r .low ∷ []) (r .high ∷ (lowsHighs rs ++ post)) in
+    let l : getD ws n 0 ≡ r .low = getD-at pre (r .low) _ 0 n h in
+    let g : getD ws (suc n) 0 ≡ r .high = ap (λ x. getD x (suc n) 0) (sym f) ∙ getD-at (pre ++ (r .low ∷ [])) (r .high) _ 0 (suc n) (simp length-append (omega arith)) in
+    let q : runsAt ws (suc (suc n)) (length rs) ≡ rs =
+    ap (λ x. runsAt x (suc (suc n)) (length rs)) (sym e) ∙ runsAt-written rs pre′ post (suc (suc n)) (simp length-append (omega arith)) in
+    ap₂ {C = List Run} (λ x xs. x ∷ xs) (λ i. record { low = l i; high = g i }) q
+
+-- the words after the runs are zero
+after-written : (rs : List Run) (pre post : List ℕ) (n : ℕ) → length pre ≡ n
+    → take (2 * maxRuns - 2 * length rs) (drop (n + 2 * length rs) (pre ++ (places rs ++ post))) ≡ replicate (2 * maxRuns - 2 * length rs) 0
+after-written rs pre post n h =
+    let zs : List ℕ = replicate (2 * maxRuns - 2 * length rs) 0 in
+    let e : (pre ++ lowsHighs rs) ++ (zs ++ post) ≡ pre ++ (places rs ++ post) =
+    append-assoc pre (lowsHighs rs) (zs ++ post) ∙ ap (λ x. pre ++ x) (sym (append-assoc (lowsHighs rs) zs post)) in
+    ap (λ x. take (2 * maxRuns - 2 * length rs) (drop (n + 2 * length rs) x)) (sym e)
+    ∙ ap (take (2 * maxRuns - 2 * length rs)) (drop-at (pre ++ lowsHighs rs) (zs ++ post) (n + 2 * length rs) (simp (length-append, length-lowsHighs) (omega arith)))
+    ∙ take-at zs post (2 * maxRuns - 2 * length rs) (length-replicate {A = ℕ} (2 * maxRuns - 2 * length rs) 0)
+
+all-zero : (n : ℕ) → T (allOf (λ w. eqb w 0) (replicate n 0))
+all-zero zero = tt
+all-zero (suc n) = all-zero n
+
+module _ (s : ByEdge (List Run)) (fits : (e : Edge) → length (ofEdge s e) ≤ maxRuns) where
+  -- the words up to an edge's places, and after them
+  countsBefore : Edge → List ℕ
+  countsBefore rising = length (s .onRising) ∷ length (s .onFalling) ∷ []
+  countsBefore falling = length (s .onRising) ∷ length (s .onFalling) ∷ places (s .onRising)
+
+  behind : Edge → List ℕ
+  behind rising = places (s .onFalling)
+  behind falling = []
+
+  length-before : (e : Edge) → length (countsBefore e) ≡ firstWord e
+  unfolding countsBefore
+  length-before rising = refl
+  length-before falling = omega (arith, length-places (s .onRising) (fits rising))
+
+  parts : (e : Edge) → storeOf s ≡ countsBefore e ++ (places (ofEdge s e) ++ behind e)
+  unfolding storeOf countsBefore behind
+  parts rising = refl
+  parts falling = ap (λ (x : List ℕ). length (s .onRising) ∷ length (s .onFalling) ∷ (places (s .onRising) ++ x)) (sym (append-nil (places (s .onFalling))))
+
+  pub runCount-store : (e : Edge) → runCount (storeOf s) e ≡ length (ofEdge s e)
+  unfolding storeOf
+  runCount-store rising = refl
+  runCount-store falling = refl
+
+  -- A store holds the runs that it was made of
+  pub runs-store : (e : Edge) → storeRuns (storeOf s) e ≡ ofEdge s e
+  unfolding storeRuns
+  runs-store e =
+      ap (runsAt (storeOf s) (firstWord e)) (runCount-store e)
+      ∙ ap (λ x. runsAt x (firstWord e) (length (ofEdge s e))) (parts e ∙ ap (λ x. countsBefore e ++ x) (append-assoc (lowsHighs (ofEdge s e)) _ (behind e)))
+      ∙ runsAt-written (ofEdge s e) (countsBefore e) _ (firstWord e) (length-before e)
+
+  after-store : (e : Edge) → wordsAfter (storeOf s) e ≡ replicate (2 * maxRuns - 2 * length (ofEdge s e)) 0
+  after-store e =
+      ap (λ n. take (2 * maxRuns - 2 * n) (drop (firstWord e + 2 * n) (storeOf s))) (runCount-store e)
+      ∙ ap (λ x. take (2 * maxRuns - 2 * length (ofEdge s e)) (drop (firstWord e + 2 * length (ofEdge s e)) x)) (parts e)
+      ∙ after-written (ofEdge s e) (countsBefore e) (behind e) (firstWord e) (length-before e)
+
+  pub length-store : length (storeOf s) ≡ storeWords
+  unfolding storeOf
+  length-store = omega (arith, length-append (places (s .onRising)) (places (s .onFalling)), length-places (s .onRising) (fits rising), length-places (s .onFalling) (fits falling))
+
+  -- and passes the checks
+  pub store-passes : (n : ℕ) → ((e : Edge) → T (separatedRuns n 1 (ofEdge s e))) → AllPass (storeRules n (storeOf s))
+  store-passes n a = (
+    at-both (λ e. leb (runCount (storeOf s) e) maxRuns) (λ e. le→leb (runCount (storeOf s) e) maxRuns (rw (runCount-store e) (fits e))),
+    (
+      at-both (λ e. separatedRuns n 1 (storeRuns (storeOf s) e)) (λ e. rw (runs-store e) (a e)),
+      (at-both (λ e. allOf (λ w. eqb w 0) (wordsAfter (storeOf s) e)) (λ e. rw (after-store e) (all-zero (2 * maxRuns - 2 * length (ofEdge s e)))), tt),
+    ),
+  )
+    where
+      at-both : (f : Edge → Bool) → ((e : Edge) → T (f e)) → T (bothEdges f)
+      at-both f h = both (f rising) (f falling) (h rising) (h falling)
+
+pub empty-store : emptyStore ≡ storeOf (byEdge (λ e. []))
+unfolding storeOf
+empty-store = refl
+
+-- The words of a sound store are those of the runs that it holds
+lowsHighs-read : (n : ℕ) (ws : List ℕ) (at : ℕ) → at + 2 * n ≤ length ws → lowsHighs (runsAt ws at n) ≡ take (2 * n) (drop at ws)
+lowsHighs-read zero ws at h = refl
+lowsHighs-read (suc n) ws at h =
+    let e : 2 * suc n ≡ suc (suc (2 * n)) = omega arith in
+    let a : drop at ws ≡ getD ws at 0 ∷ (getD ws (suc at) 0 ∷ drop (suc (suc at)) ws) =
+    drop-cons ws at 0 (omega arith) ∙ ap (λ x. getD ws at 0 ∷ x) (drop-cons ws (suc at) 0 (omega arith)) in
+    let ih = lowsHighs-read n ws (suc (suc at)) (omega arith) in
+    ap (λ x. getD ws at 0 ∷ (getD ws (suc at) 0 ∷ x)) ih ∙ rw (e, a) refl
+
+zeros : (xs : List ℕ) → T (allOf (λ x. eqb x 0) xs) → xs ≡ replicate (length xs) 0
+zeros [] t = refl
+zeros (x ∷ xs) t = ap₂ (λ a r. a ∷ r) (eqb→eq x 0 (allOf-head (λ x. eqb x 0) x xs t)) (zeros xs (allOf-tail (λ x. eqb x 0) x xs t))
+
+-- an edge's 2,048 words
+places-read : (ws : List ℕ) (at n : ℕ) → n ≤ maxRuns → at + 2048 ≤ length ws
+    → T (allOf (λ w. eqb w 0) (take (2 * maxRuns - 2 * n) (drop (at + 2 * n) ws)))
+    → length (runsAt ws at n) ≡ n → places (runsAt ws at n) ≡ take 2048 (drop at ws)
+places-read ws at n h l z q =
+    let m = 2 * maxRuns - 2 * n in
+    let k : length (take m (drop (at + 2 * n) ws)) ≡ m = length-take-le m (drop (at + 2 * n) ws) (simp length-drop (omega arith)) in
+    let b : take m (drop (at + 2 * n) ws) ≡ replicate m 0 = zeros _ z ∙ ap (λ j. replicate j 0) k in
+    let c : 2 * n + m ≡ 2048 = omega arith in
+    ap₂ (λ x y. x ++ y) (lowsHighs-read n ws at (omega arith)) (ap (λ j. replicate (2 * maxRuns - 2 * j) 0) q ∙ sym b ∙ ap (take m) (sym (drop-drop (2 * n) at ws)))
+    ∙ sym (take-add (2 * n) m (drop at ws)) ∙ rw c refl
+
+length-runsAt : (n : ℕ) (ws : List ℕ) (at : ℕ) → length (runsAt ws at n) ≡ n
+length-runsAt zero ws at = refl
+length-runsAt (suc n) ws at = ap suc (length-runsAt n ws (suc (suc at)))
+
+pub store-runs : (n : ℕ) (ws : List ℕ) → length ws ≡ storeWords → AllPass (storeRules n ws) → storeOf (runsByEdge ws) ≡ ws
+unfolding storeOf storeRuns
+store-runs n [] l p = absurd (omega arith)
+store-runs n (x ∷ []) l p = absurd (omega arith)
+store-runs n (x ∷ y ∷ zs) l p =
+    let ws : List ℕ = x ∷ y ∷ zs in
+    let a : x ≤ maxRuns = leb→le x maxRuns (and-left (leb x maxRuns) (leb y maxRuns) (p .0)) in
+    let b : y ≤ maxRuns = leb→le y maxRuns (and-right (leb x maxRuns) (leb y maxRuns) (p .0)) in
+    let zero? : ℕ → Bool = λ w. eqb w 0 in
+    let z = p .1 .1 .0 in
+    let r : places (runsAt ws 2 x) ≡ take 2048 zs =
+    places-read ws 2 x a (omega arith) (and-left (allOf zero? (wordsAfter ws rising)) (allOf zero? (wordsAfter ws falling)) z) (length-runsAt x ws 2) in
+    let f : places (runsAt ws 2050 y) ≡ take 2048 (drop 2048 zs) =
+    places-read ws 2050 y b (omega arith) (and-right (allOf zero? (wordsAfter ws rising)) (allOf zero? (wordsAfter ws falling)) z) (length-runsAt y ws 2050) in
+    ap₂ {C = List ℕ} (λ j k. j ∷ k ∷ (places (runsAt ws 2 x) ++ places (runsAt ws 2050 y))) (length-runsAt x ws 2) (length-runsAt y ws 2050)
+    ∙ ap (λ k. x ∷ y ∷ k)
+    (ap₂ (λ u v. u ++ v) r (f ∙ take-all 2048 (drop 2048 zs) (omega (arith, length-drop 2048 zs))) ∙ take-append-drop 2048 zs)

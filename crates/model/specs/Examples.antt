@@ -1,0 +1,124 @@
+-- Document 01's examples as questions with their answers: `starred` is its table of those marked *, `further` one list of test calls and its
+-- audit. proofs/ExamplesHold.antt has the theorem over both.
+-- Assumes nothing.
+use mathlib.Core.Bool.{Bool, true, false}
+use mathlib.Core.List.{List, [], _∷_, _++_}
+use Prim.Native.Nat.{ℕ, zero, suc, _+_, _^_}
+use lib.ListN.{length, replicate, take, drop}
+use Rattle.model.specs.Base.{Answer, refused, value, _>>=_, _>>_, checks, numbersFrom, littleEndian}
+use Rattle.model.specs.Netlist.{Netlist, counts, pathTotal}
+use Rattle.model.specs.Path.{Edge, rising, falling, pathOf, faultNumber}
+use Rattle.model.specs.Detect.{Test, detectsNumber}
+use Rattle.model.specs.Runs.{workingRuns}
+use Rattle.model.specs.Read.{readNetlist, testRules, testOf}
+use Rattle.model.specs.Store.{emptyStore, firstWord}
+use Rattle.model.specs.Calls.{testCall, wordsOf, workWords}
+use Rattle.model.specs.Report.{auditCall}
+use Rattle.model.specs.Encode.{headerBytes, gateBytes, outputBytes, testBytes}
+
+-- Questions about a netlist file
+pub data Question : Type 0 where
+  netCounts : Question
+  paths : Question
+  pathNumber : ℕ → Question
+  faultsOf : List ℕ → Question
+  risingWork : List ℕ → Question
+  newRising : List ℕ → Question
+  audited : List ℕ → List ℕ → Question
+
+unfoldable pub faultIf : Netlist → Test → Edge → ℕ → List ℕ
+faultIf N t e i = elim (detectsNumber N t e i) [ true ↦ faultNumber e i ∷ [] | false ↦ [] ]
+
+-- the numbers of the detected faults of the paths `is`
+unfoldable pub faultList : Netlist → Test → List ℕ → List ℕ
+faultList N t [] = []
+faultList N t (i ∷ is) = faultIf N t rising i ++ faultIf N t falling i ++ faultList N t is
+
+-- working memory long enough
+unfoldable pub enoughWork : List ℕ
+enoughWork = replicate workWords 0
+
+-- a store's numbers of runs, and the first run of each edge
+unfoldable pub firstRuns : List ℕ → List ℕ
+firstRuns ws = take 4 ws ++ take 2 (drop (firstWord falling) ws)
+
+unfoldable pub reply : List ℕ → Question → Answer (List ℕ)
+reply netlist netCounts = readNetlist netlist >>= λ N. value (counts N)
+reply netlist paths = readNetlist netlist >>= λ N. value (pathTotal N ∷ [])
+reply netlist (pathNumber k) = readNetlist netlist >>= λ N. value (wordsOf (pathOf N k))
+reply netlist (faultsOf rec) = readNetlist netlist >>= λ N. checks (testRules N rec) >> value (faultList N (testOf N rec) (numbersFrom 1 (pathTotal N)))
+reply netlist (risingWork rec) = readNetlist netlist >>= λ N. checks (testRules N rec) >> value (workingRuns N (testOf N rec) rising ∷ [])
+reply netlist (newRising rec) = testCall netlist rec emptyStore enoughWork >>= λ r. value (r .returned .newFaults .onRising ∷ [])
+reply netlist (audited testFile report) = auditCall netlist testFile report emptyStore enoughWork >>= λ left. value (firstRuns left)
+
+-- document 01's Q: net 2 AND of 0, 1; net 3 OR of 2, 1
+unfoldable pub Q : List ℕ
+Q = 0x4E ∷ 0x4C ∷ 0x02 ∷ 0x00 ∷ 0x02 ∷ 0x00 ∷ 0x01 ∷ 0x00
+    ∷ 0x47 ∷ 0x54 ∷ 0x03 ∷ 0x02 ∷ 0x00 ∷ 0x00 ∷ 0x01 ∷ 0x00
+    ∷ 0x47 ∷ 0x54 ∷ 0x05 ∷ 0x02 ∷ 0x02 ∷ 0x00 ∷ 0x01 ∷ 0x00
+    ∷ 0x4F ∷ 0x55 ∷ 0x03 ∷ 0x00 ∷ []
+
+-- its three tests: the first detects none, the second faults 4 and 6, the third fault 5
+unfoldable pub detectsNone : List ℕ
+detectsNone = 0x54 ∷ 0x50 ∷ 0x02 ∷ 0x03 ∷ []
+
+unfoldable pub detectsFalling : List ℕ
+detectsFalling = 0x54 ∷ 0x50 ∷ 0x03 ∷ 0x01 ∷ []
+
+unfoldable pub detectsRising : List ℕ
+detectsRising = 0x54 ∷ 0x50 ∷ 0x00 ∷ 0x02 ∷ []
+
+-- `n` gates of `pins` pins, each fed by the net before; the first is fed by `net`
+unfoldable pub chain : ℕ → ℕ → ℕ → ℕ → List ℕ
+chain kind pins net zero = []
+chain kind pins net (suc n) = gateBytes kind (replicate pins net) ++ chain kind pins (suc net) n
+
+-- one input and `n` gates AND(n, n), each fed by the net before, last as output
+unfoldable pub doubling : ℕ → List ℕ
+doubling n = headerBytes 1 n 1 ++ chain 3 2 0 n ++ outputBytes n
+
+-- inputs a, b; XOR(a,b,a,b,a,b,a,b), then `n` gates XOR of eight pins from the net before
+unfoldable pub spread : ℕ → List ℕ
+spread n = headerBytes 2 (suc n) 1 ++ gateBytes 7 (0 ∷ 1 ∷ 0 ∷ 1 ∷ 0 ∷ 1 ∷ 0 ∷ 1 ∷ []) ++ chain 7 8 2 n ++ outputBytes (2 + n)
+
+-- a rises, b steady
+unfoldable pub aRises : List ℕ
+aRises = testBytes (0 ∷ []) (1 ∷ [])
+
+-- the report of Q's three tests: T = 3; rising run 3 to 3, one fault; falling run 2 to 3, two faults
+unfoldable pub reportOfThree : ℕ → List ℕ
+reportOfThree testCount =
+    0x52 ∷ 0x50 ∷ littleEndian 4 testCount ++ littleEndian 8 3 ++ littleEndian 2 1 ++ littleEndian 2 1 ++ littleEndian 8 1 ++ littleEndian 8 2
+    ++ littleEndian 8 3 ++ littleEndian 8 3 ++ littleEndian 8 2 ++ littleEndian 8 3
+
+pub record Row : Type 0 where
+  pub netlist : List ℕ
+  pub question : Question
+  pub answer : Answer (List ℕ)
+
+unfoldable pub row : List ℕ → Question → Answer (List ℕ) → Row
+row f q a = record { netlist = f; question = q; answer = a }
+
+unfoldable pub starred : List Row
+starred =
+    row Q netCounts (value (1 ∷ 1 ∷ 2 ∷ 3 ∷ []))
+    ∷ row Q paths (value (3 ∷ []))
+    ∷ row Q (pathNumber 2) (value (0 ∷ 2 ∷ 0 ∷ 1 ∷ []))
+    ∷ row Q (pathNumber 3) (value (0 ∷ 1 ∷ 1 ∷ []))
+    ∷ row Q (faultsOf detectsNone) (value [])
+    ∷ row Q (faultsOf detectsFalling) (value (4 ∷ 6 ∷ []))
+    ∷ row Q (faultsOf detectsRising) (value (5 ∷ []))
+    ∷ row (doubling 62) paths (value (2 ^ 62 ∷ []))
+    ∷ row (doubling 63) paths (refused 17)
+    ∷ row (headerBytes 1 0 1 ++ outputBytes 0) paths (value (1 ∷ []))
+    ∷ row (spread 2) (risingWork aRises) (value (293 ∷ []))
+    ∷ row (spread 3) (risingWork aRises) (value (2341 ∷ []))
+    ∷ row (spread 3) (newRising aRises) (refused 50)
+    ∷ []
+
+-- The three tests as a file: the true report is accepted and leaves one run of each edge; with another number of tests it is refused 72
+unfoldable pub further : List Row
+further =
+    row Q (audited (detectsNone ++ detectsFalling ++ detectsRising) (reportOfThree 3)) (value (1 ∷ 1 ∷ 3 ∷ 3 ∷ 2 ∷ 3 ∷ []))
+    ∷ row Q (audited (detectsNone ++ detectsFalling ++ detectsRising) (reportOfThree 4)) (refused 72)
+    ∷ []
