@@ -1,11 +1,9 @@
 -- An answer that is a value: each step before it passed.
 -- Assumes nothing.
-use mathlib.Core.Path.{_≡_, refl, ap, ap₂, sym, _∙_, subst}
-use mathlib.Core.Bool.{Bool, true, false, _&&_}
+use mathlib.Core.Path.{_≡_, refl, ap, ap₂, _∙_}
+use mathlib.Core.Bool.{Bool, true, false}
 use mathlib.Core.List.{List, [], _∷_, _++_}
-use Prim.Native.Nat.{ℕ, zero, suc, _<_}
-use native.Mathlib.Nat.{le-of-suc-le-suc, not-suc-le-zero}
-use lib.ListN.{length, getD}
+use Prim.Native.Nat.{ℕ}
 use native.Mathlib.Omega.{arith}
 use lib.Dec.{T, eqb, eqb→eq, eqb-refl}
 use Rattle.model.specs.Base.{Answer, refused, value, _>>=_, _>>_, check, Rule, checks}
@@ -75,6 +73,15 @@ pass-second (x ∷ xs) ys p = pass-second xs ys (p .1)
 pub pass-both : (xs ys : List Rule) → AllPass xs → AllPass ys → AllPass (xs ++ ys)
 pass-both [] ys p q = q
 pass-both (x ∷ xs) ys p q = (p .0, pass-both xs ys (p .1) q)
+
+-- rules after rules
+pub checks-both : (xs ys : List Rule) → checks (xs ++ ys) ≡ (checks xs >> checks ys)
+checks-both [] ys = refl
+checks-both (x ∷ xs) ys = ap (λ (a : Answer (Unit {0})). check (x .0) (x .1) >> a) (checks-both xs ys) ∙ go (check (x .0) (x .1))
+  where
+    go : (a : Answer (Unit {0})) → (a >> (checks xs >> checks ys)) ≡ (a >> checks xs >> checks ys)
+    go (refused n) = refl
+    go (value u) = refl
 
 -- Bytes that are the same
 pub same-refl : (xs : List ℕ) → T (sameBytes xs xs)

@@ -1,13 +1,13 @@
 -- The call for one fault: fault numbers are 2i - 1 and 2i, and the answer is the store's runs at the path's number.
 -- Assumes nothing.
-use mathlib.Core.Path.{_≡_, refl, ap, ap₂, _∙_}
-use mathlib.Core.Bool.{Bool, true, false, _&&_}
+use mathlib.Core.Path.{_≡_, refl, ap₂}
+use mathlib.Core.Bool.{true}
 use mathlib.Core.List.{List, [], _∷_, _++_}
-use Prim.Native.Nat.{ℕ, suc, _+_, _*_, _/_, _%_, _-_, _≤_}
+use Prim.Native.Nat.{ℕ, _*_, _%_, _-_, _≤_}
 use native.Mathlib.Omega.{arith}
 use lib.Dec.{T, eqb, leb, le→leb}
 use lib.ListN.{length}
-use Rattle.model.specs.Base.{Answer, refused, value, _>>_, _>>=_, checks, Rule}
+use Rattle.model.specs.Base.{value, checks, Rule}
 use Rattle.model.specs.Netlist.{Netlist, pathTotal}
 use Rattle.model.specs.Path.{Edge, rising, falling, faultNumber, edgeOfFault, pathOfFault}
 use Rattle.model.specs.Runs.{inRuns}

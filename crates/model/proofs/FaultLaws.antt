@@ -1,17 +1,17 @@
 -- The number of distinct faults: as many as the numbers 1 to T of their paths that pass a test.
 -- Assumes nothing.
 use mathlib.Core.Path.{_≡_, refl, ap, ap₂, sym, _∙_, subst}
-use mathlib.Core.Logic.{_↔_, _⊎_, inl, inr, ⊎-elim, ∥∥₁-elim}
+use mathlib.Core.Logic.{_↔_, ⊎-elim, ∥∥₁-elim}
 use mathlib.Core.HLevel.{⊥-prop}
 use mathlib.Core.Bool.{Bool, true, false, _&&_, _||_, not}
 use mathlib.Core.List.{List, [], _∷_, List·Memᴰ, List·Memᴰ·head, List·Memᴰ·tail, List·Memᴰ·cases-cons, List·Memᴰ·not-nil, Memᴰ·cast, List·Nodup, nodup-nil, nodup-cons}
-use Prim.Native.Nat.{ℕ, zero, suc, _+_, _-_, _≤_, _<_}
+use Prim.Native.Nat.{ℕ, zero, suc, _+_, _≤_, _<_}
 use native.Mathlib.Omega.{arith}
 use lib.Dec.{T, T-not, not-T}
 use lib.ListN.{length}
 use Rattle.model.specs.Base.{anyOf}
 use Rattle.model.specs.Netlist.{Netlist, pathTotal}
-use Rattle.model.specs.Path.{CircuitPath, Edge, Fault, valid, numberOf, pathOf}
+use Rattle.model.specs.Path.{Edge, Fault, valid, numberOf, pathOf}
 use Rattle.model.specs.Detect.{Test, detects, detectsNumber}
 use Rattle.model.specs.Runs.{howManyFrom, howMany, runsOf, inRuns}
 use Rattle.model.specs.Demand3.{CountOf, Detected, DetectedNumber, RunsOfDetected, detectedBy}

@@ -1,24 +1,24 @@
 -- A store that holds exactly the numbers of a set, and one test on it.
 -- Assumes nothing.
-use mathlib.Core.Path.{_≡_, refl, ap, ap₂, sym, _∙_, subst}
-use mathlib.Core.Bool.{Bool, true, false, _&&_, _||_, not}
-use mathlib.Core.List.{List, [], _∷_, _++_}
-use Prim.Native.Nat.{ℕ, zero, suc, _+_, _≤_, _<_}
+use mathlib.Core.Path.{_≡_, refl, ap, sym, _∙_, subst}
+use mathlib.Core.Bool.{Bool, false, _&&_, _||_, not}
+use mathlib.Core.List.{List, _++_}
+use Prim.Native.Nat.{ℕ, _≤_}
 use native.Mathlib.Omega.{arith}
 use lib.Dec.{T, leb, leb→le, le→leb}
 use lib.ListN.{length}
-use Rattle.model.specs.Base.{Answer, refused, value, _>>=_, _>>_, checks, Rule}
+use Rattle.model.specs.Base.{value, checks}
 use Rattle.model.specs.Netlist.{Netlist, pathTotal}
 use Rattle.model.specs.Path.{Edge, rising, falling}
 use Rattle.model.specs.Detect.{Test, detectsNumber}
-use Rattle.model.specs.Runs.{Run, runsOf, inRuns, howMany, workingRuns, size}
+use Rattle.model.specs.Runs.{Run, runsOf, inRuns, howMany, workingRuns, size, separatedRuns}
 use Rattle.model.specs.Read.{testRules, testOf}
-use Rattle.model.specs.Store.{ByEdge, byEdge, ofEdge, storeWords, maxRuns, emptyStore, storeRuns, runsByEdge, storeOf, bothEdges, storeRules}
+use Rattle.model.specs.Store.{ByEdge, byEdge, ofEdge, storeWords, maxRuns, emptyStore, storeRuns, runsByEdge, storeOf, bothEdges, storeRules, runCount, firstWord}
 use Rattle.model.specs.Calls.{Tested, tested, testStage, stageRules, workRules, heldThen, newThen, runsThen}
 use Rattle.model.proofs.BoolLaws.{both, and-left, and-right}
-use Rattle.model.proofs.AnswerLaws.{AllPass, Passed, checks→, →checks, then-first, then-second, value-inj, pass-first, pass-second, pass-both}
-use Rattle.model.proofs.RunLaws.{runs-separated, runs-test, runs-same, howMany-same, runs-none, →separated, runs-size}
-use Rattle.model.proofs.StoreLaws.{runs-store, length-store, store-passes, empty-store}
+use Rattle.model.proofs.AnswerLaws.{AllPass, checks→, →checks, then-first, then-second, value-inj, pass-both}
+use Rattle.model.proofs.RunLaws.{runs-separated, runs-test, runs-same, howMany-same, runs-none, separated→, →separated, runs-size, runs-of-runs}
+use Rattle.model.proofs.StoreLaws.{runs-store, length-store, length-runsAt, store-passes, store-runs, empty-store}
 
 -- for each edge the numbers of a set
 abbrev pub Sets : Type 0
@@ -165,3 +165,28 @@ module _ (N : Netlist) (rec ws : List ℕ) (D : Sets) (x : Holding N ws D) where
       ap (λ (y : Tested). ofEdge (y .returned .heldFaults) e) (sym (stage-result N rec ws r q))
       ∙ ofEdge-byEdge (λ d. howMany (heldThen N (runsByEdge ws) (testOf N rec) d) (pathTotal N)) e
       ∙ held-then N ws D x (testOf N rec) e
+
+-- A store of its length that passes the rules holds exactly the numbers in its runs
+module _ (N : Netlist) (ws : List ℕ) (l : length ws ≡ storeWords) (p : AllPass (storeRules (pathTotal N) ws)) where
+  own-runs : (e : Edge) → runsOf (inRuns (storeRuns ws e)) (pathTotal N) ≡ storeRuns ws e
+  own-runs e =
+      runs-of-runs (pathTotal N) (storeRuns ws e)
+      (separated→ (pathTotal N) 1 (storeRuns ws e) (at-edge (λ d. separatedRuns (pathTotal N) 1 (storeRuns ws d)) (p .1 .0) e))
+
+  few-held : (e : Edge) → length (storeRuns ws e) ≤ maxRuns
+  unfolding storeRuns
+  few-held e = rw (length-runsAt (runCount ws e) ws (firstWord e)) (leb→le _ _ (at-edge (λ d. leb (runCount ws d) maxRuns) (p .0) e))
+
+  pub holding-own : Holding N ws (λ e. inRuns (storeRuns ws e))
+  holding-own = record {
+    is = sym (store-runs (pathTotal N) ws l p) ∙ ap storeOf (λ i. record { onRising = sym (own-runs rising) i; onFalling = sym (own-runs falling) i });
+    fits = λ e. rw (own-runs e) (few-held e);
+  }
+
+  -- A test leaves such a store
+  module _ (rec : List ℕ) (r : Tested) (q : testStage N rec ws ≡ value r) where
+    pub stage-length : length (storeOf (r .runs)) ≡ storeWords
+    stage-length = holding-length N (storeOf (r .runs)) _ (holding-next N rec ws (λ e. inRuns (storeRuns ws e)) holding-own r q)
+
+    pub stage-sound : AllPass (storeRules (pathTotal N) (storeOf (r .runs)))
+    stage-sound = holding-passes N (storeOf (r .runs)) _ (holding-next N rec ws (λ e. inRuns (storeRuns ws e)) holding-own r q)

@@ -15,4 +15,9 @@ pub mod StoreLaws
 pub mod FaultCallLaws
 pub mod FaultLaws
 pub mod HoldingLaws
+pub mod DemandHolds
+pub mod RefusalLaws
+pub mod ReportLaws
+pub mod FileLaws
+pub mod ReportNames
 pub mod ExamplesHold

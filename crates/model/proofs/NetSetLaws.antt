@@ -1,21 +1,21 @@
 -- The interval method: a net's set, pin by pin, and a path's faults from its output's set.
 -- Assumes nothing.
-use mathlib.Core.Path.{_≡_, refl, ap, ap₂, sym, _∙_, subst}
-use mathlib.Core.Bool.{Bool, true, false, _&&_}
-use mathlib.Core.List.{List, [], _∷_}
+use mathlib.Core.Path.{_≡_, ap, sym, _∙_, subst}
+use mathlib.Core.Bool.{_&&_}
+use mathlib.Core.List.{_∷_}
 use mathlib.Core.Logic.{_↔_, ⊎-elim}
-use Prim.Native.Nat.{ℕ, zero, suc, _+_, _-_, _≤_, _<_}
+use Prim.Native.Nat.{ℕ, zero, suc, _+_, _≤_, _<_}
 use native.Mathlib.Omega.{arith}
 use lib.Dec.{T, ltb→lt}
 use lib.ListN.{length, getD}
 use Rattle.model.specs.Netlist.{Netlist, counts, nets, pinsOf, pinNet, pinCounts, outputCounts, outputNet}
-use Rattle.model.specs.Path.{CircuitPath, Edge, Fault, countsBefore, split, validAt, numberAt, pathAt, pathOf}
+use Rattle.model.specs.Path.{Edge, countsBefore, split, pathAt, pathOf}
 use Rattle.model.specs.Detect.{Test, openPin, hasEdge, allOpen, detects, inNetSet, detectsNumber}
 use Rattle.model.specs.Numbering.{OpenPath}
 use Rattle.model.proofs.WellFormed.{WellFormed}
 use Rattle.model.proofs.BoolLaws.{le-or-lt}
 use Rattle.model.proofs.NetLaws.{count-gate}
-use Rattle.model.proofs.NumberLaws.{number-back, path-back, splits, split-back, pin-lower, pathAt-input, pathAt-gate, length-pinCounts, pinCounts-at, length-outputCounts, outputCounts-at, output-net}
+use Rattle.model.proofs.NumberLaws.{number-back, path-back, splits, split-back, pin-lower, pathAt-input, pathAt-gate, length-pinCounts, pinCounts-at, length-outputCounts, outputCounts-at}
 
 module _ (N : Netlist) (w : WellFormed N) where
   -- more fuel than the net changes nothing

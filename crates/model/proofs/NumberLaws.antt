@@ -1,23 +1,23 @@
 -- Numbers and paths: each is the other's inverse on the paths of a netlist and the numbers 1 to T.
 -- Assumes nothing.
-use mathlib.Core.Path.{_≡_, refl, ap, ap₂, sym, _∙_, subst}
-use mathlib.Core.Bool.{Bool, true, false, _&&_, not}
-use mathlib.Core.List.{List, [], _∷_, _++_, map}
+use mathlib.Core.Path.{_≡_, refl, ap, _∙_}
+use mathlib.Core.Bool.{not}
+use mathlib.Core.List.{List, [], _∷_}
 use mathlib.Core.Logic.{⊎-elim}
 use Prim.Native.Nat.{ℕ, zero, suc, _+_, _-_, _≤_, _<_}
-use native.Mathlib.Nat.{add-zero, add-suc, suc-add, zero-add, le-of-suc-le-suc, not-suc-le-zero, le-trans}
+use native.Mathlib.Nat.{add-zero, le-of-suc-le-suc, not-suc-le-zero}
 use native.Mathlib.Omega.{arith}
 use lib.Dec.{T, ltb, leb, ltb→lt, lt→ltb, nltb→le}
-use lib.ListN.{length, getD, take, length-map}
+use lib.ListN.{length, getD, length-map}
 use lib.Seq.{take-all}
 use Rattle.model.specs.Base.{allOf, sumOf}
-use Rattle.model.specs.Netlist.{Netlist, Gate, noGate, atNets, counts, gateCount, pinsOf, pinNet, nets, isInput, gateOf, pinCounts, outputCounts, outputNet, pathTotal}
+use Rattle.model.specs.Netlist.{Netlist, Gate, noGate, counts, pinsOf, pinNet, nets, isInput, pinCounts, outputCounts, outputNet, pathTotal}
 use Rattle.model.specs.Path.{CircuitPath, countsBefore, split, validAt, numberAt, pathAt, valid, numberOf, pathOf}
 use Rattle.model.specs.Numbering.{PathNumbered}
 use Rattle.model.proofs.WellFormed.{lower, WellFormed, ascendingNets}
-use Rattle.model.proofs.BoolLaws.{and-left, and-right, le-true, lt-false, T→true, le-or-lt, and3, all3, le→not-ltb, not→false, both}
+use Rattle.model.proofs.BoolLaws.{and-left, and-right, le-true, lt-false, T→true, le-or-lt, and3, all3, le→not-ltb, both}
 use Rattle.model.proofs.ListLaws.{getD-map-in, allOf-at}
-use Rattle.model.proofs.NetLaws.{count-input, count-gate, length-counts}
+use Rattle.model.proofs.NetLaws.{count-input, count-gate}
 
 -- which place a number falls into
 pub record Splits (cs : List ℕ) (k : ℕ) (s : ℕ × ℕ) : Type 0 where

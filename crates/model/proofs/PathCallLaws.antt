@@ -1,22 +1,21 @@
 -- The path calls: each undoes the other, and a path fits the buffer.
 -- Assumes nothing.
-use mathlib.Core.Path.{_≡_, refl, ap, ap₂, sym, _∙_, subst}
-use mathlib.Core.Bool.{Bool, true, false, _&&_}
-use mathlib.Core.List.{List, [], _∷_, _++_}
-use Prim.Native.Nat.{ℕ, zero, suc, _+_, _-_, _≤_, _<_}
+use mathlib.Core.Path.{_≡_, ap, sym, _∙_, subst}
+use mathlib.Core.List.{List, [], _∷_}
+use Prim.Native.Nat.{ℕ, suc, _+_, _-_, _≤_, _<_}
 use native.Mathlib.Omega.{arith}
-use lib.Dec.{T, leb, eqb, leb→le, le→leb, eqb→eq, eqb-refl}
-use lib.ListN.{length, getD, drop}
-use Rattle.model.specs.Base.{Answer, refused, value, _>>=_, _>>_, checks, Rule}
+use lib.Dec.{T, leb, eqb, leb→le, le→leb}
+use lib.ListN.{length}
+use Rattle.model.specs.Base.{Answer, value, _>>_, checks}
 use Rattle.model.specs.Netlist.{Netlist, pathTotal, nets, pinNet, outputNet}
 use Rattle.model.specs.Path.{CircuitPath, valid, validAt, numberOf, pathOf}
 use Rattle.model.specs.Read.{readNetlist, within}
-use Rattle.model.specs.Calls.{wordsOf, pathIn, isPath, pathToNumberCall, numberToPathCall, pathWords}
+use Rattle.model.specs.Calls.{wordsOf, isPath, pathToNumberCall, numberToPathCall, pathWords}
 use Rattle.model.proofs.WellFormed.{WellFormed}
 use Rattle.model.proofs.AnswerLaws.{steps, checks→, →checks, then-first, then-second, value-inj}
-use Rattle.model.proofs.BoolLaws.{both, and-left, and-right, and3, all3, eq→eqb}
-use Rattle.model.proofs.NumberLaws.{gate-of, pin-lower, valid-parts, output-net, numbers-bounds, path-of-number, number-of-path}
-use Rattle.model.proofs.ReadLaws.{legal, Limits, limits}
+use Rattle.model.proofs.BoolLaws.{and-left, and-right, all3, eq→eqb}
+use Rattle.model.proofs.NumberLaws.{gate-of, pin-lower, valid-parts, output-net, number-of-path}
+use Rattle.model.proofs.ReadLaws.{legal, Limits}
 
 -- each step is at a lower net
 partial-length : (N : Netlist) (w : WellFormed N) (ps : List ℕ) (net : ℕ) → net < nets N → T (validAt N net ps) → length ps ≤ suc net - N .inputs

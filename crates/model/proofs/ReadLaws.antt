@@ -1,22 +1,21 @@
 -- What a legal netlist has.
 -- Assumes nothing.
-use mathlib.Core.Path.{_≡_, refl, ap, ap₂, sym, _∙_, subst}
-use mathlib.Core.Bool.{Bool, true, false, _&&_, _||_, not}
+use mathlib.Core.Path.{_≡_, refl, ap, sym, _∙_, subst}
+use mathlib.Core.Bool.{Bool, _&&_}
 use mathlib.Core.Logic.{⊎-elim}
 use mathlib.Core.List.{List, [], _∷_, _++_}
-use Prim.Native.Nat.{ℕ, zero, suc, _+_, _-_, _*_, _≤_, _<_}
+use Prim.Native.Nat.{ℕ, zero, suc, _+_, _*_, _≤_}
 use native.Mathlib.Omega.{arith}
 use native.Mathlib.Numerals.{add-one}
-use lib.Dec.{T, ltb, leb, eqb, ltb→lt, lt→ltb, leb→le, le→leb, eqb→eq}
+use lib.Dec.{T, ltb, leb, eqb, leb→le, le→leb, eqb→eq}
 use lib.ListN.{length, getD, drop, replicate, length-append, length-replicate}
-use Rattle.model.specs.Base.{Answer, refused, value, _>>=_, _>>_, checks, allOf, field, sumOf}
+use Rattle.model.specs.Base.{Answer, value, _>>=_, _>>_, checks, allOf, field, sumOf}
 use Rattle.model.specs.Netlist.{Netlist, Gate, nets, netByNet, gateCount, atNets, counts, pathTotal, maxCount}
-use Rattle.model.specs.Read.{readGates, readOutputs, readNetlist, gateRules, outputRules, headerRules, gateIn, countIn, marked, within, pinsFit, netFields, inputsIn, gatesIn, outputsIn, inputCounts}
+use Rattle.model.specs.Read.{readGates, readOutputs, readNetlist, gateRules, outputRules, headerRules, gateIn, countIn, within, pinsFit, netFields, inputsIn, gatesIn, outputsIn, inputCounts}
 use Rattle.model.proofs.ListLaws.{allOf-head, allOf-tail, allOf-append}
 use Rattle.model.proofs.WellFormed.{WellFormed, lower, ascendingNets}
-use Rattle.model.proofs.BoolLaws.{and-left, and-right, both, and3, all3, and4, or-cases}
-use Rattle.model.proofs.NetLaws.{length-netByNet}
-use Rattle.model.proofs.AnswerLaws.{Passed, Steps, steps, then-first, then-second, checks→, value-inj, AllPass}
+use Rattle.model.proofs.BoolLaws.{and-left, and-right, both, all3, and4, or-cases}
+use Rattle.model.proofs.AnswerLaws.{steps, then-first, then-second, checks→, value-inj, AllPass}
 
 pub gates-lower : (n : ℕ) (cs bs : List ℕ) (r : List Gate × List ℕ) → readGates n cs bs ≡ value r → T (lower (length cs) (r .0))
 unfolding readGates lower

@@ -1,16 +1,15 @@
 -- Runs: the runs of a set hold exactly its numbers, and a set has one list of runs.
 -- Assumes nothing.
 use mathlib.Core.Path.{_≡_, refl, ap, ap₂, sym, _∙_, subst}
-use mathlib.Core.Logic.{_↔_, _⊎_, inl, inr, ⊎-elim}
+use mathlib.Core.Logic.{_⊎_, inl, inr, ⊎-elim}
 use mathlib.Core.Bool.{Bool, true, false, _&&_, _||_, not}
-use mathlib.Core.List.{List, [], _∷_, _++_, map}
+use mathlib.Core.List.{List, [], _∷_}
 use Prim.Native.Nat.{ℕ, zero, suc, _+_, _-_, _≤_, _<_}
-use native.Mathlib.Nat.{add-zero, add-suc, suc-add, zero-add}
 use native.Mathlib.Omega.{arith}
-use lib.Dec.{T, ltb, leb, eqb, leb→le, le→leb, eqb→eq, eqb-refl}
+use lib.Dec.{T, leb, eqb, leb→le, le→leb, eqb→eq}
 use lib.ListN.{length}
 use Rattle.model.specs.Runs.{Separated, Run, addNumber, runsFrom, runsOf, inRun, inRuns, size, howManyFrom, howMany, separatedRuns}
-use Rattle.model.proofs.BoolLaws.{and-left, and-right, both, and4, all4, le-true, lt-false, T→true, true→T, le-or-lt, not→false, bool-cases, eqb-false, or-cases, or-left, or-right}
+use Rattle.model.proofs.BoolLaws.{and-left, and-right, both, and4, all4, T→true, true→T, le-or-lt, not→false, bool-cases, eqb-false, or-cases, or-left, or-right}
 
 -- the tests as facts
 abbrev pub In : List Run → ℕ → Type 0

@@ -1,14 +1,14 @@
 -- A store's words and the runs that they hold.
 -- Assumes nothing.
-use mathlib.Core.Path.{_≡_, refl, ap, ap₂, sym, _∙_, subst}
-use mathlib.Core.Bool.{Bool, true, false, _&&_}
+use mathlib.Core.Path.{_≡_, refl, ap, ap₂, sym, _∙_}
+use mathlib.Core.Bool.{Bool}
 use mathlib.Core.List.{List, [], _∷_, _++_, append-assoc, append-nil}
-use Prim.Native.Nat.{ℕ, zero, suc, _+_, _-_, _*_, _≤_, _<_}
+use Prim.Native.Nat.{ℕ, zero, suc, _+_, _-_, _*_, _≤_}
 use native.Mathlib.Omega.{arith}
-use lib.Dec.{T, ltb, leb, eqb, le→leb, leb→le, eqb-refl, eqb→eq}
+use lib.Dec.{T, leb, eqb, le→leb, leb→le, eqb→eq}
 use lib.ListN.{length, getD, take, drop, replicate, length-append, length-replicate, length-drop, take-append-drop}
-use lib.Seq.{getD-append-seam, getD-at, take-at, drop-at, drop-cons, length-take-le, take-add, drop-drop, take-all}
-use Rattle.model.specs.Base.{allOf, Rule}
+use lib.Seq.{getD-at, take-at, drop-at, drop-cons, length-take-le, take-add, drop-drop, take-all}
+use Rattle.model.specs.Base.{allOf}
 use Rattle.model.specs.Path.{Edge, rising, falling}
 use Rattle.model.specs.Runs.{Run, separatedRuns}
 use Rattle.model.specs.Store.{ByEdge, byEdge, ofEdge, storeWords, maxRuns, emptyStore, runsAt, runCount, storeRuns, runsByEdge, lowsHighs, places, storeOf, wordsAfter, bothEdges, storeRules, firstWord}
@@ -138,7 +138,7 @@ places-read ws at n h l z q =
     ap₂ (λ x y. x ++ y) (lowsHighs-read n ws at (omega arith)) (ap (λ j. replicate (2 * maxRuns - 2 * j) 0) q ∙ sym b ∙ ap (take m) (sym (drop-drop (2 * n) at ws)))
     ∙ sym (take-add (2 * n) m (drop at ws)) ∙ rw c refl
 
-length-runsAt : (n : ℕ) (ws : List ℕ) (at : ℕ) → length (runsAt ws at n) ≡ n
+pub length-runsAt : (n : ℕ) (ws : List ℕ) (at : ℕ) → length (runsAt ws at n) ≡ n
 length-runsAt zero ws at = refl
 length-runsAt (suc n) ws at = ap suc (length-runsAt n ws (suc (suc at)))
 

@@ -8,7 +8,7 @@ use Prim.Native.Nat.{ℕ, _+_, _-_, _*_}
 use lib.Dec.{leb, eqb}
 use lib.ListN.{length, getD, drop, replicate}
 use Rattle.model.specs.Base.{Answer, refused, value, _>>=_, _>>_, Rule, checks, passes, after}
-use Rattle.model.specs.Netlist.{Netlist, maxNets, nets, counts, pathTotal}
+use Rattle.model.specs.Netlist.{Netlist, maxNets, counts, pathTotal}
 use Rattle.model.specs.Path.{CircuitPath, Edge, valid, numberOf, pathOf, edgeOfFault, pathOfFault}
 use Rattle.model.specs.Detect.{Test, detectsNumber}
 use Rattle.model.specs.Runs.{Run, runsOf, inRuns, size, howMany, workingRuns}

@@ -5,9 +5,9 @@ use mathlib.Core.Logic.{_↔_}
 use mathlib.Core.Bool.{Bool}
 use mathlib.Core.List.{List, [], _∷_, _++_, map, List·Memᴰ, List·Nodup}
 use Prim.Native.Nat.{ℕ, _≤_}
-use lib.Dec.{T}
-use lib.ListN.{length, drop, replicate}
-use Rattle.model.specs.Base.{Answer, refused, value, anyOf, checks}
+use lib.Dec.{T, leb}
+use lib.ListN.{length, drop}
+use Rattle.model.specs.Base.{Answer, refused, value, allOf, anyOf, checks}
 use Rattle.model.specs.Netlist.{Netlist, pathTotal}
 use Rattle.model.specs.Path.{CircuitPath, Edge, Fault, valid, numberOf}
 use Rattle.model.specs.Detect.{Test, detects}
@@ -15,7 +15,7 @@ use Rattle.model.specs.Runs.{Run, inRuns, separatedRuns, size, workingRu
 use Rattle.model.specs.Read.{readNetlist, testOf, testRules}
 use Rattle.model.specs.Store.{ByEdge, ofEdge, emptyStore, storeRuns, storeWords, maxRuns}
 use Rattle.model.specs.Calls.{Tested, testCall, testAnswer, testStore, FaultCounts, totalsCall, workWords}
-use Rattle.model.specs.Report.{writerAnswer, writerBuffer, auditAnswer, reportRecord, wholeRecords, fileRecords, reportBufferBytes}
+use Rattle.model.specs.Report.{writerAnswer, writerBuffer, auditAnswer, reportRecord, namedRuns, wholeRecords, fileRecords, reportBufferBytes}
 
 -- There are exactly `n` distinct faults with a property: a list of them without a repeat has that length
 pub record CountOf (P : Fault → Type 0) (n : ℕ) : Type 0 where
@@ -126,13 +126,14 @@ pub record WhollyTaken (N : Netlist) (testFile : List ℕ) : Type 0 where
   pub whole : T (wholeRecords N testFile)
   pub taken : AllTaken N [] (fileRecords N testFile)
 
--- those test calls, with working memory long enough
-abbrev pub fileCalls : Netlist → List ℕ → List Call
-fileCalls N testFile = map (λ r. record { rec = r; work = replicate workWords 0 }) (fileRecords N testFile)
+-- those test calls, each with working memory long enough
+pub record FileCalls (N : Netlist) (testFile : List ℕ) (calls : List Call) : Type 0 where
+  pub records : map (λ c. c .rec) calls ≡ fileRecords N testFile
+  pub memory : T (allOf (λ c. leb workWords (length (c .work))) calls)
 
--- the store that the file leaves
-abbrev pub leftBy : List ℕ → Netlist → List ℕ → List ℕ
-leftBy netlist N testFile = afterCalls netlist N start (fileCalls N testFile) .store
+-- the store that the file leaves, by such calls
+abbrev pub leftBy : List ℕ → Netlist → List Call → List ℕ
+leftBy netlist N calls = afterCalls netlist N start calls .store
 
 -- the tests of a file
 abbrev pub testsOf : Netlist → List ℕ → List Test
@@ -145,13 +146,16 @@ pub record TrueReport (N : Netlist) (ts : List Test) (report : List ℕ) : Type 
   pub ofTests : (e : Edge) → RunsOfDetected N ts e (ofEdge runs e)
   pub faults : (e : Edge) → CountOf (Detected N ts e) (size (ofEdge runs e))
   pub layout : report ≡ reportRecord (length ts) (pathTotal N) runs
+  -- read from its bytes, it names a fault exactly when one of the tests detects it, and no other number
+  pub namesFault : (f : Fault) → T (valid N (f .path)) → T (inRuns (namedRuns report (f .edge)) (numberOf N (f .path))) ↔ T (detectedBy N ts f)
+  pub namesNoOther : (e : Edge) → RunsOfDetected N ts e (namedRuns report e)
 
 -- the writer makes the true report from the store that the file leaves, with the number of its records
-pub record WriterTrue (netlist : List ℕ) (N : Netlist) (testFile buffer : List ℕ) : Type 0 where
+pub record WriterTrue (netlist : List ℕ) (N : Netlist) (testFile left buffer : List ℕ) : Type 0 where
   pub report : List ℕ
   pub isTrue : TrueReport N (testsOf N testFile) report
-  pub returned : writerAnswer netlist (leftBy netlist N testFile) (length (fileRecords N testFile)) buffer ≡ value (length report)
-  pub written : writerBuffer netlist (leftBy netlist N testFile) (length (fileRecords N testFile)) buffer ≡ report ++ drop (length report) buffer
+  pub returned : writerAnswer netlist left (length (fileRecords N testFile)) buffer ≡ value (length report)
+  pub written : writerBuffer netlist left (length (fileRecords N testFile)) buffer ≡ report ++ drop (length report) buffer
 
 -- when an audit accepts: its memory has 01's lengths, the netlist is legal, the file is wholly taken on it and the report is its true report
 pub record Acceptable (netlist testFile report ws work : List ℕ) : Type 0 where
@@ -167,6 +171,7 @@ pub record Demand3 : Type 0 where
   pub afterEveryList : (netlist : List ℕ) (N : Netlist) → readNetlist netlist ≡ value N
       → (calls : List Call) → StoreTrue netlist N (afterCalls netlist N start calls)
   pub writes : (netlist : List ℕ) (N : Netlist) → readNetlist netlist ≡ value N
-      → (testFile buffer : List ℕ) → WhollyTaken N testFile → reportBufferBytes ≤ length buffer → WriterTrue netlist N testFile buffer
+      → (testFile : List ℕ) → WhollyTaken N testFile → (calls : List Call) → FileCalls N testFile calls
+      → (buffer : List ℕ) → reportBufferBytes ≤ length buffer → WriterTrue netlist N testFile (leftBy netlist N calls) buffer
   pub audits : (netlist testFile report ws work : List ℕ)
       → (auditAnswer netlist testFile report ws work ≡ value tt) ↔ Acceptable netlist testFile report ws work

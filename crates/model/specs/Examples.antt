@@ -1,10 +1,10 @@
 -- Document 01's examples as questions with their answers: `starred` is its table of those marked *, `further` one list of test calls and its
 -- audit. proofs/ExamplesHold.antt has the theorem over both.
 -- Assumes nothing.
-use mathlib.Core.Bool.{Bool, true, false}
+use mathlib.Core.Bool.{true, false}
 use mathlib.Core.List.{List, [], _∷_, _++_}
 use Prim.Native.Nat.{ℕ, zero, suc, _+_, _^_}
-use lib.ListN.{length, replicate, take, drop}
+use lib.ListN.{replicate, take, drop}
 use Rattle.model.specs.Base.{Answer, refused, value, _>>=_, _>>_, checks, numbersFrom, littleEndian}
 use Rattle.model.specs.Netlist.{Netlist, counts, pathTotal}
 use Rattle.model.specs.Path.{Edge, rising, falling, pathOf, faultNumber}

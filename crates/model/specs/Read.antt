@@ -1,11 +1,11 @@
 -- The netlist file and a test record, with the refusals of document 01 in its order: each part of a file is read from its mark on.
 -- Assumes nothing.
-use mathlib.Core.Bool.{Bool, true, false, _&&_, _||_, not}
+use mathlib.Core.Bool.{Bool, _&&_, _||_, not}
 use mathlib.Core.List.{List, [], _∷_, _++_, map}
 use Prim.Native.Nat.{ℕ, zero, suc, _+_, _-_, _*_, _/_, _%_}
 use lib.Dec.{ltb, leb, eqb}
 use lib.ListN.{length, getD, drop, replicate}
-use Rattle.model.specs.Base.{Answer, refused, value, _>>=_, _>>_, Rule, checks, allOf, numbersFrom, field, littleEndian, bit}
+use Rattle.model.specs.Base.{Answer, value, _>>=_, _>>_, Rule, checks, allOf, numbersFrom, field, bit}
 use Rattle.model.specs.Netlist.{Netlist, Gate, Kind, buffer, inverter, and, nand, or, nor, xor, xnor, maxNets, maxCount, gateCount, netByNet, atNets, outputCount}
 use Rattle.model.specs.Detect.{Test}
 

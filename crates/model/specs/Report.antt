@@ -8,6 +8,7 @@ use lib.Dec.{leb, eqb}
 use lib.ListN.{length, take, drop}
 use Rattle.model.specs.Base.{Answer, refused, value, _>>=_, _>>_, Rule, checks, passes, after, littleEndian, field}
 use Rattle.model.specs.Netlist.{Netlist, pathTotal}
+use Rattle.model.specs.Path.{Edge, rising, falling}
 use Rattle.model.specs.Runs.{Run, size}
 use Rattle.model.specs.Read.{marked, readNetlist, recordLength}
 use Rattle.model.specs.Store.{ByEdge, emptyStore, storeOf, runsByEdge, storeRules}
@@ -39,6 +40,16 @@ reportHead testCount paths s =
 -- The report record 52 50
 unfoldable pub reportRecord : ℕ → ℕ → ByEdge (List Run) → List ℕ
 reportRecord testCount paths s = reportHead testCount paths s ++ (runBytes (s .onRising) ++ runBytes (s .onFalling))
+
+-- `n` runs of 16 bytes each
+unfoldable pub runsIn : List ℕ → ℕ → List Run
+runsIn bs zero = []
+runsIn bs (suc n) = record { low = field 0 8 bs; high = field 8 8 bs } ∷ runsIn (drop 16 bs) n
+
+-- The runs of an edge in a report's bytes. A report names a fault as a store holds it: its path's number lies in one of the runs of its edge
+unfoldable pub namedRuns : List ℕ → Edge → List Run
+namedRuns report rising = runsIn (drop 34 report) (field 14 2 report)
+namedRuns report falling = runsIn (drop (34 + 16 * field 14 2 report) report) (field 16 2 report)
 
 -- The writer
 unfoldable pub writerCall : List ℕ → List ℕ → ℕ → List ℕ → Answer (List ℕ)

@@ -1,0 +1,189 @@
+-- Demand 3 after every list of test calls: the store holds exactly the detected faults, the totals and each call's numbers are true.
+-- The idea: one fact, `Holds`, that the store's words are those of the runs of the detected numbers, is kept by each call, taken or refused.
+-- Assumes nothing.
+use mathlib.Core.Path.{_≡_, refl, ap, sym, _∙_, subst}
+use mathlib.Core.Logic.{_↔_}
+use mathlib.Core.List.{List, [], _∷_}
+use Prim.Native.Nat.{ℕ, _≤_}
+use lib.Dec.{T, leb→le, le→leb}
+use lib.ListN.{length}
+use Rattle.model.specs.Base.{Answer, refused, value, _>>_, Rule, checks, after}
+use Rattle.model.specs.Netlist.{Netlist, pathTotal}
+use Rattle.model.specs.Path.{Edge, Fault, valid, numberOf, pathOf}
+use Rattle.model.specs.Detect.{Test}
+use Rattle.model.specs.Runs.{Run, runsOf, inRuns, size}
+use Rattle.model.specs.Read.{readNetlist, testRules, testOf}
+use Rattle.model.specs.Store.{byEdge, maxRuns, storeRuns, runsByEdge, storeOf, storeRules}
+use Rattle.model.specs.Calls.{Tested, tested, FaultCounts, testStage, testCall, testAnswer, testStore, totalsCall, storeRule, workRule, workWords}
+use Rattle.model.specs.Demand3 as demand
+use Rattle.model.specs.Demand3.{CountOf, Detected, RunsOfDetected, detectedBy, Call, State, start, next, afterCalls, NoTestRefusal, NoRefusal, Taken, Returned, StoreTrue}
+use Rattle.model.proofs.WellFormed.{WellFormed}
+use Rattle.model.proofs.AnswerLaws.{AllPass, steps, checks→, →checks, then-first, then-second, value-inj}
+use Rattle.model.proofs.RunLaws.{separated→, in→, →in, unique}
+use Rattle.model.proofs.ReadLaws.{legal}
+use Rattle.model.proofs.NumberLaws.{path-of-number}
+use Rattle.model.proofs.FaultLaws.{detectedAt, countOf-detected, countOf-new, runs-detected}
+use Rattle.model.proofs.HoldingLaws.{Holding, holding-empty, holding-runs, holding-length, holding-passes, holding-size, ofEdge-byEdge, stage-passes, stage-taken, stage-rules, test-part, work-few, work-room, holding-next, returned-new, returned-held}
+
+-- The runs of the detected numbers are one list
+pub one-list : (N : Netlist) (ts : List Test) (e : Edge) (rs qs : List Run) → RunsOfDetected N ts e rs → RunsOfDetected N ts e qs → rs ≡ qs
+one-list N ts e rs qs a b =
+    unique (pathTotal N) 1 rs qs (separated→ (pathTotal N) 1 rs (a .runs)) (separated→ (pathTotal N) 1 qs (b .runs))
+    (λ j t. in→ qs j (b .exactly j .1 (a .exactly j .0 (→in rs j t))))
+    (λ j t. in→ rs j (a .exactly j .1 (b .exactly j .0 (→in qs j t))))
+
+-- By runs that hold exactly the detected numbers, a fault is held exactly when one of the tests detects it
+pub holds-fault : (N : Netlist) → WellFormed N → (ts : List Test) (f : Fault) (rs : List Run) → RunsOfDetected N ts (f .edge) rs → T (valid N (f .path))
+    → T (inRuns rs (numberOf N (f .path))) ↔ T (detectedBy N ts f)
+holds-fault N w ts f rs h v = (
+  λ t.
+      let d = h .exactly (numberOf N (f .path)) .0 t in
+      let q : d .path ≡ f .path = sym (path-of-number N w (d .path) (d .detected .ofNetlist)) ∙ ap (pathOf N) (d .number) ∙ path-of-number N w (f .path) v in
+      subst (λ p. T (detectedBy N ts (record { path = p; edge = f .edge }))) q (d .detected .detected),
+  λ t. h .exactly (numberOf N (f .path)) .1 (record { path = f .path; number = refl; detected = record { edge = refl; ofNetlist = v; detected = t } }),
+)
+
+pub as-countOf : {P : Fault → Type 0} {m n : ℕ} → m ≡ n → CountOf P m → CountOf P n
+as-countOf {P} q x = subst (λ k. CountOf P k) q x
+
+-- A store that holds exactly what the tests `ts` detect
+module _ (N : Netlist) (w : WellFormed N) (ts : List Test) (ws : List ℕ) (x : Holding N ws (detectedAt N ts)) where
+  pub runs-true : (d : Edge) → RunsOfDetected N ts d (storeRuns ws d)
+  runs-true d = subst (λ rs. RunsOfDetected N ts d rs) (sym (holding-runs N ws (detectedAt N ts) x d)) (runs-detected N w d ts)
+
+  pub sizes-true : (d : Edge) → CountOf (Detected N ts d) (size (storeRuns ws d))
+  sizes-true d = as-countOf (sym (holding-size N ws (detectedAt N ts) x d)) (countOf-detected N w d ts)
+
+  module _ (rec : List ℕ) where
+    -- on it the test stage gives a result exactly when no condition of Test and Work holds
+    pub stage→ : (r : Tested) → testStage N rec ws ≡ value r → NoTestRefusal N ts rec
+    unfolding detectedAt
+    stage→ r q =
+        let p = stage-passes N rec ws r q in
+        record {
+          legalRecord = →checks (testRules N rec) (test-part N rec ws (detectedAt N ts) x p);
+          fewWorking = work-few N rec ws (detectedAt N ts) x p;
+          runs = λ d. runsOf (detectedAt N (testOf N rec ∷ ts) d) (pathTotal N);
+          wouldHold = λ d. runs-detected N w d (testOf N rec ∷ ts);
+          room = work-room N rec ws (detectedAt N ts) x p;
+        }
+
+    pub →stage : NoTestRefusal N ts rec → testStage N rec ws ≡ value (tested N (runsByEdge ws) (testOf N rec))
+    unfolding detectedAt
+    →stage n =
+        stage-taken N rec ws
+        (stage-rules N rec ws (detectedAt N ts) x
+        (checks→ (testRules N rec) (record { got = tt; is = n .legalRecord }))
+        (n .fewWorking)
+        (λ d. subst (λ rs. length rs ≤ maxRuns) (one-list N (testOf N rec ∷ ts) d (n .runs d) _ (n .wouldHold d) (runs-detected N w d (testOf N rec ∷ ts))) (n .room d)))
+
+    pub stage-holding : (r : Tested) → testStage N rec ws ≡ value r → Holding N (storeOf (r .runs)) (detectedAt N (testOf N rec ∷ ts))
+    unfolding detectedAt
+    stage-holding r q = holding-next N rec ws (detectedAt N ts) x r q
+
+    pub stage-returned : (r : Tested) → testStage N rec ws ≡ value r → (d : Edge) → Returned N ts (testOf N rec) d (r .returned)
+    unfolding detectedAt
+    stage-returned r q d = record {
+      newTrue = as-countOf (sym (returned-new N rec ws (detectedAt N ts) x r q d)) (countOf-new N w d (testOf N rec) ts);
+      heldTrue = as-countOf (sym (returned-held N rec ws (detectedAt N ts) x r q d)) (countOf-detected N w d (testOf N rec ∷ ts));
+    }
+
+-- the store's words are those of the runs of the detected numbers
+abbrev pub Holds : Netlist → State → Type 0
+Holds N s = Holding N (s .store) (detectedAt N (s .taken))
+
+pub holds-start : (N : Netlist) → Holds N start
+unfolding detectedAt
+holds-start N = holding-empty N
+
+module _ (netlist : List ℕ) (N : Netlist) (e : readNetlist netlist ≡ value N) where
+  lent : List ℕ → List ℕ → List Rule
+  lent ws work = storeRule ws ∷ workRule work ∷ []
+
+  -- a call is taken exactly when its memory is long enough and the stage gives a result
+  call-lent : (rec ws work : List ℕ) (r : Tested) → testCall netlist rec ws work ≡ value r → AllPass (lent ws work)
+  unfolding testCall lent
+  call-lent rec ws work r q =
+      checks→ (lent ws work)
+      (then-first (checks (lent ws work)) (readNetlist netlist)
+      (steps (checks (lent ws work) >> readNetlist netlist) (λ M. testStage M rec ws) q .first))
+
+  pub call-stage : (rec ws work : List ℕ) (r : Tested) → testCall netlist rec ws work ≡ value r → testStage N rec ws ≡ value r
+  unfolding testCall lent
+  call-stage rec ws work r q =
+      let s = steps (checks (lent ws work) >> readNetlist netlist) (λ M. testStage M rec ws) q in
+      let m : s .got ≡ N = value-inj (sym (then-second (checks (lent ws work)) (readNetlist netlist) (s .first)) ∙ e) in
+      subst (λ M. testStage M rec ws ≡ value r) m (s .second)
+
+  module _ (s : State) (x : Holds N s) where
+    w : WellFormed N
+    w = legal netlist N e
+
+    pub stage-call : (c : Call) → workWords ≤ length (c .work) → (r : Tested) → testStage N (c .rec) (s .store) ≡ value r
+        → testCall netlist (c .rec) (s .store) (c .work) ≡ value r
+    unfolding testCall
+    stage-call c l r q =
+        let p : checks (storeRule (s .store) ∷ workRule (c .work) ∷ []) ≡ value tt =
+        →checks (storeRule (s .store) ∷ workRule (c .work) ∷ [])
+        (rw (holding-length N (s .store) (detectedAt N (s .taken)) x) tt, (le→leb workWords (length (c .work)) l, tt)) in
+        rw (p, e) q
+
+    -- One more call keeps it
+    step : (c : Call) (a : Answer Tested) → testCall netlist (c .rec) (s .store) (c .work) ≡ a
+        → Holding N (after a (s .store) (λ r. storeOf (r .runs))) (detectedAt N (demand.withTest a (testOf N (c .rec)) (s .taken)))
+    step c (refused n) q = x
+    step c (value r) q = stage-holding N w (s .taken) (s .store) x (c .rec) r (call-stage (c .rec) (s .store) (c .work) r q)
+
+    pub holds-next : (c : Call) → Holds N (next netlist N s c)
+    unfolding testStore
+    holds-next c = step c (testCall netlist (c .rec) (s .store) (c .work)) refl
+
+    totals-gives : totalsCall netlist (s .store) ≡ value (byEdge (λ d. size (storeRuns (s .store) d)))
+    unfolding totalsCall
+    totals-gives =
+        let l : checks (storeRule (s .store) ∷ []) ≡ value tt =
+        →checks (storeRule (s .store) ∷ []) (rw (holding-length N (s .store) (detectedAt N (s .taken)) x) tt, tt) in
+        let p : checks (storeRules (pathTotal N) (s .store)) ≡ value tt =
+        →checks (storeRules (pathTotal N) (s .store)) (holding-passes N (s .store) (detectedAt N (s .taken)) x) in
+        rw (l, e) (rw p refl)
+
+    taken→ : (c : Call) → Taken netlist s c → NoRefusal N (s .taken) c
+    unfolding lent
+    taken→ c k = record {
+      memory = leb→le workWords (length (c .work)) (call-lent (c .rec) (s .store) (c .work) (k .tested) (k .answer) .1 .0);
+      test = stage→ N w (s .taken) (s .store) x (c .rec) (k .tested) (call-stage (c .rec) (s .store) (c .work) (k .tested) (k .answer));
+    }
+
+    →taken : (c : Call) → NoRefusal N (s .taken) c → Taken netlist s c
+    →taken c n = record {
+      tested = tested N (runsByEdge (s .store)) (testOf N (c .rec));
+      answer = stage-call c (n .memory) _ (→stage N w (s .taken) (s .store) x (c .rec) (n .test));
+    }
+
+    returned-true : (c : Call) (r : FaultCounts) → testAnswer netlist (c .rec) (s .store) (c .work) ≡ value r
+        → (d : Edge) → Returned N (s .taken) (testOf N (c .rec)) d r
+    unfolding testAnswer
+    returned-true c r k d =
+        let p = steps (testCall netlist (c .rec) (s .store) (c .work)) (λ t. value (t .returned)) k in
+        subst (Returned N (s .taken) (testOf N (c .rec)) d) (value-inj (p .second))
+        (stage-returned N w (s .taken) (s .store) x (c .rec) (p .got) (call-stage (c .rec) (s .store) (c .work) (p .got) (p .first)) d)
+
+    store-true : StoreTrue netlist N s
+    store-true = record {
+      holdsFault = λ f v. holds-fault N w (s .taken) f (storeRuns (s .store) (f .edge)) (runs-true N w (s .taken) (s .store) x (f .edge)) v;
+      holdsNoOther = runs-true N w (s .taken) (s .store) x;
+      sums = byEdge (λ d. size (storeRuns (s .store) d));
+      totalsGives = totals-gives;
+      totalsTrue = λ d. as-countOf (sym (ofEdge-byEdge (λ g. size (storeRuns (s .store) g)) d)) (sizes-true N w (s .taken) (s .store) x d);
+      takenExactly = λ c. (taken→ c, →taken c);
+      returnedTrue = returned-true;
+    }
+
+  pub holds-after : (calls : List Call) (s : State) → Holds N s → Holds N (afterCalls netlist N s calls)
+  unfolding afterCalls
+  holds-after [] s x = x
+  holds-after (c ∷ cs) s x = holds-after cs (next netlist N s c) (holds-next s x c)
+
+  -- The part of demand 3 on every list
+  pub after-every-list : (calls : List Call) → StoreTrue netlist N (afterCalls netlist N start calls)
+  after-every-list calls = store-true (afterCalls netlist N start calls) (holds-after calls start (holds-start N))

@@ -1,0 +1,26 @@
+-- The cases of a gate's pin count.
+-- Assumes nothing.
+use Prim.Native.Nat.{ℕ, _≤_, _<_}
+use mathlib.Core.Path.{_≡_, refl}
+use mathlib.Core.Bool.{Bool, true, false, _||_}
+use native.Mathlib.Omega.{arith}
+use borrow.Author.Needs.{needs}
+use borrow.Author.Tests.{le-leb, lt-leb}
+use lib.Dec.{eqb, leb}
+use Rattle.model.specs.Read.{pinsFit}
+
+or-false : (b : Bool) → b ≡ b || false
+or-false true = refl
+or-false false = refl
+
+pub fit-one : (kind n : ℕ) → kind ≤ 2 → eqb n 1 ≡ pinsFit kind n
+fit-one kind n h = rw (le-leb kind 2 h, lt-leb 3 kind (omega arith)) (or-false (eqb n 1))
+
+module _ (kind n : ℕ) (h : 2 < kind) where
+  pub fit-two : n < 2 → false ≡ pinsFit kind n
+  fit-two l = rw (lt-leb kind 2 h, le-leb 3 kind (omega arith), lt-leb 2 n l) refl
+
+  pub fit-more : 2 ≤ n → leb n 8 ≡ pinsFit kind n
+  fit-more l = rw (lt-leb kind 2 h, le-leb 3 kind (omega arith), le-leb 2 n l) refl
+
+pub ruleset fit-cases = (fit-one, fit-two, fit-more, needs)

@@ -1,0 +1,183 @@
+-- The cases of a survey, by the answers of its parts.
+-- Assumes nothing.
+use Prim.Native.Nat.{ℕ, _+_, _≤_, _<_}
+use mathlib.Core.Path.{_≡_, refl, sym, ap, _∙_}
+use mathlib.Core.List.{List, [], _∷_}
+use mathlib.Core.Bool.{_&&_}
+use native.Mathlib.Omega.{arith}
+use borrow.Author.Needs.{needs}
+use borrow.Author.Tests.{eq-eqb, ne-eqb}
+use lib.ListN.{length, drop, replicate, getD, length-drop, length-replicate}
+use lib.Dec.{leb, eqb, leb→le}
+use Rattle.model.specs.Base.{Answer, refused, value, _>>=_, _>>_, checks, sumOf}
+use Rattle.model.specs.Netlist.{Netlist, netByNet, gateCount, atNets, counts, pathTotal}
+use Rattle.model.specs.Read.{readNetlist, readGates, readOutputs, headerRules, within, inputsIn, gatesIn, outputsIn}
+use Rattle.model.specs.Refusals.{refusalNumber}
+use Rattle.model.specs.Calls.{padded, surveyCall, surveyOf}
+use Rattle.model.specs.declared.Refusal.{Refusal}
+use Rattle.model.specs.declared.Refusal.the-variants as why
+use Rattle.model.proofs.AnswerLaws.{then-first, then-second, checks→, value-inj, not-refused}
+use Rattle.model.proofs.BoolLaws.{and-left, and4}
+use Rattle.model.proofs.NetLaws.{length-netByNet}
+use Rattle.model.proofs.ReadLaws.{gates-length, outputs-ok, outputs-fit}
+use Rattle.netlist.specs.Answers.{SurveyTrue}
+use Rattle.netlist.specs.Reading.{headerStep, headerIn, headerOf, GatesAre, GatesEnd, OutputsAre, OutputsEnd, refusedBy}
+use Rattle.netlist.specs.declared.gates.GatesAnswer.{GatesAnswer}
+use Rattle.netlist.specs.declared.gates.GatesAnswer.the-variants as gates
+use Rattle.netlist.specs.declared.outputs.OutputsAnswer.{OutputsAnswer}
+use Rattle.netlist.specs.declared.outputs.OutputsAnswer.the-variants as outputs
+use Rattle.netlist.specs.declared.SurveyAnswer.the-variants as survey
+use Rattle.netlist.specs.declared.Surveyed.{Surveyed}
+use Rattle.netlist.specs.declared.header.HeaderAnswer.{HeaderAnswer}
+use Rattle.netlist.specs.declared.header.HeaderAnswer.the-variants as header
+use Rattle.netlist.specs.declared.header.Header.{Header}
+use Rattle.netlist.proofs.OutputCases.{outputs-pad}
+use Rattle.netlist.proofs.OutputLaws.{below}
+use Rattle.netlist.proofs.PaddedLaws.{pad-sum}
+
+pub refused-surveys : (r : Surveyed) (w : Refusal) (s : List ℕ) → r ≡ refusedBy w → readNetlist s ≡ refused (refusalNumber w) → SurveyTrue r s
+unfolding surveyCall
+refused-surveys r w s e h = record { answer = rw (e, h) refl; survey = rw (e, h) refl }
+
+-- what follows a header
+unfoldable pub body : List ℕ → ℕ → ℕ → ℕ → Answer Netlist
+body s i g u =
+    readGates g (replicate i 1) (drop 8 s)
+    >>= λ x. readOutputs u (i + g) (netByNet gateCount 0 (replicate i 1) (x .0)) 0 0 (x .1)
+    >>= λ o. checks ((20, eqb (length (o .1)) 0) ∷ [])
+    >> value (record { inputs = i; gates = x .0; outputs = o .0 })
+
+from-array : (u n : ℕ) (array cs bs : List ℕ) → array ≡ padded cs → length cs ≡ n → readOutputs u n array 0 0 bs ≡ readOutputs u n cs 0 0 bs
+from-array u n array cs bs p e = rw (p, ← e) (outputs-pad u cs 0 0 bs)
+
+-- the sum over the outputs, out of the array
+total-from : (u n : ℕ) (array cs bs us rest : List ℕ) → array ≡ padded cs → length cs ≡ n → readOutputs u n cs 0 0 bs ≡ value (us, rest) → sumOf (atNets array 0 us) ≡ sumOf (atNets cs 0 us)
+total-from u n array cs bs us rest p e r = rw p (pad-sum cs us (below (length cs) 0 us (rw (← e) at (outputs-ok u n cs 0 0 bs (us, rest) r))))
+
+module _ (s array : List ℕ) (i g u : ℕ) (hp : checks (headerRules s) ≡ value tt) (ei : i ≡ inputsIn s) (eg : g ≡ gatesIn s) (eu : u ≡ outputsIn s)
+    (a : GatesAnswer) (ga : GatesAre a array s (replicate i 1) (readGates g (replicate i 1) (drop 8 s))) where
+  opened : readNetlist s ≡ body s i g u
+  unfolding readNetlist body
+  opened = rw (hp, ei, eg, eu) refl
+
+  pub body-gates : (r : Surveyed) (w : Refusal) → a ≡ gates.Refused w → r ≡ refusedBy w → SurveyTrue r s
+  unfolding body
+  body-gates r w h e =
+      let x : readGates g (replicate i 1) (drop 8 s) ≡ refused (refusalNumber w) = rw h at ga in
+      refused-surveys r w s e (opened ∙ rw x refl)
+
+  module _ (at : ℕ) (d : a ≡ gates.Done at) where
+    done : GatesEnd at array s (replicate i 1) (readGates g (replicate i 1) (drop 8 s))
+    done = rw d at ga
+
+    pub done-within : at ≤ length s
+    done-within = done .within
+
+    many : length (done .gates) ≡ g
+    many = gates-length g (replicate i 1) (drop 8 s) (done .gates, drop at s) (done .read)
+
+    cs : List ℕ
+    cs = netByNet gateCount 0 (replicate i 1) (done .gates)
+
+    count-many : length cs ≡ i + g
+    unfolding cs
+    count-many = omega (arith, length-netByNet gateCount 0 (done .gates) (replicate i 1), length-replicate {A = ℕ} i 1, many)
+
+    -- the outputs, as the code reads them out of the array
+    same : readOutputs u (i + g) array 0 0 (drop at s) ≡ readOutputs u (i + g) cs 0 0 (drop at s)
+    unfolding cs
+    same = from-array u (i + g) array cs (drop at s) (done .array-is) count-many
+
+    module _ (o : OutputsAnswer) (oa : OutputsAre o s array (readOutputs u (i + g) array 0 0 (drop at s))) where
+      pub body-outputs : (r : Surveyed) (w : Refusal) → o ≡ outputs.Refused w → r ≡ refusedBy w → SurveyTrue r s
+      unfolding body cs
+      body-outputs r w h e =
+          let x : readOutputs u (i + g) array 0 0 (drop at s) ≡ refused (refusalNumber w) = rw h at oa in
+          refused-surveys r w s e (opened ∙ rw (done .read, sym same ∙ x) refl)
+
+      module _ (end total : ℕ) (f : o ≡ outputs.Done end total) where
+        last : OutputsEnd end total s array (readOutputs u (i + g) array 0 0 (drop at s))
+        last = rw f at oa
+
+        pub body-left : (r : Surveyed) → end < length s → r ≡ refusedBy why.BytesLeftOver → SurveyTrue r s
+        unfolding body cs
+        body-left r h e =
+            let z : length (drop end s) ≡ 0 → ⊥ = λ k. omega (arith, length-drop end s) in
+            refused-surveys r why.BytesLeftOver s e (opened ∙ rw (done .read, sym same ∙ last .read, ne-eqb (length (drop end s)) 0 z) refl)
+
+        whole : length s ≤ end → readNetlist s ≡ value (record { inputs = i; gates = done .gates; outputs = last .outputs })
+        unfolding body cs
+        whole h =
+            let z : length (drop end s) ≡ 0 = omega (arith, length-drop end s) in
+            opened ∙ rw (done .read, sym same ∙ last .read, eq-eqb (length (drop end s)) 0 z) refl
+
+        pub body-legal : length s ≤ end → SurveyTrue (record { answer = survey.Legal; survey = record { counts = array; inputs = i; gates = g; outputs = u; total = total } }) s
+        unfolding surveyCall surveyOf pathTotal counts cs
+        body-legal h =
+            let n : u ≡ length (last .outputs) = sym (outputs-fit u (i + g) array 0 0 (drop at s) (last .outputs, drop end s) (last .read) (omega arith) .0) in
+            let t = last .total-is ∙ total-from u (i + g) array cs (drop at s) (last .outputs) (drop end s) (done .array-is) count-many (sym same ∙ last .read) in
+            let c = done .array-is in
+            record { answer = rw (whole h) refl; survey = rw (whole h) (λ k. record { counts = c k; inputs = i; gates = sym many k; outputs = n k; total = t k }) }
+
+refused-first : (s : List ℕ) (n : ℕ) → checks (headerRules s) ≡ refused n → readNetlist s ≡ refused n
+unfolding readNetlist
+refused-first s n e = rw e refl
+
+header-refused : (s : List ℕ) (n : ℕ) → refused n ≡ headerStep s → checks (headerRules s) ≡ refused n
+unfolding headerStep
+header-refused s n e = go (checks (headerRules s)) (headerIn s) e
+  where
+    go : (c : Answer (Unit {0})) (v : Header) → refused n ≡ (c >> value v) → c ≡ refused n
+    go (refused k) v e = let z : k ≡ n = cc in ap (λ m. refused m) z
+    go (value u) v e = absurd (not-refused e)
+
+-- what a header that was found passed
+record HeaderFound (s : List ℕ) (h : Header) : Type 0 where
+  passed : checks (headerRules s) ≡ value tt
+  is : headerIn s ≡ h
+  long : 8 ≤ length s
+  few : inputsIn s + gatesIn s ≤ 512
+
+header-legal : (s : List ℕ) (h : Header) → value h ≡ headerStep s → HeaderFound s h
+unfolding headerStep
+header-legal s h e =
+    let v : Answer Header = value (headerIn s) in
+    let p = then-first (checks (headerRules s)) v (sym e) in
+    let a = checks→ (headerRules s) p in
+    let q = and4 (within 1 64 (inputsIn s)) (leb (gatesIn s) 511) (leb (inputsIn s + gatesIn s) 512) (within 1 64 (outputsIn s)) (a .1 .0) in
+    record {
+      passed = p .is;
+      is = value-inj (then-second (checks (headerRules s)) v (sym e));
+      long = leb→le 8 (length s) (and-left (leb 8 (length s)) (eqb (getD s 0 0) 0x4E && eqb (getD s 1 0) 0x4C) (a .0));
+      few = leb→le (inputsIn s + gatesIn s) 512 (q .2);
+    }
+
+module _ (s : List ℕ) (a : HeaderAnswer) (ha : headerOf a ≡ headerStep s) where
+  pub survey-header : (r : Surveyed) (w : Refusal) → a ≡ header.Refused w → r ≡ refusedBy w → SurveyTrue r s
+  survey-header r w h e = refused-surveys r w s e (refused-first s (refusalNumber w) (header-refused s (refusalNumber w) (rw h at ha)))
+
+  module _ (h : Header) (f : a ≡ header.Found h) where
+    found : HeaderFound s h
+    found = header-legal s h (rw f at ha)
+
+    pub found-passed : checks (headerRules s) ≡ value tt
+    found-passed = found .passed
+
+    pub found-inputs : h .inputs ≡ inputsIn s
+    found-inputs = ap (λ (x : Header). x .inputs) (sym (found .is))
+
+    pub found-gates : h .gates ≡ gatesIn s
+    found-gates = ap (λ (x : Header). x .gates) (sym (found .is))
+
+    pub found-outputs : h .outputs ≡ outputsIn s
+    found-outputs = ap (λ (x : Header). x .outputs) (sym (found .is))
+
+    pub found-long : 8 ≤ length s
+    found-long = found .long
+
+    pub found-nets : h .inputs + h .gates ≤ 512
+    found-nets = omega (arith, found .few, found-inputs, found-gates)
+
+pub ruleset body-cases = (done-within, body-gates, body-outputs, body-left, body-legal, needs)
+
+pub ruleset survey-cases = (found-passed, found-inputs, found-gates, found-outputs, found-long, found-nets, survey-header, needs)

@@ -1,0 +1,4 @@
+-- Definitions that the contracts of this crate, and of the crates that load a netlist, cite.
+pub mod Places
+pub mod Answers
+pub mod Reading

@@ -1,0 +1,107 @@
+-- What the readers of the parts of a netlist file answer.
+-- Assumes nothing.
+use Prim.Native.Nat.{ℕ, _+_, _*_, _≤_, _<_}
+use mathlib.Core.Path.{_≡_}
+use mathlib.Core.List.{List}
+use mathlib.Core.Bool.{Bool}
+use lib.ListN.{length, getD, drop}
+use lib.Dec.{ltb}
+use Rattle.model.specs.Base.{Answer, refused, value, checks, allOf, sumOf, field, _>>_}
+use Rattle.model.specs.Netlist.{Gate, netByNet, gateCount, atNets, maxCount}
+use Rattle.model.specs.Read.{headerRules, inputsIn, gatesIn, outputsIn, gateRules, countIn, outputRules, netFields}
+use Rattle.model.specs.Refusals.{refusalNumber}
+use Rattle.model.specs.Calls.{padded}
+use Rattle.model.specs.declared.Refusal.{Refusal}
+use Rattle.netlist.specs.Answers.{noSurvey}
+use Rattle.netlist.specs.declared.header.Header.{Header}
+use Rattle.netlist.specs.declared.header.HeaderAnswer.{HeaderAnswer}
+use Rattle.netlist.specs.declared.header.HeaderAnswer.the-variants as header
+use Rattle.netlist.specs.declared.gates.GateAnswer.{GateAnswer}
+use Rattle.netlist.specs.declared.gates.GateAnswer.the-variants as gate
+use Rattle.netlist.specs.declared.gates.SumAnswer.{SumAnswer}
+use Rattle.netlist.specs.declared.gates.SumAnswer.the-variants as sum
+use Rattle.netlist.specs.declared.gates.GatesAnswer.{GatesAnswer}
+use Rattle.netlist.specs.declared.gates.GatesAnswer.the-variants as gates
+use Rattle.netlist.specs.declared.outputs.OutputAnswer.{OutputAnswer}
+use Rattle.netlist.specs.declared.outputs.OutputAnswer.the-variants as output
+use Rattle.netlist.specs.declared.outputs.OutputsAnswer.{OutputsAnswer}
+use Rattle.netlist.specs.declared.outputs.OutputsAnswer.the-variants as outputs
+use Rattle.netlist.specs.declared.SurveyAnswer.the-variants as survey
+use Rattle.netlist.specs.declared.Surveyed.{Surveyed}
+
+-- I, G and U as the header has them
+abbrev pub headerIn : List ℕ → Header
+headerIn bs = record { inputs = inputsIn bs; gates = gatesIn bs; outputs = outputsIn bs }
+
+abbrev pub headerOf : HeaderAnswer → Answer Header
+headerOf (header.Found h) = value h
+headerOf (header.Refused w) = refused (refusalNumber w)
+
+-- Header: its rules, then what it has
+unfoldable pub headerStep : List ℕ → Answer Header
+headerStep bs = checks (headerRules bs) >> value (headerIn bs)
+
+-- what the code keeps of a gate: its count and the length of its record
+pub record GateSize : Type 0 where
+  pub count : ℕ
+  pub size : ℕ
+
+abbrev pub gateOf : GateAnswer → Answer GateSize
+gateOf (gate.Gate n k) = value (record { count = n; size = k })
+gateOf (gate.Refused w) = refused (refusalNumber w)
+
+-- Gate by gate: the rules of one gate, then its count and the length of its record
+unfoldable pub gateStep : ℕ → List ℕ → List ℕ → Answer GateSize
+gateStep net cs bs = checks (gateRules net cs bs) >> value (record { count = countIn cs bs; size = 4 + 2 * getD bs 3 0 })
+
+-- `n` pins from a position on: whether each names a net below `net`, and the sum of their counts
+unfoldable pub pinsLower : ℕ → ℕ → ℕ → List ℕ → Bool
+pinsLower net n at bs = allOf (λ p. ltb p net) (netFields n (drop at bs))
+
+unfoldable pub pinSum : List ℕ → ℕ → ℕ → List ℕ → ℕ
+pinSum cs n at bs = sumOf (atNets cs 0 (netFields n (drop at bs)))
+
+-- a sum at most 2^62, or one over it
+abbrev pub SumIs : SumAnswer → ℕ → Type 0
+SumIs (sum.Sum n) x = (n ≡ x) × (x ≤ maxCount)
+SumIs sum.Over x = maxCount < x
+
+-- the gates were read up to a position, with their counts after the counts `cs` of the inputs in the array
+pub record GatesEnd (at : ℕ) (array file cs : List ℕ) (x : Answer (List Gate × List ℕ)) : Type 0 where
+  pub gates : List Gate
+  pub read : x ≡ value (gates, drop at file)
+  pub array-is : array ≡ padded (netByNet gateCount 0 cs gates)
+  pub within : at ≤ length file
+
+abbrev pub GatesAre : GatesAnswer → List ℕ → List ℕ → List ℕ → Answer (List Gate × List ℕ) → Type 0
+GatesAre (gates.Done at) array file cs x = GatesEnd at array file cs x
+GatesAre (gates.Refused w) array file cs x = x ≡ refused (refusalNumber w)
+
+-- what the code keeps of an output: its net and the sum with its count
+pub record OutputRead : Type 0 where
+  pub net : ℕ
+  pub total : ℕ
+
+abbrev pub outputOf : OutputAnswer → Answer OutputRead
+outputOf (output.Output n t) = value (record { net = n; total = t })
+outputOf (output.Refused w) = refused (refusalNumber w)
+
+-- Output by output: the rules of one output, then its net and the sum with its count
+unfoldable pub outputStep : ℕ → List ℕ → ℕ → ℕ → List ℕ → Answer OutputRead
+outputStep nets cs low total bs =
+    checks (outputRules nets cs low total bs) >> value (record { net = field 2 2 bs; total = total + getD cs (field 2 2 bs) 0 })
+
+-- the outputs were read up to a position, with their sum
+pub record OutputsEnd (at total : ℕ) (file cs : List ℕ) (x : Answer (List ℕ × List ℕ)) : Type 0 where
+  pub outputs : List ℕ
+  pub read : x ≡ value (outputs, drop at file)
+  pub total-is : total ≡ sumOf (atNets cs 0 outputs)
+  pub within : at ≤ length file
+
+abbrev pub OutputsAre : OutputsAnswer → List ℕ → List ℕ → Answer (List ℕ × List ℕ) → Type 0
+OutputsAre (outputs.Done at total) file cs x = OutputsEnd at total file cs x
+OutputsAre (outputs.Refused w) file cs x = x ≡ refused (refusalNumber w)
+
+-- the answer to a refused netlist
+abbrev pub refusedBy : Refusal → Surveyed
+refusedBy w = record { answer = survey.Refused w; survey = noSurvey }

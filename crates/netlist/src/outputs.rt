@@ -1,0 +1,87 @@
+// The output records of a netlist file, each read from the part that begins at its mark.
+ghost use mathlib.Core.Path.{_≡_};
+ghost use Prim.Native.Nat.{_^_, _≤_};
+ghost use lib.ListN.{length, drop};
+ghost use Rattle.model.specs.Read.{readOutputs};
+ghost use Rattle.netlist.specs.Reading.{outputOf, outputStep, OutputsAre};
+use model::MAX_COUNT;
+use model::Refusal;
+use records::inner::begins_with;
+use records::inner::u16_at;
+
+// The position after the last output, and the total.
+pub enum OutputsAnswer {
+    Done { at: usize, total: u64 },
+    Refused(Refusal),
+}
+
+// An output's net, and the total with it.
+pub enum OutputAnswer {
+    Output { net: usize, total: u64 },
+    Refused(Refusal),
+}
+
+// The outputs, from a position on.
+pub fn read_outputs(
+    netlist: &[u8],
+    from: usize,
+    outputs: usize,
+    nets: usize,
+    counts: &[u64; 512],
+) -> OutputsAnswer
+    requires { ⌜ (from ≤ length (now netlist)) × (nets ≤ 512) ⌝ }
+    ensures { λ r. ⌜ OutputsAre r (now (netlist .entry)) (now (counts .entry)) (readOutputs outputs nets (now (counts .entry)) 0 0 (drop from (now (netlist .entry)))) ⌝ }
+{
+    let mut left = outputs;
+    let mut at = from;
+    let mut low: usize = 0;
+    let mut total: u64 = 0;
+    while 0 < left {
+        let part = &netlist[at..];
+        let output = read_output(part, nets, low, total, counts);
+        match output {
+            OutputAnswer::Output { net, total: next } => {
+                low = net + 1;
+                total = next;
+            }
+            OutputAnswer::Refused(why) => {
+                return OutputsAnswer::Refused(why);
+            }
+        }
+        at += 4;
+        left -= 1;
+    }
+    OutputsAnswer::Done { at, total }
+}
+
+// One output, from the part of the file that begins at its mark. It names a net from `low` to below `nets`.
+fn read_output(
+    part: &[u8],
+    nets: usize,
+    low: usize,
+    total: u64,
+    counts: &[u64; 512],
+) -> OutputAnswer
+    requires { ⌜ (nets ≤ 512) × (total ≤ 2 ^ 62) ⌝ }
+    ensures { λ r. ⌜ outputOf r ≡ outputStep nets (now (counts .entry)) low total (now (part .entry)) ⌝ }
+{
+    let marked = begins_with(part, 4, 0x4F, 0x55);
+    if !marked {
+        return OutputAnswer::Refused(Refusal::OutputCut);
+    }
+    let net = u16_at(part, 2);
+    if nets <= net {
+        return OutputAnswer::Refused(Refusal::OutputNet);
+    }
+    if net < low {
+        return OutputAnswer::Refused(Refusal::OutputNet);
+    }
+    let count = counts[net];
+    if MAX_COUNT - total < count {
+        return OutputAnswer::Refused(Refusal::TotalOverLimit);
+    }
+    OutputAnswer::Output {
+        net,
+        total: total + count,
+    }
+}

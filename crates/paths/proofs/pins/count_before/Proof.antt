@@ -1,0 +1,57 @@
+-- `paths::pins::count_before` meets its contract: the sum so far is that of the counts before the pin at hand.
+-- Assumes nothing.
+use mathlib.Core.Path.{_≡_}
+use Prim.Native.Nat.{_-_, _≤_}
+use Rattle.paths.specs.Walk.{beforePin}
+use Rattle.paths.proofs.PinCases.{pins-before-cases}
+use Rattle.paths.proofs.pins.count_before.Statement.{statement}
+use Rattle.paths.proofs.pins.count_before.Tie as tie
+
+abbrev Inv-loop : tie.InvT-loop
+Inv-loop netlist counts pos net k sum₀ j₀ sum j = (j ≤ k) × (sum ≡ beforePin netlist counts pos j)
+
+abbrev μ-loop : tie.MeasureT-loop
+μ-loop netlist counts pos net k sum₀ j₀ sum j = k - j
+
+loop-holds : tie.Need-loop-holds Inv-loop μ-loop
+loop-holds c = search pins-before-cases
+
+pin-net-requires : tie.Need-pin-net-requires Inv-loop μ-loop
+pin-net-requires c κs = search pins-before-cases
+
+mul-sum : tie.Need-mul-sum Inv-loop μ-loop
+mul-sum c = search pins-before-cases
+
+element-copy-out-sum : tie.Need-element-copy-out-sum Inv-loop μ-loop
+element-copy-out-sum c = search pins-before-cases
+
+add-sum : tie.Need-add-sum Inv-loop μ-loop
+add-sum c = search pins-before-cases
+
+add-j : tie.Need-add-j Inv-loop μ-loop
+add-j c = search pins-before-cases
+
+loop-less : tie.Need-loop-less Inv-loop μ-loop
+loop-less c = search pins-before-cases
+
+loop-again : tie.Need-loop-again Inv-loop μ-loop
+loop-again c = search pins-before-cases
+
+returns : tie.Need-returns Inv-loop μ-loop
+returns c = search pins-before-cases
+
+pub count-before-spec : {M : Type 1} → statement M
+count-before-spec =
+    tie.close
+    (tie.spec
+    Inv-loop
+    μ-loop
+    loop-holds
+    pin-net-requires
+    mul-sum
+    element-copy-out-sum
+    add-sum
+    add-j
+    loop-less
+    loop-again
+    returns)

@@ -1,0 +1,11 @@
+pub mod RunLaws
+pub mod PartLaws
+pub mod WordLaws
+pub mod CutLaws
+pub mod AppendSteps
+pub mod Adding
+pub mod ShiftedSteps
+pub mod UnionSteps
+pub mod SizeSteps
+pub mod ContainsSteps
+pub mod SeparatedSteps

@@ -1,0 +1,3 @@
+-- Runs in lent words: what the functions of `inner` promise.
+pub mod Runs
+pub mod Answers

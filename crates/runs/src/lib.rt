@@ -1,0 +1,2 @@
+// Lists of runs in lent words, for our own crates only.
+pub mod inner;

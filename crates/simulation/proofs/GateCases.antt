@@ -1,0 +1,134 @@
+-- A gate's value and open pins, kind by kind.
+-- Assumes nothing.
+use mathlib.Core.Path.{_≡_, refl, ap, sym, _∙_}
+use mathlib.Core.Bool.{Bool, true, false, _&&_, not}
+use mathlib.Core.List.{List}
+use mathlib.Core.Logic.{⊎-elim}
+use Prim.Native.Nat.{ℕ, zero, suc, _-_, _*_, _%_, _^_, _≤_, _<_}
+use native.Mathlib.Nat.{mod-eq-of-lt}
+use native.Mathlib.Omega.{arith}
+use borrow.Author.Tests.{eq-eqb, ne-eqb}
+use lib.Bits.{bitAnd}
+use lib.Pow.{pow-lt, pow-pos}
+use lib.Dec.{T, leb, eqb, leb→le, eqb→eq}
+use Rattle.model.specs.Base.{bit}
+use Rattle.model.specs.Detect.{gateValue, isOpen}
+use Rattle.model.specs.Read.{kindOf, pinsFit, within}
+use Rattle.model.proofs.BoolLaws.{and-left, and-right, or-cases}
+use Rattle.model.proofs.ReadLaws.{pins-fit}
+use Rattle.simulation.specs.Packed.{bitsIn, parityOf, openSet, PackedPins}
+use Rattle.simulation.proofs.PackedLaws.{all-ones, some-one, odd-ones, open-zeros, open-ones, all-open, single, single-not}
+
+not-not : (b : Bool) → b ≡ not (not b)
+not-not true = refl
+not-not false = refl
+
+-- the pins of the other kinds are always open
+always : (k : ℕ) (vs : List Bool) (p : ℕ) → (k ≡ 3 → ⊥) → (k ≡ 4 → ⊥) → (k ≡ 5 → ⊥) → (k ≡ 6 → ⊥) → true ≡ isOpen (kindOf k) vs p
+always zero vs p n3 n4 n5 n6 = refl
+always (suc zero) vs p n3 n4 n5 n6 = refl
+always (suc (suc zero)) vs p n3 n4 n5 n6 = refl
+always (suc (suc (suc zero))) vs p n3 n4 n5 n6 = absurd (n3 refl)
+always (suc (suc (suc (suc zero)))) vs p n3 n4 n5 n6 = absurd (n4 refl)
+always (suc (suc (suc (suc (suc zero))))) vs p n3 n4 n5 n6 = absurd (n5 refl)
+always (suc (suc (suc (suc (suc (suc zero)))))) vs p n3 n4 n5 n6 = absurd (n6 refl)
+always (suc (suc (suc (suc (suc (suc (suc zero))))))) vs p n3 n4 n5 n6 = refl
+always (suc (suc (suc (suc (suc (suc (suc (suc zero)))))))) vs p n3 n4 n5 n6 = refl
+always (suc (suc (suc (suc (suc (suc (suc (suc (suc k))))))))) vs p n3 n4 n5 n6 = refl
+
+eighth : (k : ℕ) → 1 ≤ k → k ≤ 8 → (k ≡ 1 → ⊥) → (k ≡ 2 → ⊥) → (k ≡ 3 → ⊥) → (k ≡ 4 → ⊥) → (k ≡ 5 → ⊥) → (k ≡ 6 → ⊥) → (k ≡ 7 → ⊥) → k ≡ 8
+eighth zero a b n1 n2 n3 n4 n5 n6 n7 = absurd (omega arith)
+eighth (suc zero) a b n1 n2 n3 n4 n5 n6 n7 = absurd (n1 refl)
+eighth (suc (suc zero)) a b n1 n2 n3 n4 n5 n6 n7 = absurd (n2 refl)
+eighth (suc (suc (suc zero))) a b n1 n2 n3 n4 n5 n6 n7 = absurd (n3 refl)
+eighth (suc (suc (suc (suc zero)))) a b n1 n2 n3 n4 n5 n6 n7 = absurd (n4 refl)
+eighth (suc (suc (suc (suc (suc zero))))) a b n1 n2 n3 n4 n5 n6 n7 = absurd (n5 refl)
+eighth (suc (suc (suc (suc (suc (suc zero)))))) a b n1 n2 n3 n4 n5 n6 n7 = absurd (n6 refl)
+eighth (suc (suc (suc (suc (suc (suc (suc zero))))))) a b n1 n2 n3 n4 n5 n6 n7 = absurd (n7 refl)
+eighth (suc (suc (suc (suc (suc (suc (suc (suc k)))))))) a b n1 n2 n3 n4 n5 n6 n7 = past k b
+  where
+    past : (k : ℕ) → suc (suc (suc (suc (suc (suc (suc (suc k))))))) ≤ 8 → suc (suc (suc (suc (suc (suc (suc (suc k))))))) ≡ 8
+    past k b = omega arith
+
+module _ (kind pins packed : ℕ) (h : PackedPins kind pins packed) where
+  pub few : pins ≤ 8
+  few = leb→le pins 8 (and-right (leb 1 pins) (leb pins 8) (pins-fit kind pins (h .fits)))
+
+  -- buffer and NOT have one pin
+  one-pin : kind ≤ 2 → pins ≡ 1
+  one-pin k =
+      ⊎-elim (λ t. eqb→eq pins 1 (and-right (leb kind 2) (eqb pins 1) t))
+      (λ t. absurd (omega (arith, leb→le 3 kind (and-left (leb 3 kind) (within 2 8 pins) t))))
+      (or-cases (leb kind 2 && eqb pins 1) (leb 3 kind && within 2 8 pins) (h .fits))
+
+  pub value-1 : kind ≡ 1 → not (eqb packed 0) ≡ gateValue (kindOf kind) (bitsIn pins packed)
+  value-1 e =
+      let p : pins ≡ 1 = one-pin (omega arith) in
+      let l : packed < 2 = rw p at (h .small) in
+      rw (e, p) (single packed l)
+
+  pub value-2 : kind ≡ 2 → eqb packed 0 ≡ gateValue (kindOf kind) (bitsIn pins packed)
+  value-2 e =
+      let p : pins ≡ 1 = one-pin (omega arith) in
+      let l : packed < 2 = rw p at (h .small) in
+      rw (e, p) (single-not packed l)
+
+  module _ (full : ℕ) (f : full ≡ 2 ^ pins - 1) where
+    pub value-3 : kind ≡ 3 → eqb packed full ≡ gateValue (kindOf kind) (bitsIn pins packed)
+    value-3 e = rw (e, f) (all-ones pins packed few (h .small))
+
+    pub value-4 : kind ≡ 4 → not (eqb packed full) ≡ gateValue (kindOf kind) (bitsIn pins packed)
+    value-4 e = rw (e, f) (ap not (all-ones pins packed few (h .small)))
+
+    pub open-and : (r : ℕ) → r ≡ openSet full (full - packed) → (kind ≡ 3) → (p : ℕ) → p < pins → bit r p ≡ isOpen (kindOf kind) (bitsIn pins packed) p
+    open-and r q e p k = rw (e, q, f) (open-zeros pins packed few (h .small) p k)
+
+    pub open-nand : (r : ℕ) → r ≡ openSet full (full - packed) → (kind ≡ 4) → (p : ℕ) → p < pins → bit r p ≡ isOpen (kindOf kind) (bitsIn pins packed) p
+    open-nand r q e p k = rw (e, q, f) (open-zeros pins packed few (h .small) p k)
+
+    pub open-or : (r : ℕ) → r ≡ openSet full packed → (kind ≡ 5) → (p : ℕ) → p < pins → bit r p ≡ isOpen (kindOf kind) (bitsIn pins packed) p
+    open-or r q e p k = rw (e, q, f) (open-ones pins packed few (h .small) p k)
+
+    pub open-nor : (r : ℕ) → r ≡ openSet full packed → (kind ≡ 6) → (p : ℕ) → p < pins → bit r p ≡ isOpen (kindOf kind) (bitsIn pins packed) p
+    open-nor r q e p k = rw (e, q, f) (open-ones pins packed few (h .small) p k)
+
+    pub open-rest : (kind ≡ 3 → ⊥) → (kind ≡ 4 → ⊥) → (kind ≡ 5 → ⊥) → (kind ≡ 6 → ⊥)
+        → (p : ℕ) → p < pins → bit full p ≡ isOpen (kindOf kind) (bitsIn pins packed) p
+    open-rest n3 n4 n5 n6 p k = ap (λ x. bit x p) f ∙ all-open pins p few k ∙ always kind (bitsIn pins packed) p n3 n4 n5 n6
+
+  pub value-5 : kind ≡ 5 → not (eqb packed 0) ≡ gateValue (kindOf kind) (bitsIn pins packed)
+  value-5 e = rw e (some-one pins packed few (h .small))
+
+  pub value-6 : kind ≡ 6 → eqb packed 0 ≡ gateValue (kindOf kind) (bitsIn pins packed)
+  value-6 e = rw e (not-not (eqb packed 0) ∙ ap not (some-one pins packed few (h .small)))
+
+  pub value-7 : (r : Bool) → r ≡ parityOf packed → kind ≡ 7 → r ≡ gateValue (kindOf kind) (bitsIn pins packed)
+  value-7 r q e = rw e (q ∙ odd-ones pins packed few (h .small))
+
+  pub value-8 : (r : Bool) → r ≡ parityOf packed
+      → (kind ≡ 1 → ⊥) → (kind ≡ 2 → ⊥) → (kind ≡ 3 → ⊥) → (kind ≡ 4 → ⊥) → (kind ≡ 5 → ⊥) → (kind ≡ 6 → ⊥) → (kind ≡ 7 → ⊥)
+      → not r ≡ gateValue (kindOf kind) (bitsIn pins packed)
+  value-8 r q n1 n2 n3 n4 n5 n6 n7 =
+      let e : kind ≡ 8 = eighth kind (h .lowKind) (h .highKind) n1 n2 n3 n4 n5 n6 n7 in
+      rw e (ap not (q ∙ odd-ones pins packed few (h .small)))
+
+-- the set of open pins, case by case
+module _ (full c : ℕ) where
+  pub none-controls : c ≡ 0 → full ≡ openSet full c
+  unfolding openSet
+  none-controls e = rw e refl
+
+  pub one-controls : (c ≡ 0 → ⊥) → bitAnd c (c - 1) ≡ 0 → c ≡ openSet full c
+  unfolding openSet
+  one-controls n e = rw (ne-eqb c 0 n, eq-eqb (bitAnd c (c - 1)) 0 e, openSet) refl
+
+  pub more-control : (c ≡ 0 → ⊥) → (bitAnd c (c - 1) ≡ 0 → ⊥) → 0 ≡ openSet full c
+  unfolding openSet
+  more-control n e = rw (ne-eqb c 0 n, ne-eqb (bitAnd c (c - 1)) 0 e, openSet) refl
+
+-- all pins of a gate
+pub eight-pins : (pins : ℕ) → pins ≡ 8 → 255 ≡ 2 ^ pins - 1
+eight-pins pins e = rw e refl
+
+pub shifted-one : (pins : ℕ) → pins < 8 → (1 * 2 ^ pins) % 256 ≡ 2 ^ pins
+shifted-one pins h = let m : 1 * 2 ^ pins ≡ 2 ^ pins = omega arith in rw (m, mod-eq-of-lt (pow-lt h))

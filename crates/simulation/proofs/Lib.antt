@@ -1,0 +1,7 @@
+pub mod PackedLaws
+pub mod Tables
+pub mod GateCases
+pub mod PackCases
+pub mod BitLaws
+pub mod RecordCases
+pub mod OpenCases

@@ -1,0 +1,29 @@
+-- `simulation::inner::gates::all_pins` meets its contract: below 8 pins the shifted 1 does not leave the byte.
+-- Assumes nothing.
+use native.Mathlib.Omega.{arith}
+use lib.Pow.{pow-pos}
+use Rattle.simulation.proofs.GateCases.{eight-pins, shifted-one}
+use borrow.Author.Needs.{needs}
+use Rattle.simulation.proofs.inner.gates.all_pins.Statement.{statement}
+use Rattle.simulation.proofs.inner.gates.all_pins.Tie as tie
+use Rattle.simulation.proofs.inner.gates.all_pins.Reads as reads
+use Rattle.simulation.proofs.inner.gates.all_pins.Lts as lts
+
+-- src/gates.rt:283:9
+returns : tie.Need-returns
+returns c = eight-pins (c .before .args .pins) (c .if1 .taken)
+
+-- src/gates.rt:285:6
+shl-result : tie.Need-shl-result
+shl-result c = search needs
+
+-- src/gates.rt:285:5
+sub-result : tie.Need-sub-result
+sub-result c = rw (shifted-one (c .before .args .pins) (omega (arith, c .before .pre, c .if1 .left))) (pow-pos (c .before .args .pins))
+
+-- src/gates.rt:278:1
+returns-2 : tie.Need-returns-2
+returns-2 c = rw (shifted-one (c .before .args .pins) (omega (arith, c .before .pre, c .if1 .left)))
+
+pub all-pins-spec : {M : Type 1} → statement M
+all-pins-spec = tie.close (tie.spec returns shl-result sub-result returns-2)

@@ -1,0 +1,5 @@
+pub mod PlaceLaws
+pub mod ZeroSteps
+pub mod CheckSteps
+pub mod SoundLaws
+pub mod CallSteps

@@ -1,0 +1,197 @@
+// A store of 4,098 words, for our own crates: its checks, sums and searches.
+// Its run places are the words after the head: rising runs from run place 0 on, falling runs from MAX_RUNS on.
+ghost use mathlib.Core.Path.{_≡_};
+ghost use Prim.Native.Nat.{_+_, _^_, _≤_};
+ghost use lib.Dec.{eqb, leb};
+ghost use lib.ListN.{length, take, drop, replicate};
+ghost use Rattle.model.specs.Base.{allOf, checks};
+ghost use Rattle.model.specs.Runs.{inRuns, separatedRuns};
+ghost use Rattle.model.specs.Store.{maxRuns, storeWords, bothEdges, runCount, storeRuns, wordsAfter, storeRules};
+ghost use Rattle.paths.specs.Answers.{modelEdge};
+ghost use Rattle.store.specs.Answers.{checkOf, totalsOf, totalsIn, totalsOn, totalsBoth, heldOf, faultOn};
+ghost use Rattle.store.specs.Sound.{FewRuns, SoundWords};
+use crate::HeldAnswer;
+use crate::TotalsAnswer;
+use model::HEAD_WORDS;
+use model::MAX_RUNS;
+use model::PLACE_WORDS;
+use model::Refusal;
+use paths::Edge;
+use paths::FaultNo;
+use paths::edge_of;
+use paths::path_of;
+use runs::inner::contains;
+use runs::inner::separated;
+use runs::inner::size;
+
+// The words with the number of an edge's runs.
+pub const RISING_COUNT: usize = 0;
+
+pub const FALLING_COUNT: usize = 1;
+
+// What the checks of a store's words answer.
+pub enum StoreCheck {
+    Sound,
+    Refused(Refusal),
+}
+
+// The number of faults held of each edge.
+pub struct StoreTotals {
+    pub rising: u64,
+    pub falling: u64,
+}
+
+// Whether the n words from word `at` on are zero.
+fn zero_words(words: &[u64], at: usize, n: usize) -> bool
+    requires { ⌜ at + n ≤ length (now words) ⌝ }
+    ensures { λ r. ⌜ r ≡ allOf (λ w. eqb w 0) (take n (drop at (now (words .entry)))) ⌝ }
+{
+    let mut place = at;
+    let mut left = n;
+    while 0 < left {
+        if words[place] != 0 {
+            return false;
+        }
+        place += 1;
+        left -= 1;
+    }
+    true
+}
+
+// Whether neither edge has more runs than places.
+fn few_runs(words: &[u64]) -> bool
+    requires { ⌜ length (now words) ≡ storeWords ⌝ }
+    ensures { λ r. ⌜ r ≡ bothEdges (λ e. leb (runCount (now (words .entry)) e) maxRuns) ⌝ }
+{
+    let rising = words[RISING_COUNT] as usize;
+    let falling = words[FALLING_COUNT] as usize;
+    rising <= MAX_RUNS && falling <= MAX_RUNS
+}
+
+// Whether the runs of both edges lie within 1 to `paths`, ascending and neither adjacent nor overlapping.
+fn separated_runs(words: &[u64], paths: u64) -> bool
+    requires { ⌜ FewRuns (now words) ⌝ }
+    requires { ⌜ paths ≤ 2 ^ 62 ⌝ }
+    ensures { λ r. ⌜ r ≡ bothEdges (λ e. separatedRuns paths 1 (storeRuns (now (words .entry)) e)) ⌝ }
+{
+    let rising = words[RISING_COUNT] as usize;
+    let falling = words[FALLING_COUNT] as usize;
+    let places = &words[HEAD_WORDS..];
+    separated(places, 0, rising, paths) && separated(places, MAX_RUNS, MAX_RUNS + falling, paths)
+}
+
+// Whether the words past the last run of each edge are zero.
+fn zeros_after(words: &[u64]) -> bool
+    requires { ⌜ FewRuns (now words) ⌝ }
+    ensures { λ r. ⌜ r ≡ bothEdges (λ e. allOf (λ w. eqb w 0) (wordsAfter (now (words .entry)) e)) ⌝ }
+{
+    let rising = 2 * words[RISING_COUNT] as usize;
+    let falling = 2 * words[FALLING_COUNT] as usize;
+    let second = HEAD_WORDS + PLACE_WORDS;
+    zero_words(words, HEAD_WORDS + rising, PLACE_WORDS - rising)
+        && zero_words(words, second + falling, PLACE_WORDS - falling)
+}
+
+// The checks of a store's words, for path numbers 1 to `paths`.
+pub fn check_words(words: &[u64], paths: u64) -> StoreCheck
+    requires { ⌜ length (now words) ≡ storeWords ⌝ }
+    requires { ⌜ paths ≤ 2 ^ 62 ⌝ }
+    ensures { λ r. ⌜ checkOf r ≡ checks (storeRules paths (now (words .entry))) ⌝ }
+{
+    if !few_runs(words) {
+        return StoreCheck::Refused(Refusal::RunCount);
+    }
+    if !separated_runs(words, paths) {
+        return StoreCheck::Refused(Refusal::RunRange);
+    }
+    if !zeros_after(words) {
+        return StoreCheck::Refused(Refusal::WordPastRuns);
+    }
+    StoreCheck::Sound
+}
+
+// The number of faults of each edge that sound words hold.
+pub fn totals_of(words: &[u64]) -> StoreTotals
+    requires { ⌜ SoundWords (2 ^ 62) (now words) ⌝ }
+    ensures { λ r. ⌜ totalsIn r ≡ totalsBoth (now (words .entry)) ⌝ }
+{
+    let places = &words[HEAD_WORDS..];
+    let rising = size(places, 0, words[RISING_COUNT] as usize);
+    let falling = size(places, MAX_RUNS, MAX_RUNS + words[FALLING_COUNT] as usize);
+    StoreTotals { rising, falling }
+}
+
+// The totals of a store's words, for path numbers 1 to `paths`.
+pub fn totals_on(words: &[u64], paths: u64) -> TotalsAnswer
+    requires { ⌜ length (now words) ≡ storeWords ⌝ }
+    requires { ⌜ paths ≤ 2 ^ 62 ⌝ }
+    ensures { λ r. ⌜ totalsOf r ≡ totalsOn paths (now (words .entry)) ⌝ }
+{
+    match check_words(words, paths) {
+        StoreCheck::Refused(why) => TotalsAnswer::Refused(why),
+        StoreCheck::Sound => {
+            let held = totals_of(words);
+            TotalsAnswer::Totals {
+                rising: held.rising,
+                falling: held.falling,
+            }
+        }
+    }
+}
+
+// Whether sound words hold a path's fault of an edge.
+pub fn held(words: &[u64], edge: Edge, path: u64) -> bool
+    requires { ⌜ SoundWords (2 ^ 62) (now words) ⌝ }
+    ensures { λ r. ⌜ r ≡ inRuns (storeRuns (now (words .entry)) (modelEdge edge)) path ⌝ }
+{
+    let places = &words[HEAD_WORDS..];
+    match edge {
+        Edge::Rising => contains(places, 0, words[RISING_COUNT] as usize, path),
+        Edge::Falling => {
+            contains(
+                places,
+                MAX_RUNS,
+                MAX_RUNS + words[FALLING_COUNT] as usize,
+                path,
+            )
+        }
+    }
+}
+
+// Whether a store's words hold a fault, for path numbers 1 to `paths`.
+pub fn fault_on(words: &[u64], paths: u64, fault: FaultNo) -> HeldAnswer
+    requires { ⌜ length (now words) ≡ storeWords ⌝ }
+    requires { ⌜ paths ≤ 2 ^ 62 ⌝ }
+    ensures { λ r. ⌜ heldOf r ≡ faultOn paths (now (words .entry)) (fault .0) ⌝ }
+{
+    let number = fault.0;
+    match check_words(words, paths) {
+        StoreCheck::Refused(why) => HeldAnswer::Refused(why),
+        StoreCheck::Sound => {
+            if number < 1 {
+                return HeldAnswer::Refused(Refusal::NoSuchNumber);
+            }
+            if 2 * paths < number {
+                return HeldAnswer::Refused(Refusal::NoSuchNumber);
+            }
+            let path = path_of(FaultNo(number));
+            let edge = edge_of(FaultNo(number));
+            if held(words, edge, path.0) {
+                HeldAnswer::Held
+            } else {
+                HeldAnswer::NotHeld
+            }
+        }
+    }
+}
+
+// Makes every word zero.
+pub fn clear(words: &mut [u64])
+    ensures { λ _. ⌜ now (words .exit) ≡ replicate (length (now (words .entry))) 0 ⌝ }
+{
+    let mut i = 0;
+    while i < words.len() {
+        words[i] = 0;
+        i += 1;
+    }
+}
