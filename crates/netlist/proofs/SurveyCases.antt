@@ -3,15 +3,14 @@
 use Prim.Native.Nat.{ℕ, _+_, _≤_, _<_}
 use mathlib.Core.Path.{_≡_, refl, sym, ap, _∙_}
 use mathlib.Core.List.{List, [], _∷_}
-use mathlib.Core.Bool.{_&&_}
 use native.Mathlib.Omega.{arith}
 use borrow.Author.Needs.{needs}
 use borrow.Author.Tests.{eq-eqb, ne-eqb}
-use lib.ListN.{length, drop, replicate, getD, length-drop, length-replicate}
+use lib.ListN.{length, drop, replicate, length-drop, length-replicate}
 use lib.Dec.{leb, eqb, leb→le}
 use Rattle.model.specs.Base.{Answer, refused, value, _>>=_, _>>_, checks, sumOf}
 use Rattle.model.specs.Netlist.{Netlist, netByNet, gateCount, atNets, counts, pathTotal}
-use Rattle.model.specs.Read.{readNetlist, readGates, readOutputs, headerRules, within, inputsIn, gatesIn, outputsIn}
+use Rattle.model.specs.Read.{readNetlist, readGates, readOutputs, headerRules, marked, within, inputsIn, gatesIn, outputsIn}
 use Rattle.model.specs.Refusals.{refusalNumber}
 use Rattle.model.specs.Calls.{padded, surveyCall, surveyOf}
 use Rattle.model.specs.declared.Refusal.{Refusal}
@@ -21,7 +20,7 @@ use Rattle.model.proofs.BoolLaws.{and-left, and4}
 use Rattle.model.proofs.NetLaws.{length-netByNet}
 use Rattle.model.proofs.ReadLaws.{gates-length, outputs-ok, outputs-fit}
 use Rattle.netlist.specs.Answers.{SurveyTrue}
-use Rattle.netlist.specs.Reading.{headerStep, headerIn, headerOf, GatesAre, GatesEnd, OutputsAre, OutputsEnd, refusedBy}
+use Rattle.netlist.specs.Reading.{headerStep, HeaderRead, headerIn, headerOf, GatesAre, GatesEnd, OutputsAre, OutputsEnd, refusedBy}
 use Rattle.netlist.specs.declared.gates.GatesAnswer.{GatesAnswer}
 use Rattle.netlist.specs.declared.gates.GatesAnswer.the-variants as gates
 use Rattle.netlist.specs.declared.outputs.OutputsAnswer.{OutputsAnswer}
@@ -54,11 +53,11 @@ from-array u n array cs bs p e = rw (p, ← e) (outputs-pad u cs 0 0 bs)
 total-from : (u n : ℕ) (array cs bs us rest : List ℕ) → array ≡ padded cs → length cs ≡ n → readOutputs u n cs 0 0 bs ≡ value (us, rest) → sumOf (atNets array 0 us) ≡ sumOf (atNets cs 0 us)
 total-from u n array cs bs us rest p e r = rw p (pad-sum cs us (below (length cs) 0 us (rw (← e) at (outputs-ok u n cs 0 0 bs (us, rest) r))))
 
-module _ (s array : List ℕ) (i g u : ℕ) (hp : checks (headerRules s) ≡ value tt) (ei : i ≡ inputsIn s) (eg : g ≡ gatesIn s) (eu : u ≡ outputsIn s)
+module _ (s array : List ℕ) (i g u : ℕ) (h : HeaderRead s i g u)
     (a : GatesAnswer) (ga : GatesAre a array s (replicate i 1) (readGates g (replicate i 1) (drop 8 s))) where
   opened : readNetlist s ≡ body s i g u
   unfolding readNetlist body
-  opened = rw (hp, ei, eg, eu) refl
+  opened = rw (h .passed, h .inputsAre, h .gatesAre, h .outputsAre) refl
 
   pub body-gates : (r : Surveyed) (w : Refusal) → a ≡ gates.Refused w → r ≡ refusedBy w → SurveyTrue r s
   unfolding body
@@ -131,53 +130,32 @@ header-refused s n e = go (checks (headerRules s)) (headerIn s) e
     go (refused k) v e = let z : k ≡ n = cc in ap (λ m. refused m) z
     go (value u) v e = absurd (not-refused e)
 
--- what a header that was found passed
-record HeaderFound (s : List ℕ) (h : Header) : Type 0 where
-  passed : checks (headerRules s) ≡ value tt
-  is : headerIn s ≡ h
-  long : 8 ≤ length s
-  few : inputsIn s + gatesIn s ≤ 512
-
-header-legal : (s : List ℕ) (h : Header) → value h ≡ headerStep s → HeaderFound s h
+header-legal : (s : List ℕ) (h : Header) → value h ≡ headerStep s → HeaderRead s (h .inputs) (h .gates) (h .outputs)
 unfolding headerStep
 header-legal s h e =
     let v : Answer Header = value (headerIn s) in
     let p = then-first (checks (headerRules s)) v (sym e) in
+    let is : h ≡ headerIn s = sym (value-inj (then-second (checks (headerRules s)) v (sym e))) in
     let a = checks→ (headerRules s) p in
     let q = and4 (within 1 64 (inputsIn s)) (leb (gatesIn s) 511) (leb (inputsIn s + gatesIn s) 512) (within 1 64 (outputsIn s)) (a .1 .0) in
+    let i = ap (λ (x : Header). x .inputs) is in
+    let g = ap (λ (x : Header). x .gates) is in
     record {
       passed = p .is;
-      is = value-inj (then-second (checks (headerRules s)) v (sym e));
-      long = leb→le 8 (length s) (and-left (leb 8 (length s)) (eqb (getD s 0 0) 0x4E && eqb (getD s 1 0) 0x4C) (a .0));
-      few = leb→le (inputsIn s + gatesIn s) 512 (q .2);
+      inputsAre = i;
+      gatesAre = g;
+      outputsAre = ap (λ (x : Header). x .outputs) is;
+      long = leb→le 8 (length s) (and-left (leb 8 (length s)) (marked 0x4E 0x4C s) (a .0));
+      fewNets = omega (arith, i, g, leb→le (inputsIn s + gatesIn s) 512 (q .2));
     }
 
 module _ (s : List ℕ) (a : HeaderAnswer) (ha : headerOf a ≡ headerStep s) where
   pub survey-header : (r : Surveyed) (w : Refusal) → a ≡ header.Refused w → r ≡ refusedBy w → SurveyTrue r s
   survey-header r w h e = refused-surveys r w s e (refused-first s (refusalNumber w) (header-refused s (refusalNumber w) (rw h at ha)))
 
-  module _ (h : Header) (f : a ≡ header.Found h) where
-    found : HeaderFound s h
-    found = header-legal s h (rw f at ha)
-
-    pub found-passed : checks (headerRules s) ≡ value tt
-    found-passed = found .passed
-
-    pub found-inputs : h .inputs ≡ inputsIn s
-    found-inputs = ap (λ (x : Header). x .inputs) (sym (found .is))
-
-    pub found-gates : h .gates ≡ gatesIn s
-    found-gates = ap (λ (x : Header). x .gates) (sym (found .is))
-
-    pub found-outputs : h .outputs ≡ outputsIn s
-    found-outputs = ap (λ (x : Header). x .outputs) (sym (found .is))
-
-    pub found-long : 8 ≤ length s
-    found-long = found .long
-
-    pub found-nets : h .inputs + h .gates ≤ 512
-    found-nets = omega (arith, found .few, found-inputs, found-gates)
+  pub survey-found : (h : Header) → a ≡ header.Found h → HeaderRead s (h .inputs) (h .gates) (h .outputs)
+  survey-found h f = header-legal s h (rw f at ha)
 
 pub ruleset body-cases = (done-within, body-gates, body-outputs, body-left, body-legal, needs)
 
-pub ruleset survey-cases = (found-passed, found-inputs, found-gates, found-outputs, found-long, found-nets, survey-header, needs)
+pub ruleset survey-cases = (survey-header, survey-found, needs)

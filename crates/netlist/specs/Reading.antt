@@ -7,7 +7,7 @@ use mathlib.Core.Bool.{Bool}
 use lib.ListN.{length, getD, drop}
 use lib.Dec.{ltb}
 use Rattle.model.specs.Base.{Answer, refused, value, checks, allOf, sumOf, field, _>>_}
-use Rattle.model.specs.Netlist.{Gate, netByNet, gateCount, atNets, maxCount}
+use Rattle.model.specs.Netlist.{Gate, netByNet, gateCount, atNets, maxNets, maxCount}
 use Rattle.model.specs.Read.{headerRules, inputsIn, gatesIn, outputsIn, gateRules, countIn, outputRules, netFields}
 use Rattle.model.specs.Refusals.{refusalNumber}
 use Rattle.model.specs.Calls.{padded}
@@ -40,6 +40,15 @@ headerOf (header.Refused w) = refused (refusalNumber w)
 -- Header: its rules, then what it has
 unfoldable pub headerStep : List ℕ → Answer Header
 headerStep bs = checks (headerRules bs) >> value (headerIn bs)
+
+-- I, G and U of a header that passed
+pub record HeaderRead (file : List ℕ) (inputs gates outputs : ℕ) : Type 0 where
+  pub passed : checks (headerRules file) ≡ value tt
+  pub inputsAre : inputs ≡ inputsIn file
+  pub gatesAre : gates ≡ gatesIn file
+  pub outputsAre : outputs ≡ outputsIn file
+  pub long : 8 ≤ length file
+  pub fewNets : inputs + gates ≤ maxNets
 
 -- what the code keeps of a gate: its count and the length of its record
 pub record GateSize : Type 0 where

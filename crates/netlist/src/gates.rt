@@ -13,24 +13,24 @@ use records::inner::u16_at;
 use records::inner::wide;
 
 // The position after the last gate.
-pub enum GatesAnswer {
+pub(crate) enum GatesAnswer {
     Done(usize),
     Refused(Refusal),
 }
 
 // A gate's count and the length of its record.
-pub enum GateAnswer {
+pub(crate) enum GateAnswer {
     Gate { count: u64, size: usize },
     Refused(Refusal),
 }
 
-pub enum SumAnswer {
+pub(crate) enum SumAnswer {
     Sum(u64),
     Over,
 }
 
 // The counts with only the inputs filled in.
-pub fn input_counts(inputs: usize) -> [u64; 512]
+pub(crate) fn input_counts(inputs: usize) -> [u64; 512]
     requires { ⌜ inputs ≤ 512 ⌝ }
     ensures { λ r. ⌜ r ≡ padded (replicate inputs 1) ⌝ }
 {
@@ -44,7 +44,7 @@ pub fn input_counts(inputs: usize) -> [u64; 512]
 }
 
 // The gates, from position 8 on; the count of each goes into the array.
-pub fn read_gates(
+pub(crate) fn read_gates(
     netlist: &[u8],
     inputs: usize,
     gates: usize,

@@ -6,18 +6,18 @@ use model::Refusal;
 use records::inner::begins_with;
 use records::inner::u16_at;
 
-pub struct Header {
-    pub inputs: usize,
-    pub gates: usize,
-    pub outputs: usize,
+pub(crate) struct Header {
+    pub(crate) inputs: usize,
+    pub(crate) gates: usize,
+    pub(crate) outputs: usize,
 }
 
-pub enum HeaderAnswer {
+pub(crate) enum HeaderAnswer {
     Found(Header),
     Refused(Refusal),
 }
 
-pub fn read_header(netlist: &[u8]) -> HeaderAnswer
+pub(crate) fn read_header(netlist: &[u8]) -> HeaderAnswer
     ensures { λ r. ⌜ headerOf r ≡ headerStep (now (netlist .entry)) ⌝ }
 {
     let marked = begins_with(netlist, 8, 0x4E, 0x4C);

@@ -5,12 +5,8 @@ pub mod inner;
 mod outputs;
 
 ghost use mathlib.Core.Path.{_≡_};
-ghost use Prim.Native.Nat.{_+_, _≤_};
-ghost use lib.ListN.{length};
-ghost use Rattle.model.specs.Base.{value, checks};
-ghost use Rattle.model.specs.Read.{headerRules, inputsIn, gatesIn, outputsIn};
 ghost use Rattle.netlist.specs.Answers.{SurveyTrue};
-ghost use Rattle.netlist.specs.Reading.{refusedBy};
+ghost use Rattle.netlist.specs.Reading.{HeaderRead, refusedBy};
 use crate::gates::GatesAnswer;
 use crate::gates::input_counts;
 use crate::gates::read_gates;
@@ -55,7 +51,7 @@ pub fn survey(netlist: &[u8]) -> Surveyed
 
 // The survey of what follows a header that passed.
 fn survey_body(netlist: &[u8], inputs: usize, gates: usize, outputs: usize) -> Surveyed
-    requires { ⌜ (checks (headerRules (now netlist)) ≡ value tt) × (inputs ≡ inputsIn (now netlist)) × (gates ≡ gatesIn (now netlist)) × (outputs ≡ outputsIn (now netlist)) × (8 ≤ length (now netlist)) × (inputs + gates ≤ 512) ⌝ }
+    requires { ⌜ HeaderRead (now netlist) inputs gates outputs ⌝ }
     ensures { λ r. ⌜ SurveyTrue r (now (netlist .entry)) ⌝ }
 {
     let mut counts = input_counts(inputs);

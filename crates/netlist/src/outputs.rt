@@ -10,19 +10,19 @@ use records::inner::begins_with;
 use records::inner::u16_at;
 
 // The position after the last output, and the total.
-pub enum OutputsAnswer {
+pub(crate) enum OutputsAnswer {
     Done { at: usize, total: u64 },
     Refused(Refusal),
 }
 
 // An output's net, and the total with it.
-pub enum OutputAnswer {
+pub(crate) enum OutputAnswer {
     Output { net: usize, total: u64 },
     Refused(Refusal),
 }
 
 // The outputs, from a position on.
-pub fn read_outputs(
+pub(crate) fn read_outputs(
     netlist: &[u8],
     from: usize,
     outputs: usize,

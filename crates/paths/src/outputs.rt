@@ -9,7 +9,7 @@ use crate::pins::Pick;
 use records::inner::u16_at;
 
 // The output that path `number` ends at, with its net and the number there. The outputs' records begin at `from`.
-pub fn pick_output(
+pub(crate) fn pick_output(
     netlist: &[u8],
     counts: &[u64; 512],
     from: usize,
@@ -47,7 +47,7 @@ pub fn pick_output(
 }
 
 // The sum of the counts of the outputs before a place.
-pub fn outputs_before(
+pub(crate) fn outputs_before(
     netlist: &[u8],
     counts: &[u64; 512],
     from: usize,

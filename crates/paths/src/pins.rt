@@ -7,14 +7,14 @@ use records::inner::u16_at;
 use records::inner::wide;
 
 // The pin of a gate, or the place of an output, that a number goes through; its net, and the number there.
-pub struct Pick {
-    pub pin: usize,
-    pub net: usize,
-    pub number: u64,
+pub(crate) struct Pick {
+    pub(crate) pin: usize,
+    pub(crate) net: usize,
+    pub(crate) number: u64,
 }
 
 // The net at pin k of the gate record at `pos`.
-pub fn pin_net(netlist: &[u8], pos: usize, k: usize) -> usize
+pub(crate) fn pin_net(netlist: &[u8], pos: usize, k: usize) -> usize
     requires { ⌜ pos + 4 + (2 * k + 2) ≤ length (now netlist) ⌝ }
     ensures { λ r. ⌜ r ≡ pinAt (now (netlist .entry)) pos k ⌝ }
 {
@@ -22,7 +22,13 @@ pub fn pin_net(netlist: &[u8], pos: usize, k: usize) -> usize
 }
 
 // The pin of the gate record at `pos` that partial path `number` goes through.
-pub fn pick_pin(netlist: &[u8], counts: &[u64; 512], pos: usize, net: usize, number: u64) -> Pick
+pub(crate) fn pick_pin(
+    netlist: &[u8],
+    counts: &[u64; 512],
+    pos: usize,
+    net: usize,
+    number: u64,
+) -> Pick
     requires { ⌜ (net < 512) × GateAt (now netlist) pos net ⌝ }
     ensures { λ r. ⌜ r ≡ pickAt (now (netlist .entry)) (now (counts .entry)) pos number ⌝ }
 {
@@ -51,7 +57,13 @@ pub fn pick_pin(netlist: &[u8], counts: &[u64; 512], pos: usize, net: usize, num
 }
 
 // The sum of the counts at the pins before pin k of the gate record at `pos`.
-pub fn count_before(netlist: &[u8], counts: &[u64; 512], pos: usize, net: usize, k: usize) -> u64
+pub(crate) fn count_before(
+    netlist: &[u8],
+    counts: &[u64; 512],
+    pos: usize,
+    net: usize,
+    k: usize,
+) -> u64
     requires { ⌜ (net < 512) × GateAt (now netlist) pos net × (k ≤ pinCount (now netlist) pos) × (beforePin (now netlist) (now counts) pos k ≤ 2 ^ 62) ⌝ }
     ensures { λ r. ⌜ r ≡ beforePin (now (netlist .entry)) (now (counts .entry)) pos k ⌝ }
 {

@@ -16,7 +16,7 @@ use records::inner::wide;
 use records::inner::wide_word;
 
 // The number of the path in the words of a legal netlist, or 0 where they are none.
-pub fn read_path(
+pub(crate) fn read_path(
     netlist: &[u8],
     positions: &[u16; 512],
     counts: &[u64; 512],

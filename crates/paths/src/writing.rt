@@ -16,7 +16,7 @@ use model::PATH_WORDS;
 use records::inner::wide_word;
 
 // Writes the path of a number of a legal netlist, with zeros after it.
-pub fn write_path(
+pub(crate) fn write_path(
     netlist: &[u8],
     positions: &[u16; 512],
     counts: &[u64; 512],

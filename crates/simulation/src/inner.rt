@@ -1,4 +1,4 @@
 // Each caller proves what a function requires.
 mod gates;
-pub mod test_record;
 pub mod open_pins;
+pub mod test_record;
