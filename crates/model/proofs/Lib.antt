@@ -21,3 +21,4 @@ pub mod ReportLaws
 pub mod FileLaws
 pub mod ReportNames
 pub mod ExamplesHold
+pub mod ReportsHold

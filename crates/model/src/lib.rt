@@ -18,6 +18,9 @@ pub const WORK_WORDS: usize = 8192;
 // The words of a path buffer that are filled.
 pub const PATH_WORDS: usize = 513;
 
+// The least bytes of a report buffer.
+pub const REPORT_BYTES: usize = 32802;
+
 // No count and no total passes this: 2^62.
 pub const MAX_COUNT: u64 = 0x4000_0000_0000_0000;
 

@@ -29,6 +29,9 @@ pub const RISING_COUNT: usize = 0;
 
 pub const FALLING_COUNT: usize = 1;
 
+// The word where the falling runs begin; the rising ones begin after the head.
+pub const FALLING_WORD: usize = HEAD_WORDS + PLACE_WORDS;
+
 // What the checks of a store's words answer.
 pub enum StoreCheck {
     Sound,
@@ -87,9 +90,8 @@ fn zeros_after(words: &[u64]) -> bool
 {
     let rising = 2 * words[RISING_COUNT] as usize;
     let falling = 2 * words[FALLING_COUNT] as usize;
-    let second = HEAD_WORDS + PLACE_WORDS;
     zero_words(words, HEAD_WORDS + rising, PLACE_WORDS - rising)
-        && zero_words(words, second + falling, PLACE_WORDS - falling)
+        && zero_words(words, FALLING_WORD + falling, PLACE_WORDS - falling)
 }
 
 // The checks of a store's words, for path numbers 1 to `paths`.

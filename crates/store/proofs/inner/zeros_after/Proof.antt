@@ -17,9 +17,6 @@ shared-slice-read-falling c = search needs
 mul-falling : tie.Need-mul-falling
 mul-falling c = search needs
 
-add-second : tie.Need-add-second
-add-second c = search needs
-
 add-zero-words : tie.Need-add-zero-words
 add-zero-words c = search needs
 
@@ -52,7 +49,6 @@ zeros-after-spec =
     mul-rising
     shared-slice-read-falling
     mul-falling
-    add-second
     add-zero-words
     sub-zero-words
     zero-words-requires

@@ -1,0 +1,15 @@
+pub mod AddLaws
+pub mod PartSteps
+pub mod PartLoop
+pub mod NetLaws
+pub mod NetsLoop
+pub mod OutLaws
+pub mod EdgeLaws
+pub mod CoverLaws
+pub mod BothLaws
+pub mod StoreRuns
+pub mod StoreWrite
+pub mod WorkRules
+pub mod FinishLaws
+pub mod StageLaws
+pub mod TestCallLaws

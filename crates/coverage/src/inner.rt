@@ -1,0 +1,155 @@
+// The places Test and Work for one record, on a netlist whose tables are at hand and a store that is sound. Each caller proves what a function
+// requires.
+ghost use Rattle.model.specs.Detect.{Test};
+ghost use Rattle.model.specs.Netlist.{Netlist};
+ghost use Rattle.coverage.specs.Stage.{CircuitTables, PinsOf, StageReady, WorkReady, LegalReady, workStage, StageIs, StageTrue};
+ghost use Rattle.coverage.specs.Finish.{FinishReady, FinishTrue};
+use crate::edges::BothAnswer;
+use crate::edges::cover_both;
+use crate::store_write::write_store;
+use model::HEAD_WORDS;
+use model::Refusal;
+use simulation::inner::open_pins::open_masks;
+use simulation::inner::test_record::RecordAnswer;
+use simulation::inner::test_record::check_record;
+use simulation::inner::test_record::edges_of;
+use simulation::inner::test_record::read_vectors;
+use store::inner::FALLING_COUNT;
+use store::inner::RISING_COUNT;
+use store::inner::totals_of;
+
+// What a test answers: for each edge the faults new to the store and those then held.
+pub enum StageAnswer {
+    Taken {
+        new_rising: u64,
+        new_falling: u64,
+        held_rising: u64,
+        held_falling: u64,
+    },
+    Refused(Refusal),
+}
+
+// Puts the unions of both edges, as they stand in the working words, into the store, and counts what is new.
+fn finish(work: &[u64], rising: usize, falling: usize, store: &mut [u64]) -> StageAnswer
+    requires { ⌜ FinishReady (now work) rising falling (now store) ⌝ }
+    ensures { λ r. ⌜ FinishTrue (now (work .entry)) rising falling (now (store .entry)) (now (store .exit)) r ⌝ }
+{
+    let before = totals_of(store);
+    write_store(work, rising, falling, store);
+    let after = totals_of(store);
+    StageAnswer::Taken {
+        new_rising: after.rising - before.rising,
+        new_falling: after.falling - before.falling,
+        held_rising: after.rising,
+        held_falling: after.falling,
+    }
+}
+
+// The place Work, from the open pins and the edges of the inputs.
+fn work_on(
+    netlist: &[u8],
+    positions: &[u16; 512],
+    counts: &[u64; 512],
+    masks: &[u8; 512],
+    rises: u64,
+    falls: u64,
+    inputs: usize,
+    nets: usize,
+    outputs: usize,
+    store: &mut [u64],
+    work: &mut [u64],
+) -> StageAnswer
+    requires { ⌜ WorkReady (now netlist) (now positions) (now counts) (now masks) rises falls inputs nets outputs (now store) (now work) ⌝ }
+    ensures { λ r. ⌜ ((N : Netlist) (t : Test) → CircuitTables N (now (netlist .entry)) (now (positions .entry)) (now (counts .entry)) inputs nets outputs → PinsOf N t (now (masks .entry)) rises falls → StageIs (workStage N t (now (store .entry))) (now (store .entry)) (now (store .exit)) (now (work .entry)) (now (work .exit)) r) ⌝ }
+{
+    let rising = store[RISING_COUNT] as usize;
+    let falling = store[FALLING_COUNT] as usize;
+    let at = netlist.len() - 4 * outputs;
+    let places = &store[HEAD_WORDS..];
+    let both = cover_both(
+        netlist,
+        positions,
+        counts,
+        masks,
+        rises,
+        falls,
+        inputs,
+        nets,
+        at,
+        outputs,
+        places,
+        rising,
+        falling,
+        work,
+    );
+    match both {
+        BothAnswer::Fits(n, m) => finish(work, n, m, store),
+        BothAnswer::WorkOver => StageAnswer::Refused(Refusal::WorkingRuns),
+        BothAnswer::StoreOver => StageAnswer::Refused(Refusal::StoreRuns),
+    }
+}
+
+// A record that no rule of the place Test refuses.
+pub fn take_legal(
+    netlist: &[u8],
+    positions: &[u16; 512],
+    counts: &[u64; 512],
+    inputs: usize,
+    nets: usize,
+    outputs: usize,
+    test: &[u8],
+    store: &mut [u64],
+    work: &mut [u64],
+) -> StageAnswer
+    requires { ⌜ LegalReady (now netlist) (now positions) (now counts) inputs nets outputs (now test) (now store) (now work) ⌝ }
+    ensures { λ r. ⌜ ((N : Netlist) → CircuitTables N (now (netlist .entry)) (now (positions .entry)) (now (counts .entry)) inputs nets outputs → StageTrue N (now (test .entry)) (now (store .entry)) (now (store .exit)) (now (work .entry)) (now (work .exit)) r) ⌝ }
+{
+    let vectors = read_vectors(test, inputs);
+    let masks = open_masks(netlist, positions, inputs, nets, vectors.v2);
+    let edges = edges_of(vectors);
+    work_on(
+        netlist,
+        positions,
+        counts,
+        &masks,
+        edges.rises,
+        edges.falls,
+        inputs,
+        nets,
+        outputs,
+        store,
+        work,
+    )
+}
+
+// One record: the places Test and Work. The store is sound, so the place Store refuses nothing.
+pub fn take_test(
+    netlist: &[u8],
+    positions: &[u16; 512],
+    counts: &[u64; 512],
+    inputs: usize,
+    nets: usize,
+    outputs: usize,
+    test: &[u8],
+    store: &mut [u64],
+    work: &mut [u64],
+) -> StageAnswer
+    requires { ⌜ StageReady (now netlist) (now positions) (now counts) inputs nets outputs (now store) (now work) ⌝ }
+    ensures { λ r. ⌜ ((N : Netlist) → CircuitTables N (now (netlist .entry)) (now (positions .entry)) (now (counts .entry)) inputs nets outputs → StageTrue N (now (test .entry)) (now (store .entry)) (now (store .exit)) (now (work .entry)) (now (work .exit)) r) ⌝ }
+{
+    let checked = check_record(test, inputs);
+    match checked {
+        RecordAnswer::Refused(why) => StageAnswer::Refused(why),
+        RecordAnswer::Legal => take_legal(
+            netlist,
+            positions,
+            counts,
+            inputs,
+            nets,
+            outputs,
+            test,
+            store,
+            work,
+        ),
+    }
+}

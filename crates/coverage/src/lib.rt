@@ -1,0 +1,90 @@
+// One test on a store: the test call.
+mod edges;
+pub mod inner;
+mod net_runs;
+mod store_write;
+
+ghost use Rattle.model.specs.Netlist.{Netlist};
+ghost use Rattle.coverage.specs.Stage.{CircuitTables, StageTrue};
+ghost use Rattle.coverage.specs.TestCall.{CheckedReady, TestTrue};
+use crate::inner::StageAnswer;
+use crate::inner::take_legal;
+use model::Refusal;
+use model::STORE_WORDS;
+use model::WORK_WORDS;
+use netlist::SurveyAnswer;
+use netlist::inner::load;
+use simulation::inner::test_record::RecordAnswer;
+use simulation::inner::test_record::check_record;
+use store::inner::StoreCheck;
+use store::inner::check_words;
+
+// The places Test, Store and Work for one record, on a netlist whose tables are at hand and a store that is not checked yet.
+fn test_on(
+    netlist: &[u8],
+    positions: &[u16; 512],
+    counts: &[u64; 512],
+    inputs: usize,
+    nets: usize,
+    outputs: usize,
+    paths: u64,
+    test: &[u8],
+    store: &mut [u64],
+    work: &mut [u64],
+) -> StageAnswer
+    requires { ⌜ CheckedReady (now netlist) (now positions) (now counts) inputs nets outputs paths (now store) (now work) ⌝ }
+    ensures { λ r. ⌜ ((N : Netlist) → CircuitTables N (now (netlist .entry)) (now (positions .entry)) (now (counts .entry)) inputs nets outputs → StageTrue N (now (test .entry)) (now (store .entry)) (now (store .exit)) (now (work .entry)) (now (work .exit)) r) ⌝ }
+{
+    let legal = check_record(test, inputs);
+    match legal {
+        RecordAnswer::Refused(why) => StageAnswer::Refused(why),
+        RecordAnswer::Legal => {
+            let sound = check_words(store, paths);
+            match sound {
+                StoreCheck::Refused(why) => StageAnswer::Refused(why),
+                StoreCheck::Sound => take_legal(
+                    netlist,
+                    positions,
+                    counts,
+                    inputs,
+                    nets,
+                    outputs,
+                    test,
+                    store,
+                    work,
+                ),
+            }
+        }
+    }
+}
+
+// The test call: for each edge the number of faults new to the store and the number then held.
+pub fn apply_test(netlist: &[u8], test: &[u8], store: &mut [u64], work: &mut [u64]) -> StageAnswer
+    ensures { λ r. ⌜ TestTrue r (now (netlist .entry)) (now (test .entry)) (now (store .entry)) (now (store .exit)) (now (work .entry)) (now (work .exit)) ⌝ }
+{
+    if store.len() != STORE_WORDS {
+        return StageAnswer::Refused(Refusal::StoreLength);
+    }
+    if work.len() < WORK_WORDS {
+        return StageAnswer::Refused(Refusal::WorkLength);
+    }
+    let loaded = load(netlist);
+    let answer = loaded.answer;
+    let survey = loaded.survey;
+    let positions = loaded.positions;
+    match answer {
+        SurveyAnswer::Refused(why) => StageAnswer::Refused(why),
+        SurveyAnswer::Legal => test_on(
+            netlist,
+            &positions,
+            &survey.counts,
+            survey.inputs,
+            survey.inputs + survey.gates,
+            survey.outputs,
+            survey.total,
+            test,
+            store,
+            work,
+        ),
+    }
+}

@@ -1,0 +1,189 @@
+-- The test stage with the records of a file in order: one record more, a refused one, the end.
+-- Assumes nothing.
+use mathlib.Core.Path.{_≡_, refl, ap, sym, _∙_, subst}
+use mathlib.Core.List.{List, [], _∷_}
+use Prim.Native.Nat.{ℕ, zero, suc, _+_, _-_, _*_, _/_, _≤_, _<_}
+use native.Mathlib.Nat.{div-eq-of-lt, div-eq-sub-div}
+use native.Mathlib.Numerals.{add-one}
+use native.Mathlib.Omega.{arith}
+use borrow.Author.Needs.{needs}
+use lib.ListN.{length, take, drop, replicate, length-drop}
+use lib.Seq.{drop-drop}
+use Rattle.model.specs.Base.{Answer, refused, value, _>>=_, checks, after}
+use Rattle.model.specs.Netlist.{Netlist, pathTotal}
+use Rattle.model.specs.Read.{vectorBytes, recordLength}
+use Rattle.model.specs.Refusals.{refusalNumber}
+use Rattle.model.specs.Store.{storeWords, emptyStore, storeOf, storeRules}
+use Rattle.model.specs.Calls.{Tested, testStage, workWords}
+use Rattle.model.specs.Report.{records, fileRecords, testAll}
+use Rattle.model.specs.declared.Refusal.{Refusal}
+use Rattle.model.proofs.AnswerLaws.{AllPass, Passed, checks→, →checks, not-refused, steps}
+use Rattle.model.proofs.ReadLaws.{limits}
+use Rattle.model.proofs.HoldingLaws.{stage-length, stage-sound}
+use Rattle.coverage.specs.Stage.{CircuitTables, StageReady, StageTrue, stageOf, returnedBy, storeAfter}
+use Rattle.report.specs.TestFile.{leftStore, FileTaken}
+use Rattle.coverage.specs.declared.inner.StageAnswer.{StageAnswer}
+use Rattle.coverage.specs.declared.inner.StageAnswer.the-variants as stage
+use Rattle.report.specs.declared.test_file.FileAnswer.the-variants as file
+
+-- all words zero, of a store's length
+pub emptied : (ws : List ℕ) (k : ℕ) → ws ≡ replicate k 0 → k ≡ storeWords → ws ≡ emptyStore
+emptied ws k e l = e ∙ ap (λ (j : ℕ). replicate j 0) l
+
+-- a legal netlist has at most 64 inputs
+pub few-inputs : (netlist positions netCounts : List ℕ) (inputs netCount outputs : ℕ) (ws work : List ℕ)
+    → StageReady netlist positions netCounts inputs netCount outputs ws work → inputs ≤ 64
+few-inputs netlist positions netCounts inputs netCount outputs ws work s =
+    omega (arith, s .tables .inputsAre, limits netlist (s .circuit) (s .tables .legal) .fewInputs)
+
+-- The stage, from its answer
+module _ (N : Netlist) (rec ws : List ℕ) (r : StageAnswer) (e : stageOf r ≡ returnedBy (testStage N rec ws)) where
+  stage-took : (a b c d : ℕ) → r ≡ stage.Taken a b c d → Passed (testStage N rec ws)
+  unfolding returnedBy
+  stage-took a b c d q =
+      let s = steps (testStage N rec ws) (λ t. value (t .returned)) (sym e ∙ ap stageOf q) in
+      record { got = s .got; is = s .first }
+
+  stage-refuses : (w : Refusal) → r ≡ stage.Refused w → testStage N rec ws ≡ refused (refusalNumber w)
+  unfolding returnedBy
+  stage-refuses w q = go (testStage N rec ws) (sym e ∙ ap stageOf q)
+    where
+      go : (m : Answer Tested) → (m >>= λ t. value (t .returned)) ≡ refused (refusalNumber w) → m ≡ refused (refusalNumber w)
+      go (refused n) p = let z : n ≡ refusalNumber w = cc in ap (λ k. refused k) z
+      go (value t) p = absurd (not-refused (sym p))
+
+-- The records of a file
+records-next : (len : ℕ) (bs : List ℕ) → 0 < len → len ≤ length bs
+    → records len (length bs / len) bs ≡ take len bs ∷ records len (length (drop len bs) / len) (drop len bs)
+records-next len bs p h =
+    let e : length bs / len ≡ (length bs - len) / len + 1 = div-eq-sub-div {m = len} {n = length bs} p h in
+    let d : length (drop len bs) ≡ length bs - len = length-drop len bs in
+    ap (λ (n : ℕ). records len n bs) (e ∙ add-one ((length bs - len) / len)) ∙ rw d refl
+
+records-end : (len : ℕ) (bs : List ℕ) → length bs < len → records len (length bs / len) bs ≡ []
+records-end len bs h = ap (λ (n : ℕ). records len n bs) (div-eq-of-lt {n = length bs} {m = len} h)
+
+pub length-records : (len n : ℕ) (bs : List ℕ) → length (records len n bs) ≡ n
+length-records len zero bs = refl
+length-records len (suc n) bs = ap suc (length-records len n (drop len bs))
+
+module _ (N : Netlist) (testFile ws : List ℕ) (at : ℕ) where
+  first-record : recordLength N ≤ length testFile - at
+      → testAll N (fileRecords N (drop at testFile)) ws
+      ≡ (testStage N (take (recordLength N) (drop at testFile)) ws >>= λ t. testAll N (fileRecords N (drop (at + recordLength N) testFile)) (storeOf (t .runs)))
+  unfolding testAll
+  first-record h =
+      let len : ℕ = recordLength N in
+      let l : len ≤ length (drop at testFile) = omega (arith, length-drop at testFile) in
+      ap (λ (rs : List (List ℕ)). testAll N rs ws) (records-next len (drop at testFile) (omega arith) l)
+      ∙ ap (λ (x : List ℕ). testStage N (take len (drop at testFile)) ws >>= λ t. testAll N (records len (length x / len) x) (storeOf (t .runs))) (drop-drop len at testFile)
+
+  no-record : length testFile - at < recordLength N → testAll N (fileRecords N (drop at testFile)) ws ≡ value ws
+  unfolding testAll
+  no-record h =
+      let l : length (drop at testFile) < recordLength N = omega (arith, length-drop at testFile) in
+      ap (λ (rs : List (List ℕ)). testAll N rs ws) (records-end (recordLength N) (drop at testFile) l)
+
+module _ (netlist positions netCounts : List ℕ) (inputs netCount outputs : ℕ) (testFile ws₀ work₀ : List ℕ) where
+  -- The records before byte `at` are taken: the rest from here gives the whole, and the store passes its rules
+  pub record Taking (ws work : List ℕ) (at : ℕ) : Type 0 where
+    pub within : at ≤ length testFile
+    pub ready : StageReady netlist positions netCounts inputs netCount outputs ws work
+    pub rest : (N : Netlist) → CircuitTables N netlist positions netCounts inputs netCount outputs
+        → testAll N (fileRecords N (drop at testFile)) ws ≡ testAll N (fileRecords N testFile) ws₀
+    pub sameLength : length work ≡ length work₀
+    pub pastWork : drop workWords work ≡ drop workWords work₀
+
+  pub taking-start : StageReady netlist positions netCounts inputs netCount outputs ws₀ work₀ → Taking ws₀ work₀ 0
+  taking-start s = record { within = omega arith; ready = s; rest = λ N t. refl; sameLength = refl; pastWork = refl }
+
+  module _ (bytes : ℕ) (eb : bytes ≡ 2 + 2 * vectorBytes inputs) (ws work : List ℕ) (at : ℕ) (g : Taking ws work at) where
+    length-is : (N : Netlist) → CircuitTables N netlist positions netCounts inputs netCount outputs → bytes ≡ recordLength N
+    length-is N t = eb ∙ ap (λ (i : ℕ). 2 + 2 * vectorBytes i) (t .inputsAre)
+
+    pub taking-end : length testFile - at < bytes → FileTaken file.Taken netlist positions netCounts inputs netCount outputs testFile ws₀ ws work₀ work
+    unfolding leftStore
+    taking-end h =
+        let left : (N : Netlist) → CircuitTables N netlist positions netCounts inputs netCount outputs → value ws ≡ testAll N (fileRecords N testFile) ws₀ =
+        λ N t. sym (no-record N testFile ws at (omega (arith, length-is N t))) ∙ g .rest N t in
+        record {
+          ofCircuit = λ N t. record { answer = left N t; store = ap leftStore (left N t) };
+          sameLength = g .sameLength;
+          pastWork = g .pastWork;
+        }
+
+    module _ (h : bytes ≤ length testFile - at) (ws′ work′ : List ℕ) (r : StageAnswer)
+        (s : (N : Netlist) → CircuitTables N netlist positions netCounts inputs netCount outputs → StageTrue N (take (at + bytes - at) (drop at testFile)) ws ws′ work work′ r) where
+      abbrev rec : List ℕ
+      rec = take (at + bytes - at) (drop at testFile)
+
+      C : Netlist
+      C = g .ready .circuit
+
+      here : StageTrue C rec ws ws′ work work′ r
+      unfolding C
+      here = s C (g .ready .tables)
+
+      -- the record and those after it
+      more : (N : Netlist) → CircuitTables N netlist positions netCounts inputs netCount outputs
+          → testAll N (fileRecords N testFile) ws₀ ≡ (testStage N rec ws >>= λ t. testAll N (fileRecords N (drop (at + bytes) testFile)) (storeOf (t .runs)))
+      more N t =
+          let b : recordLength N ≡ bytes = sym (length-is N t) in
+          let p : at + bytes - at ≡ bytes = omega arith in
+          sym (g .rest N t)
+          ∙ first-record N testFile ws at (omega (arith, b))
+          ∙ ap (λ (k : ℕ). testStage N (take k (drop at testFile)) ws >>= λ t. testAll N (fileRecords N (drop (at + k) testFile)) (storeOf (t .runs))) b
+          ∙ rw p refl
+
+      pub taking-refused : (w : Refusal) → r ≡ stage.Refused w → (ws″ : List ℕ) → ws″ ≡ replicate (length ws′) 0
+          → FileTaken (file.Refused w) netlist positions netCounts inputs netCount outputs testFile ws₀ ws″ work₀ work′
+      unfolding leftStore storeAfter C
+      taking-refused w q ws″ z =
+          let k : ws′ ≡ ws = here .store ∙ ap (λ (a : Answer Tested). after a ws (λ t. storeOf (t .runs))) (stage-refuses C rec ws r (here .answer) w q) in
+          let l : length ws′ ≡ storeWords = ap (length {A = ℕ}) k ∙ g .ready .memory .storeLength in
+          let x : (N : Netlist) → CircuitTables N netlist positions netCounts inputs netCount outputs → testAll N (fileRecords N testFile) ws₀ ≡ refused (refusalNumber w) =
+          λ N t. more N t ∙ rw (stage-refuses N rec ws r (s N t .answer) w q) refl in
+          record {
+            ofCircuit = λ N t. record { answer = sym (x N t); store = emptied ws″ (length ws′) z l ∙ sym (ap leftStore (x N t)) };
+            sameLength = here .sameLength ∙ g .sameLength;
+            pastWork = here .pastWork ∙ g .pastWork;
+          }
+
+      module _ (a b c d : ℕ) (q : r ≡ stage.Taken a b c d) where
+        took : Passed (testStage C rec ws)
+        took = stage-took C rec ws r (here .answer) a b c d q
+
+        left-is : ws′ ≡ storeOf (took .got .runs)
+        unfolding storeAfter
+        left-is = here .store ∙ ap (λ (m : Answer Tested). after m ws (λ t. storeOf (t .runs))) (took .is)
+
+        passed : AllPass (storeRules (pathTotal C) ws)
+        unfolding C
+        passed = checks→ (storeRules (pathTotal C) ws) (record { got = tt; is = g .ready .memory .sound })
+
+        pub taking-next : Taking ws′ work′ (at + bytes)
+        unfolding storeAfter C
+        taking-next =
+            let l = stage-length C ws (g .ready .memory .storeLength) passed rec (took .got) (took .is) in
+            let p = stage-sound C ws (g .ready .memory .storeLength) passed rec (took .got) (took .is) in
+            record {
+              within = omega (arith, g .within);
+              ready = record {
+                circuit = C;
+                tables = g .ready .tables;
+                memory = record {
+                  storeLength = subst (λ (x : List ℕ). length x ≡ storeWords) (sym left-is) l;
+                  sound = subst (λ (x : List ℕ). checks (storeRules (pathTotal C) x) ≡ value tt) (sym left-is)
+                      (→checks (storeRules (pathTotal C) (storeOf (took .got .runs))) p);
+                  workLength = omega (arith, here .sameLength, g .ready .memory .workLength);
+                };
+              };
+              rest = λ N t.
+                  let m = stage-took N rec ws r (s N t .answer) a b c d q in
+                  let w : ws′ ≡ storeOf (m .got .runs) = s N t .store ∙ ap (λ (x : Answer Tested). after x ws (λ y. storeOf (y .runs))) (m .is) in
+                  sym (more N t ∙ rw (m .is) (ap (λ (x : List ℕ). testAll N (fileRecords N (drop (at + bytes) testFile)) x) (sym w)));
+              sameLength = here .sameLength ∙ g .sameLength;
+              pastWork = here .pastWork ∙ g .pastWork;
+            }
+
+pub ruleset file-cases = (few-inputs, taking-start, taking-next, taking-refused, taking-end, needs)

@@ -1,0 +1,102 @@
+-- `report::test_file::take_records` meets its contract. The invariant, `Taking`: the records that are left, from the store so far, give the whole.
+-- Assumes nothing.
+use borrow.Author.Needs.{needs}
+use Prim.Native.Nat.{_-_}
+use lib.ListN.{length}
+use Rattle.report.proofs.FileSteps.{Taking, file-cases}
+use Rattle.report.proofs.test_file.take_records.Statement.{statement}
+use Rattle.report.proofs.test_file.take_records.Tie as tie
+
+abbrev Inv-loop : tie.InvT-loop
+Inv-loop netlist positions counts inputs nets outputs tests store₀ work₀ bytes at₀ store work at =
+    Taking netlist positions counts inputs nets outputs tests store₀ work₀ store work at
+
+abbrev μ-loop : tie.MeasureT-loop
+μ-loop netlist positions counts inputs nets outputs tests store₀ work₀ bytes at₀ store work at = length tests - at
+
+record-length-requires : tie.Need-record-length-requires Inv-loop μ-loop
+record-length-requires c κs = search file-cases
+
+loop-holds : tie.Need-loop-holds Inv-loop μ-loop
+loop-holds c = search file-cases
+
+sub-loop : tie.Need-sub-loop Inv-loop μ-loop
+sub-loop c = search needs
+
+add-take-test : tie.Need-add-take-test Inv-loop μ-loop
+add-take-test c = search needs
+
+sub-take-test : tie.Need-sub-take-test Inv-loop μ-loop
+sub-take-test c = search needs
+
+part-take-test-start : tie.Need-part-take-test-start Inv-loop μ-loop
+part-take-test-start c = search needs
+
+part-take-test-end : tie.Need-part-take-test-end Inv-loop μ-loop
+part-take-test-end c = search needs
+
+take-test-requires : tie.Need-take-test-requires Inv-loop μ-loop
+take-test-requires c κs = search file-cases
+
+enum-known-taken : tie.Need-enum-known-taken Inv-loop μ-loop
+enum-known-taken c = search needs
+
+clear-requires : tie.Need-clear-requires Inv-loop μ-loop
+clear-requires c κs = search needs
+
+same-length : tie.Need-same-length Inv-loop μ-loop
+same-length c = search needs
+
+same-length-2 : tie.Need-same-length-2 Inv-loop μ-loop
+same-length-2 c = search needs
+
+returns : tie.Need-returns Inv-loop μ-loop
+returns c = search file-cases
+
+enum-told : tie.Need-enum-told Inv-loop μ-loop
+enum-told c = search needs
+
+add-at : tie.Need-add-at Inv-loop μ-loop
+add-at c = search needs
+
+loop-less : tie.Need-loop-less Inv-loop μ-loop
+loop-less c = search needs
+
+loop-again : tie.Need-loop-again Inv-loop μ-loop
+loop-again c = search file-cases
+
+same-length-3 : tie.Need-same-length-3 Inv-loop μ-loop
+same-length-3 c = search needs
+
+same-length-4 : tie.Need-same-length-4 Inv-loop μ-loop
+same-length-4 c = search needs
+
+returns-2 : tie.Need-returns-2 Inv-loop μ-loop
+returns-2 c = search file-cases
+
+pub take-records-spec : {M : Type 1} → statement M
+take-records-spec =
+    tie.close
+    (tie.spec
+    Inv-loop
+    μ-loop
+    record-length-requires
+    loop-holds
+    sub-loop
+    add-take-test
+    sub-take-test
+    part-take-test-start
+    part-take-test-end
+    take-test-requires
+    enum-known-taken
+    clear-requires
+    same-length
+    same-length-2
+    returns
+    enum-told
+    add-at
+    loop-less
+    loop-again
+    same-length-3
+    same-length-4
+    returns-2)

@@ -1,0 +1,64 @@
+-- The audit once the netlist is read: the records of the test file in file order, then the report.
+-- Assumes nothing.
+use mathlib.Core.Path.{_≡_}
+use mathlib.Core.List.{List, [], _∷_}
+use Prim.Native.Nat.{ℕ, _+_, _≤_}
+use lib.ListN.{length, drop}
+use Rattle.model.specs.Base.{Answer, refused, value, _>>=_, _>>_, checks, passes}
+use Rattle.model.specs.Netlist.{Netlist, pathTotal}
+use Rattle.model.specs.Read.{readNetlist}
+use Rattle.model.specs.Refusals.{refusalNumber}
+use Rattle.model.specs.Store.{emptyStore, runsByEdge}
+use Rattle.model.specs.Calls.{workWords}
+use Rattle.model.specs.Report.{fileRecords, wholeRecords, testAll, reportRecord, reportRules}
+use Rattle.netlist.specs.declared.inner.Loaded.{Loaded}
+use Rattle.report.specs.declared.test_file.FileAnswer.{FileAnswer}
+use Rattle.report.specs.declared.test_file.FileAnswer.the-variants as file
+use Rattle.report.specs.declared.AuditAnswer.{AuditAnswer}
+use Rattle.coverage.specs.Stage.{CircuitTables}
+use Rattle.report.specs.Answers.{auditedOf}
+
+-- the test calls with a file's records: the number of a refusal, or the store that they leave
+abbrev pub fileOf : FileAnswer → List ℕ → Answer (List ℕ)
+fileOf file.Taken left = value left
+fileOf (file.Refused w) left = refused (refusalNumber w)
+
+-- The store after an audit, refused with a number over 2: all zeros
+unfoldable pub leftStore : Answer (List ℕ) → List ℕ
+leftStore (refused n) = emptyStore
+leftStore (value left) = left
+
+-- the test calls with the records of a file, made in file order: their answer, and the store afterwards
+pub record FileTrue (r : FileAnswer) (N : Netlist) (testFile ws ws′ : List ℕ) : Type 0 where
+  pub answer : fileOf r ws′ ≡ testAll N (fileRecords N testFile) ws
+  pub store : ws′ ≡ leftStore (testAll N (fileRecords N testFile) ws)
+
+-- the same of the netlist whose tables are handed over, and what holds of the working memory
+pub record FileTaken (r : FileAnswer) (netlist positions netCounts : List ℕ) (inputs netCount outputs : ℕ) (testFile ws ws′ work work′ : List ℕ) : Type 0 where
+  pub ofCircuit : (N : Netlist) → CircuitTables N netlist positions netCounts inputs netCount outputs → FileTrue r N testFile ws ws′
+  pub sameLength : length work′ ≡ length work
+  pub pastWork : drop workWords work′ ≡ drop workWords work
+
+-- The audit on a legal netlist, from 33 on
+unfoldable pub auditFile : Netlist → List ℕ → List ℕ → Answer (List ℕ)
+auditFile N testFile report =
+    checks ((33, wholeRecords N testFile) ∷ [])
+    >> testAll N (fileRecords N testFile) emptyStore
+    >>= λ left. checks (reportRules report (reportRecord (length (fileRecords N testFile)) (pathTotal N) (runsByEdge left)))
+    >> value left
+
+-- what it is handed: a legal netlist as it was loaded, an empty store, and working memory long enough
+pub record AuditReady (netlist : List ℕ) (loaded : Loaded) (ws work : List ℕ) : Type 0 where
+  pub circuit : Netlist
+  pub tables : CircuitTables circuit netlist (loaded .positions) (loaded .survey .counts) (loaded .survey .inputs)
+      (loaded .survey .inputs + loaded .survey .gates) (loaded .survey .outputs)
+  pub totalIs : loaded .survey .total ≡ pathTotal circuit
+  pub empty : ws ≡ emptyStore
+  pub workLength : workWords ≤ length work
+
+-- its answer, the store afterwards, and what holds of the working memory
+pub record FileAudited (r : AuditAnswer) (netlist testFile report ws′ work work′ : List ℕ) : Type 0 where
+  pub answer : (N : Netlist) → readNetlist netlist ≡ value N → auditedOf r ≡ passes (auditFile N testFile report)
+  pub store : (N : Netlist) → readNetlist netlist ≡ value N → ws′ ≡ leftStore (auditFile N testFile report)
+  pub sameLength : length work′ ≡ length work
+  pub pastWork : drop workWords work′ ≡ drop workWords work

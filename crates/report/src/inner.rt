@@ -1,0 +1,139 @@
+// A report compared with a store's words in place, for our own crates.
+ghost use mathlib.Core.Path.{_≡_};
+ghost use Prim.Native.Nat.{_+_, _*_, _^_, _≤_};
+ghost use lib.ListN.{length, take, drop};
+ghost use Rattle.model.specs.Base.{checks};
+ghost use Rattle.model.specs.Store.{runsAt, runsByEdge};
+ghost use Rattle.model.specs.Report.{runBytes, sameBytes, reportRecord, reportRules};
+ghost use Rattle.report.specs.Answers.{comparedOf};
+ghost use Rattle.store.specs.Sound.{SoundWords};
+ghost use Rattle.report.specs.Layout.{SameHead};
+use crate::layout::FALLING_FAULTS_AT;
+use crate::layout::FALLING_RUNS_AT;
+use crate::layout::HEAD_BYTES;
+use crate::layout::PATHS_AT;
+use crate::layout::REPORT_MARK;
+use crate::layout::RISING_FAULTS_AT;
+use crate::layout::RISING_RUNS_AT;
+use crate::layout::RUN_BYTES;
+use crate::layout::TESTS_AT;
+use model::HEAD_WORDS;
+use model::Refusal;
+use records::inner::begins_with;
+use records::inner::same;
+use records::inner::u16_at;
+use store::inner::FALLING_COUNT;
+use store::inner::FALLING_WORD;
+use store::inner::RISING_COUNT;
+use store::inner::totals_of;
+
+// What the checks of a report answer.
+pub enum Comparison {
+    Equal,
+    Refused(Refusal),
+}
+
+// Whether the bytes from `at` on are those of the n runs from word `from` on.
+fn same_runs(report: &[u8], at: usize, words: &[u64], from: usize, n: usize) -> bool
+    requires { ⌜ (at + 16 * n ≤ length (now report)) × (from + 2 * n ≤ length (now words)) ⌝ }
+    ensures { λ r. ⌜ r ≡ sameBytes (take (16 * n) (drop at (now (report .entry)))) (runBytes (runsAt (now (words .entry)) from n)) ⌝ }
+{
+    let mut to = at;
+    let mut place = from;
+    let mut left = n;
+    while 0 < left {
+        if !same(report, to, 8, words[place]) {
+            return false;
+        }
+        if !same(report, to + 8, 8, words[place + 1]) {
+            return false;
+        }
+        to += RUN_BYTES;
+        place += 2;
+        left -= 1;
+    }
+    true
+}
+
+// Whether the first 34 bytes are the fields before the runs.
+fn same_head(
+    report: &[u8],
+    tests: u64,
+    paths: u64,
+    rising_runs: u64,
+    falling_runs: u64,
+    rising_faults: u64,
+    falling_faults: u64,
+) -> bool
+    requires { ⌜ 34 ≤ length (now report) ⌝ }
+    ensures { λ r. ⌜ SameHead r (now (report .entry)) tests paths «rising_runs» «falling_runs» «rising_faults» «falling_faults» ⌝ }
+{
+    if !same(report, 0, 2, REPORT_MARK) {
+        return false;
+    }
+    if !same(report, TESTS_AT, 4, tests) {
+        return false;
+    }
+    if !same(report, PATHS_AT, 8, paths) {
+        return false;
+    }
+    if !same(report, RISING_RUNS_AT, 2, rising_runs) {
+        return false;
+    }
+    if !same(report, FALLING_RUNS_AT, 2, falling_runs) {
+        return false;
+    }
+    if !same(report, RISING_FAULTS_AT, 8, rising_faults) {
+        return false;
+    }
+    same(report, FALLING_FAULTS_AT, 8, falling_faults)
+}
+
+// Whether the bytes are the report of a sound store.
+fn same_report(report: &[u8], words: &[u64], tests: u64, paths: u64) -> bool
+    requires { ⌜ SoundWords (2 ^ 62) (now words) ⌝ }
+    ensures { λ r. ⌜ r ≡ sameBytes (now (report .entry)) (reportRecord tests paths (runsByEdge (now (words .entry)))) ⌝ }
+{
+    let held = totals_of(words);
+    let rising = words[RISING_COUNT];
+    let falling = words[FALLING_COUNT];
+    let first = rising as usize;
+    let second = falling as usize;
+    let at = HEAD_BYTES + RUN_BYTES * first;
+    if report.len() != at + RUN_BYTES * second {
+        return false;
+    }
+    if !same_head(
+        report,
+        tests,
+        paths,
+        rising,
+        falling,
+        held.rising,
+        held.falling,
+    ) {
+        return false;
+    }
+    if !same_runs(report, HEAD_BYTES, words, HEAD_WORDS, first) {
+        return false;
+    }
+    same_runs(report, at, words, FALLING_WORD, second)
+}
+
+// The checks of a report against the one that the writer gives for a sound store.
+pub fn compare(report: &[u8], words: &[u64], tests: u64, paths: u64) -> Comparison
+    requires { ⌜ SoundWords (2 ^ 62) (now words) ⌝ }
+    ensures { λ r. ⌜ comparedOf r ≡ checks (reportRules (now (report .entry)) (reportRecord tests paths (runsByEdge (now (words .entry))))) ⌝ }
+{
+    if !begins_with(report, HEAD_BYTES, 0x52, 0x50) {
+        return Comparison::Refused(Refusal::ReportMark);
+    }
+    let runs = u16_at(report, RISING_RUNS_AT) + u16_at(report, FALLING_RUNS_AT);
+    if report.len() != HEAD_BYTES + RUN_BYTES * runs {
+        return Comparison::Refused(Refusal::ReportLength);
+    }
+    if !same_report(report, words, tests, paths) {
+        return Comparison::Refused(Refusal::ReportBytes);
+    }
+    Comparison::Equal
+}
