@@ -14,8 +14,8 @@ use Rattle.store.specs.Sound.{FewRuns, SoundWords}
 use Rattle.store.specs.declared.inner.StoreTotals.{StoreTotals}
 use Rattle.coverage.specs.Stores.{storeWith}
 use Rattle.coverage.specs.Finish.{risingUnion, fallingUnion, UnionReady, FinishReady, FinishTrue}
-use Rattle.coverage.specs.declared.inner.StageAnswer.{StageAnswer}
-use Rattle.coverage.specs.declared.inner.StageAnswer.the-variants.{Taken}
+use Rattle.coverage.specs.declared.TestAnswer.{TestAnswer}
+use Rattle.coverage.specs.declared.TestAnswer.the-variants.{Taken}
 
 -- a store made of few runs
 module _ (r f : List Run) (few-r : length r ≤ maxRuns) (few-f : length f ≤ maxRuns) where

@@ -46,8 +46,8 @@ use Rattle.coverage.specs.Stores.{storeWith}
 use Rattle.coverage.specs.Stage.{CircuitTables, PinsOf, MemoryReady, StageReady, LegalReady, WorkReady, StageTrue, stageOf, returnedBy, storeAfter, workStage, StageIs}
 use Rattle.coverage.specs.declared.edges.BothAnswer.{BothAnswer}
 use Rattle.coverage.specs.declared.edges.BothAnswer.the-variants.{Fits, WorkOver, StoreOver}
-use Rattle.coverage.specs.declared.inner.StageAnswer.{StageAnswer}
-use Rattle.coverage.specs.declared.inner.StageAnswer.the-variants.{Taken, Refused}
+use Rattle.coverage.specs.declared.TestAnswer.{TestAnswer}
+use Rattle.coverage.specs.declared.TestAnswer.the-variants.{Taken, Refused}
 use Rattle.coverage.proofs.StoreRuns.{firstRun, held-runs, then-model}
 use Rattle.coverage.proofs.WorkRules.{workAnswer, work-rules}
 
@@ -198,7 +198,7 @@ module _ (N : Netlist) (t : Test) (ws work work′ : List ℕ) (few : pathTotal 
         onFalling = union-ready falling (fallingUnion work′ m) falling-is (omega (arith, length-runs work′ (3 * maxRuns) m, counts-few .1));
       }
 
-      pub taken-stage : (ws′ : List ℕ) (r : StageAnswer) → FinishTrue work′ n m ws ws′ r → StageIs (workStage N t ws) ws ws′ work work′ r
+      pub taken-stage : (ws′ : List ℕ) (r : TestAnswer) → FinishTrue work′ n m ws ws′ r → StageIs (workStage N t ws) ws ws′ work work′ r
       unfolding workStage returnedBy storeAfter tested
       taken-stage ws′ r f =
           let c : checks (workRules N (runsByEdge ws) t) ≡ value tt = rules-are ∙ ap workAnswer eb in
@@ -294,7 +294,7 @@ module _ (netlist positions pathCounts masks : List ℕ) (rises falls inputs net
           finish-ready (h .circuit) (h .test) ws work work′ (few-paths (h .circuit) netlist positions pathCounts inputs netCount outputs (h .tables))
           (h .memory .sound) b (covers (h .circuit) (h .test) (h .tables) (h .pins)) same n m e (h .memory .storeLength) (omega (arith, h .memory .workLength))
 
-      pub work-taken : (n m : ℕ) → b ≡ Fits n m → (ws′ : List ℕ) (r : StageAnswer) → FinishTrue work′ n m ws ws′ r
+      pub work-taken : (n m : ℕ) → b ≡ Fits n m → (ws′ : List ℕ) (r : TestAnswer) → FinishTrue work′ n m ws ws′ r
           → (N : Netlist) (t : Test) → CircuitTables N netlist positions pathCounts inputs netCount outputs → PinsOf N t masks rises falls
           → StageIs (workStage N t ws) ws ws′ work work′ r
       work-taken n m e ws′ r f N t c p =
@@ -367,7 +367,7 @@ module _ (netlist positions pathCounts : List ℕ) (inputs netCount outputs : �
       memory = h .stage .memory;
     }
 
-    pub legal-taken : (ws′ work′ : List ℕ) (r : StageAnswer)
+    pub legal-taken : (ws′ work′ : List ℕ) (r : TestAnswer)
         → ((N : Netlist) (t : Test) → CircuitTables N netlist positions pathCounts inputs netCount outputs → PinsOf N t masks (edges .rises) (edges .falls)
         → StageIs (workStage N t ws) ws ws′ work work′ r)
         → (N : Netlist) → CircuitTables N netlist positions pathCounts inputs netCount outputs → StageTrue N rec ws ws′ work work′ r

@@ -32,8 +32,8 @@ use Rattle.store.specs.declared.inner.StoreCheck.{StoreCheck}
 use Rattle.store.specs.declared.inner.StoreCheck.the-variants as check
 use Rattle.coverage.specs.Stage.{CircuitTables, LegalReady, stageOf, returnedBy, storeAfter, StageIs, StageTrue}
 use Rattle.coverage.specs.TestCall.{CheckedReady, TestTrue}
-use Rattle.coverage.specs.declared.inner.StageAnswer.{StageAnswer}
-use Rattle.coverage.specs.declared.inner.StageAnswer.the-variants.{Refused}
+use Rattle.coverage.specs.declared.TestAnswer.{TestAnswer}
+use Rattle.coverage.specs.declared.TestAnswer.the-variants.{Refused}
 use Rattle.coverage.proofs.StageLaws.{stage-refused}
 
 -- The places Test and Store on a store that is not checked yet
@@ -136,7 +136,7 @@ module _ (netlist rec ws work : List ℕ) where
           pub call-ready : CheckedReady netlist (r .positions) (r .survey .counts) (r .survey .inputs) (r .survey .inputs + r .survey .gates) (r .survey .outputs) (r .survey .total) ws work
           call-ready = record { circuit = here .netlist; tables = tables-of; total = here .totalIs; storeLength = l; workLength = k }
 
-          pub call-true : (ws′ work′ : List ℕ) (a : StageAnswer)
+          pub call-true : (ws′ work′ : List ℕ) (a : TestAnswer)
               → ((N : Netlist) → CircuitTables N netlist (r .positions) (r .survey .counts) (r .survey .inputs) (r .survey .inputs + r .survey .gates) (r .survey .outputs)
               → StageTrue N rec ws ws′ work work′ a) → TestTrue a netlist rec ws ws′ work work′
           unfolding testAnswer testStore testCall returnedBy storeAfter

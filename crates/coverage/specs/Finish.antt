@@ -10,8 +10,8 @@ use Rattle.model.specs.Store.{maxRuns, storeRuns}
 use Rattle.runs.specs.Runs.{runsInWords}
 use Rattle.store.specs.Sound.{SoundWords}
 use Rattle.coverage.specs.Stores.{storeWith}
-use Rattle.coverage.specs.declared.inner.StageAnswer.{StageAnswer}
-use Rattle.coverage.specs.declared.inner.StageAnswer.the-variants.{Taken}
+use Rattle.coverage.specs.declared.TestAnswer.{TestAnswer}
+use Rattle.coverage.specs.declared.TestAnswer.the-variants.{Taken}
 
 -- the union of each edge in the working words
 abbrev pub risingUnion : List ℕ → ℕ → List Run
@@ -32,7 +32,7 @@ pub record FinishReady (work : List ℕ) (n m : ℕ) (ws : List ℕ) : Type 0 wh
   pub onRising : UnionReady (storeRuns ws rising) (risingUnion work n)
   pub onFalling : UnionReady (storeRuns ws falling) (fallingUnion work m)
 
-pub record FinishTrue (work : List ℕ) (n m : ℕ) (ws ws′ : List ℕ) (r : StageAnswer) : Type 0 where
+pub record FinishTrue (work : List ℕ) (n m : ℕ) (ws ws′ : List ℕ) (r : TestAnswer) : Type 0 where
   pub answer : r ≡ Taken (size (risingUnion work n) - size (storeRuns ws rising)) (size (fallingUnion work m) - size (storeRuns ws falling))
       (size (risingUnion work n)) (size (fallingUnion work m))
   pub store : ws′ ≡ storeWith (risingUnion work n) (fallingUnion work m)

@@ -8,7 +8,7 @@ use Rattle.model.specs.Netlist.{Netlist, pathTotal}
 use Rattle.model.specs.Store.{storeWords}
 use Rattle.model.specs.Calls.{workWords, testAnswer, testStore, WorkAfter}
 use Rattle.coverage.specs.Stage.{CircuitTables, stageOf}
-use Rattle.coverage.specs.declared.inner.StageAnswer.{StageAnswer}
+use Rattle.coverage.specs.declared.TestAnswer.{TestAnswer}
 
 -- a legal netlist's tables and total, and memory that neither 1 nor 2 refuses
 pub record CheckedReady (netlist positions counts : List ℕ) (inputs nets outputs paths : ℕ) (store work : List ℕ) : Type 0 where
@@ -19,7 +19,7 @@ pub record CheckedReady (netlist positions counts : List ℕ) (inputs nets outpu
   pub workLength : workWords ≤ length work
 
 -- A test call: its answer, the store and the working memory afterwards
-pub record TestTrue (r : StageAnswer) (netlist rec ws ws′ work work′ : List ℕ) : Type 0 where
+pub record TestTrue (r : TestAnswer) (netlist rec ws ws′ work work′ : List ℕ) : Type 0 where
   pub answer : stageOf r ≡ testAnswer netlist rec ws work
   pub store : ws′ ≡ testStore netlist rec ws work
   pub memory : WorkAfter netlist ws work work′

@@ -56,7 +56,7 @@ pub enum EdgeAnswer {
 }
 
 // Covers one edge: the runs of the store's edge with the detected path numbers, made at run `target` of the words.
-pub fn cover_edge(
+pub(crate) fn cover_edge(
     netlist: &[u8],
     positions: &[u16; 512],
     counts: &[u64; 512],
@@ -124,7 +124,7 @@ fn join_answers(rising: EdgeAnswer, falling: EdgeAnswer) -> BothAnswer
 }
 
 // Covers both edges of a store's places: the rising runs are made in the third quarter of the words, the falling ones in the last.
-pub fn cover_both(
+pub(crate) fn cover_both(
     netlist: &[u8],
     positions: &[u16; 512],
     counts: &[u64; 512],

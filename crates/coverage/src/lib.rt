@@ -7,7 +7,6 @@ mod store_write;
 ghost use Rattle.model.specs.Netlist.{Netlist};
 ghost use Rattle.coverage.specs.Stage.{CircuitTables, StageTrue};
 ghost use Rattle.coverage.specs.TestCall.{CheckedReady, TestTrue};
-use crate::inner::StageAnswer;
 use crate::inner::take_legal;
 use model::Refusal;
 use model::STORE_WORDS;
@@ -18,6 +17,17 @@ use simulation::inner::test_record::RecordAnswer;
 use simulation::inner::test_record::check_record;
 use store::inner::StoreCheck;
 use store::inner::check_words;
+
+// What a test answers: for each edge the faults new to the store and those then held.
+pub enum TestAnswer {
+    Taken {
+        new_rising: u64,
+        new_falling: u64,
+        held_rising: u64,
+        held_falling: u64,
+    },
+    Refused(Refusal),
+}
 
 // The places Test, Store and Work for one record, on a netlist whose tables are at hand and a store that is not checked yet.
 fn test_on(
@@ -31,17 +41,17 @@ fn test_on(
     test: &[u8],
     store: &mut [u64],
     work: &mut [u64],
-) -> StageAnswer
+) -> TestAnswer
     requires { ⌜ CheckedReady (now netlist) (now positions) (now counts) inputs nets outputs paths (now store) (now work) ⌝ }
     ensures { λ r. ⌜ ((N : Netlist) → CircuitTables N (now (netlist .entry)) (now (positions .entry)) (now (counts .entry)) inputs nets outputs → StageTrue N (now (test .entry)) (now (store .entry)) (now (store .exit)) (now (work .entry)) (now (work .exit)) r) ⌝ }
 {
     let legal = check_record(test, inputs);
     match legal {
-        RecordAnswer::Refused(why) => StageAnswer::Refused(why),
+        RecordAnswer::Refused(why) => TestAnswer::Refused(why),
         RecordAnswer::Legal => {
             let sound = check_words(store, paths);
             match sound {
-                StoreCheck::Refused(why) => StageAnswer::Refused(why),
+                StoreCheck::Refused(why) => TestAnswer::Refused(why),
                 StoreCheck::Sound => take_legal(
                     netlist,
                     positions,
@@ -59,21 +69,21 @@ fn test_on(
 }
 
 // The test call: for each edge the number of faults new to the store and the number then held.
-pub fn apply_test(netlist: &[u8], test: &[u8], store: &mut [u64], work: &mut [u64]) -> StageAnswer
+pub fn apply_test(netlist: &[u8], test: &[u8], store: &mut [u64], work: &mut [u64]) -> TestAnswer
     ensures { λ r. ⌜ TestTrue r (now (netlist .entry)) (now (test .entry)) (now (store .entry)) (now (store .exit)) (now (work .entry)) (now (work .exit)) ⌝ }
 {
     if store.len() != STORE_WORDS {
-        return StageAnswer::Refused(Refusal::StoreLength);
+        return TestAnswer::Refused(Refusal::StoreLength);
     }
     if work.len() < WORK_WORDS {
-        return StageAnswer::Refused(Refusal::WorkLength);
+        return TestAnswer::Refused(Refusal::WorkLength);
     }
     let loaded = load(netlist);
     let answer = loaded.answer;
     let survey = loaded.survey;
     let positions = loaded.positions;
     match answer {
-        SurveyAnswer::Refused(why) => StageAnswer::Refused(why),
+        SurveyAnswer::Refused(why) => TestAnswer::Refused(why),
         SurveyAnswer::Legal => test_on(
             netlist,
             &positions,

@@ -238,7 +238,7 @@ fn out_runs(
 }
 
 // Makes the runs of the path numbers that the test detects, or answers Full where the working runs are over 1,024.
-pub fn detected_runs(
+pub(crate) fn detected_runs(
     netlist: &[u8],
     positions: &[u16; 512],
     counts: &[u64; 512],

@@ -44,7 +44,7 @@ fn write_places(words: &[u64], rising: usize, falling: usize, places: &mut [u64]
 }
 
 // Writes the runs of both edges, as they stand in the working words, to a store.
-pub fn write_store(words: &[u64], rising: usize, falling: usize, store: &mut [u64])
+pub(crate) fn write_store(words: &[u64], rising: usize, falling: usize, store: &mut [u64])
     requires { ⌜ (rising ≤ maxRuns) × (falling ≤ maxRuns) × (8 * maxRuns ≤ length (now words)) × (length (now store) ≡ storeWords) ⌝ }
     ensures { λ _. ⌜ now (store .exit) ≡ storeWith (runsInWords (now (words .entry)) (2 * maxRuns) rising) (runsInWords (now (words .entry)) (3 * maxRuns) falling) ⌝ }
 {

@@ -22,8 +22,8 @@ use Rattle.model.proofs.ReadLaws.{limits}
 use Rattle.model.proofs.HoldingLaws.{stage-length, stage-sound}
 use Rattle.coverage.specs.Stage.{CircuitTables, StageReady, StageTrue, stageOf, returnedBy, storeAfter}
 use Rattle.report.specs.TestFile.{leftStore, FileTaken}
-use Rattle.coverage.specs.declared.inner.StageAnswer.{StageAnswer}
-use Rattle.coverage.specs.declared.inner.StageAnswer.the-variants as stage
+use Rattle.coverage.specs.declared.TestAnswer.{TestAnswer}
+use Rattle.coverage.specs.declared.TestAnswer.the-variants as stage
 use Rattle.report.specs.declared.test_file.FileAnswer.the-variants as file
 
 -- all words zero, of a store's length
@@ -37,7 +37,7 @@ few-inputs netlist positions netCounts inputs netCount outputs ws work s =
     omega (arith, s .tables .inputsAre, limits netlist (s .circuit) (s .tables .legal) .fewInputs)
 
 -- The stage, from its answer
-module _ (N : Netlist) (rec ws : List ℕ) (r : StageAnswer) (e : stageOf r ≡ returnedBy (testStage N rec ws)) where
+module _ (N : Netlist) (rec ws : List ℕ) (r : TestAnswer) (e : stageOf r ≡ returnedBy (testStage N rec ws)) where
   stage-took : (a b c d : ℕ) → r ≡ stage.Taken a b c d → Passed (testStage N rec ws)
   unfolding returnedBy
   stage-took a b c d q =
@@ -112,7 +112,7 @@ module _ (netlist positions netCounts : List ℕ) (inputs netCount outputs : ℕ
           pastWork = g .pastWork;
         }
 
-    module _ (h : bytes ≤ length testFile - at) (ws′ work′ : List ℕ) (r : StageAnswer)
+    module _ (h : bytes ≤ length testFile - at) (ws′ work′ : List ℕ) (r : TestAnswer)
         (s : (N : Netlist) → CircuitTables N netlist positions netCounts inputs netCount outputs → StageTrue N (take (at + bytes - at) (drop at testFile)) ws ws′ work work′ r) where
       abbrev rec : List ℕ
       rec = take (at + bytes - at) (drop at testFile)

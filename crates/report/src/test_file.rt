@@ -4,7 +4,7 @@ ghost use Prim.Native.Nat.{_+_, _*_, _≤_, _<_};
 ghost use Rattle.model.specs.Read.{vectorBytes};
 ghost use Rattle.coverage.specs.Stage.{StageReady};
 ghost use Rattle.report.specs.TestFile.{FileTaken};
-use coverage::inner::StageAnswer;
+use coverage::TestAnswer;
 use coverage::inner::take_test;
 use model::Refusal;
 use simulation::inner::test_record::vector_bytes;
@@ -17,7 +17,7 @@ pub enum FileAnswer {
 }
 
 // The bytes of a test record.
-pub fn record_length(inputs: usize) -> usize
+pub(crate) fn record_length(inputs: usize) -> usize
     requires { ⌜ inputs ≤ 64 ⌝ }
     ensures { λ r. ⌜ (r ≡ 2 + 2 * vectorBytes inputs) × (2 ≤ r) × (r ≤ 18) ⌝ }
 {
@@ -25,7 +25,7 @@ pub fn record_length(inputs: usize) -> usize
 }
 
 // The test stage with the records of a file in order. A refused record ends them and empties the store.
-pub fn take_records(
+pub(crate) fn take_records(
     netlist: &[u8],
     positions: &[u16; 512],
     counts: &[u64; 512],
@@ -54,11 +54,11 @@ pub fn take_records(
             work,
         );
         match taken {
-            StageAnswer::Refused(why) => {
+            TestAnswer::Refused(why) => {
                 clear(store);
                 return FileAnswer::Refused(why);
             }
-            StageAnswer::Taken { .. } => {
+            TestAnswer::Taken { .. } => {
                 at += bytes;
             }
         }

@@ -63,7 +63,7 @@ fn put_head(
 }
 
 // Writes the report of a sound store; its length.
-pub fn put_report(report: &mut [u8], tests: u64, paths: u64, words: &[u64]) -> usize
+pub(crate) fn put_report(report: &mut [u8], tests: u64, paths: u64, words: &[u64]) -> usize
     requires { ⌜ reportBufferBytes ≤ length (now report) ⌝ }
     requires { ⌜ SoundWords (2 ^ 62) (now words) ⌝ }
     ensures { λ r. ⌜ ReportPut r tests paths (now (words .entry)) (now (report .entry)) (now (report .exit)) ⌝ }
