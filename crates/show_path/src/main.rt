@@ -1,30 +1,15 @@
 // Prints the path of a number: its output, and each gate on the way back to the input. The netlist is circuit.nl in the current folder, the
 // number is the first argument.
+use console::NETLIST_BYTES;
+use console::load_file;
 use libc::STDOUT_FILENO;
 use paths::PathAnswer;
 use paths::PathNo;
 use records::inner;
-ghost use Rattle.io.specs.Counts.{Counts};
 ghost use Prim.Native.Nat.{_<_, _≤_};
 
-// One byte more than the longest legal netlist has, so that a longer file is refused as it would be whole.
-const NETLIST_BYTES: usize = 10485;
-
-// The file's first bytes, as many as the buffer holds; none where it is missing.
-fn load_file(name: &[u8], bytes: &mut [u8]) -> usize
-    ensures { λ r. ⌜ Counts r (now (bytes .exit)) ⌝ }
-{
-    let fd = os::open_read(name);
-    if fd < 0 {
-        return 0;
-    }
-    let n = io::read_full(fd, bytes);
-    libc::close(fd);
-    n
-}
-
 fn print(text: &[u8]) {
-    io::write_all(STDOUT_FILENO, text);
+    console::print(STDOUT_FILENO, text);
 }
 
 fn print_number(n: usize) {

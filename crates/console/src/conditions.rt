@@ -1,0 +1,74 @@
+// The condition of each refusal as a plain sentence.
+use crate::print;
+use model::Refusal;
+
+// Writes the condition of a refusal as a sentence, with its line end.
+pub fn print_condition(fd: i32, why: Refusal) {
+    match why {
+        Refusal::StoreLength => print(fd, b"The store has not 4,098 words.\n"),
+        Refusal::WorkLength => print(fd, b"The working memory has under 8,192 words.\n"),
+        Refusal::PathBufferLength => print(fd, b"The path buffer has under 513 words.\n"),
+        Refusal::ReportBufferLength => print(fd, b"The report buffer has under 32,802 bytes.\n"),
+        Refusal::Header => print(
+            fd,
+            b"The netlist has under 8 bytes or does not begin with its mark.\n",
+        ),
+        Refusal::HeaderRange => print(
+            fd,
+            b"The netlist's number of inputs, gates or outputs is out of range.\n",
+        ),
+        Refusal::GateCut => print(
+            fd,
+            b"A gate of the netlist is cut off or does not begin with its mark.\n",
+        ),
+        Refusal::GateKind => print(fd, b"A gate of the netlist is of no known kind.\n"),
+        Refusal::PinCount => print(
+            fd,
+            b"A gate of the netlist has a number of pins that its kind does not allow.\n",
+        ),
+        Refusal::PinNotLower => print(
+            fd,
+            b"A pin of the netlist names a net that is not lower than its gate's.\n",
+        ),
+        Refusal::CountOverLimit => print(fd, b"A net of the netlist has over 2^62 paths.\n"),
+        Refusal::OutputCut => print(
+            fd,
+            b"An output of the netlist is cut off or does not begin with its mark.\n",
+        ),
+        Refusal::OutputNet => print(
+            fd,
+            b"An output of the netlist names no net, or none higher than the output before.\n",
+        ),
+        Refusal::BytesLeftOver => print(fd, b"The netlist has bytes after its last output.\n"),
+        Refusal::TotalOverLimit => print(fd, b"The netlist has over 2^62 paths.\n"),
+        Refusal::RecordLength => print(fd, b"A test record has the wrong length.\n"),
+        Refusal::RecordMark => print(fd, b"A test record does not begin with its mark.\n"),
+        Refusal::SpareBit => print(fd, b"A test record has a spare bit set.\n"),
+        Refusal::TestFileLength => print(
+            fd,
+            b"The test file is no whole number of records, or has over 4,294,967,295 of them.\n",
+        ),
+        Refusal::RunCount => print(fd, b"The store states over 1,024 runs of an edge.\n"),
+        Refusal::RunRange => print(fd, b"The store has a run out of range or out of order.\n"),
+        Refusal::WordPastRuns => print(
+            fd,
+            b"The store has a word past its last run that is not zero.\n",
+        ),
+        Refusal::WorkingRuns => print(fd, b"A test makes over 1,024 working runs of an edge.\n"),
+        Refusal::StoreRuns => print(
+            fd,
+            b"With a test the store would have over 1,024 runs of an edge.\n",
+        ),
+        Refusal::NoSuchNumber => print(fd, b"The circuit has no path or fault of that number.\n"),
+        Refusal::NotAPath => print(fd, b"The words are not exactly a path.\n"),
+        Refusal::ReportMark => print(
+            fd,
+            b"The report has under 34 bytes or does not begin with its mark.\n",
+        ),
+        Refusal::ReportLength => print(
+            fd,
+            b"The report's length is not that of the runs that it states.\n",
+        ),
+        Refusal::ReportBytes => print(fd, b"The report is not the true report of these tests.\n"),
+    }
+}
