@@ -9,6 +9,7 @@ use lib.Dec.{leb}
 use lib.ListN.{length, getD, take, drop}
 use lib.Seq.{getD-drop}
 use borrow.Author.Tests.{le-leb, lt-leb, leb-true, leb-false}
+use Rattle.model.specs.Base.{Answer, refused, value, checks}
 use Rattle.model.specs.Store.{maxRuns}
 use Rattle.model.specs.Netlist.{Netlist, nets, pathTotal}
 use Rattle.model.proofs.WellFormed.{WellFormed}
@@ -17,16 +18,17 @@ use Rattle.model.specs.Runs.{Run, runsOf, inRuns}
 use Rattle.model.proofs.ReadLaws.{legal, limits, Limits}
 use Rattle.model.proofs.RunLaws.{runs-separated, runs-test, runs-same}
 use Rattle.runs.specs.Runs.{Sound, inEither, runAt, runsInWords, writeRuns}
-use Rattle.runs.specs.Answers.{Room, answer, Adds}
+use Rattle.runs.specs.Answers.{Room, answer, Adds, InsideWhere}
 use Rattle.runs.specs.declared.inner.Added.{Added}
 use Rattle.runs.specs.declared.inner.Added.the-variants.{Count, Full}
 use Rattle.runs.proofs.RunLaws.{run-path, sound-mono}
-use Rattle.runs.proofs.WordLaws.{runs-write-before}
+use Rattle.runs.proofs.WordLaws.{length-runs, runs-write-before}
+use Rattle.runs.proofs.InsideSteps.{inside-union}
 use Rattle.runs.proofs.Adding.{answer-over, adds-count}
 use Rattle.coverage.proofs.AddLaws.{as-adds}
 use Rattle.coverage.specs.Scene.{Case, allRuns}
 use Rattle.coverage.specs.Edges.{EdgeAt, detected, working, Detects}
-use Rattle.coverage.specs.Covers.{thenRuns, edgeAnswer, Covers}
+use Rattle.coverage.specs.Covers.{thenRuns, EdgeRuns, Covers}
 use Rattle.coverage.specs.declared.edges.EdgeAnswer.{EdgeAnswer}
 use Rattle.coverage.specs.declared.edges.EdgeAnswer.the-variants.{Covered, OverWork, OverStore}
 use Rattle.coverage.proofs.OutLaws.{few-detected, working-all}
@@ -51,6 +53,9 @@ runs-drop (suc k) n f a b e h =
 
 -- ---- what the detected runs' answer says
 
+pub true-not-false : _≡_ {A = Bool} true false → ⊥
+true-not-false e = let z : _≡_ {A = ℕ} 0 1 = ap (λ (b : Bool). cond b 0 1) e in omega arith
+
 count-cases : (b : Bool) (x n : ℕ) → _≡_ {A = Added} (Count n) (cond b (Count x) Full) → (b ≡ true) × (n ≡ x)
 count-cases true x n e = (refl, cc)
 count-cases false x n e = let z : _≡_ {A = ℕ} 0 1 = cc in absurd (omega arith)
@@ -58,6 +63,32 @@ count-cases false x n e = let z : _≡_ {A = ℕ} 0 1 = cc in absurd (omega arit
 full-cases : (b : Bool) (x : ℕ) → _≡_ {A = Added} Full (cond b (Count x) Full) → b ≡ false
 full-cases true x e = let z : _≡_ {A = ℕ} 0 1 = cc in absurd (omega arith)
 full-cases false x e = refl
+
+-- document 01's 50, 51, or neither
+rules-work : (a c : Bool) → a ≡ false → refused 50 ≡ checks ((50, a) ∷ (51, c) ∷ [])
+rules-work true c e = absurd (true-not-false e)
+rules-work false c e = refl
+
+rules-store : (a c : Bool) → a ≡ true → c ≡ false → refused 51 ≡ checks ((50, a) ∷ (51, c) ∷ [])
+rules-store true true e d = absurd (true-not-false d)
+rules-store true false e d = refl
+rules-store false c e d = absurd (true-not-false (sym e))
+
+rules-fit : (a c : Bool) → a ≡ true → c ≡ true → value tt ≡ checks ((50, a) ∷ (51, c) ∷ [])
+rules-fit true true e d = refl
+rules-fit true false e d = absurd (true-not-false (sym d))
+rules-fit false c e d = absurd (true-not-false (sym e))
+
+-- the union with runs that lie inside, by the number of the runs
+known-union : (t : ℕ) (s : List Run) (a : List ℕ) (from n : ℕ) (b : List ℕ) (at m : ℕ) → s ≡ runsInWords a from n → Sound t s
+    → InsideWhere true a from (from + n) b at (at + m) → runsOf (inEither s (runsInWords b at m)) t ≡ s
+known-union t s a from n b at m e so w =
+    let i : from + n - from ≡ n = omega arith in
+    let j : at + m - at ≡ m = omega arith in
+    let u : runsInWords a from (from + n - from) ≡ s = ap (λ (k : ℕ). runsInWords a from k) i ∙ sym e in
+    ap₂ (λ (x y : List Run). runsOf (inEither x y) t) (sym u) (ap (λ (k : ℕ). runsInWords b at k) (sym j))
+    ∙ inside-union t a from (from + n) b at (at + m) (omega arith) w (subst (λ (x : List Run). Sound t x) (sym u) so)
+    ∙ u
 
 -- the union of the store's runs and the detected runs
 pub then-is : (K : Case) (s : List Run) → runsOf (inEither s (detected K)) (pathTotal (K .netlist)) ≡ thenRuns K s
@@ -96,25 +127,19 @@ module _ (K : Case) (file positions pathCounts masks : List ℕ) (edges inputs n
     cover-work t =
         let b : leb (working K) maxRuns ≡ false = full-cases (leb (working K) maxRuns) (length (detected K)) (sym t ∙ d .answers) in
         record {
-          answers = ap (λ (x : Bool). cond x (cond (leb (length (thenRuns K s)) maxRuns) (Covered (length (thenRuns K s))) OverStore) OverWork) (sym b);
-          runsAre = λ n p. absurd (not-covered n p);
+          answers = rules-work (leb (working K) maxRuns) (leb (length (thenRuns K s)) maxRuns) b;
+          runsAre = λ n m p. absurd (not-covered n m p);
           kept = λ k h. d .kept k (omega arith);
           between = λ f k l h. runs-drop k (4 * maxRuns) f ws₁ ws₀ (d .kept (4 * maxRuns) (omega arith)) (omega arith);
         }
       where
-        not-covered : (n : ℕ) → _≡_ {A = EdgeAnswer} OverWork (Covered n) → ⊥
-        not-covered n p = let z : _≡_ {A = ℕ} 0 1 = cc in omega arith
+        not-covered : (n : ℕ) (m : Bool) → _≡_ {A = EdgeAnswer} OverWork (Covered n m) → ⊥
+        not-covered n m p = let z : _≡_ {A = ℕ} 0 1 = cc in omega arith
 
     module _ (n : ℕ) (t : q ≡ Count n) (ws₂ : List ℕ) (r : Added)
         (u : Adds ws₁ ws₂ target maxRuns (runsOf (inEither s (runsInWords ws₁ maxRuns n)) (pathTotal (K .netlist))) r) where
       u′ : Adds ws₁ ws₂ target maxRuns (thenRuns K s) r
       u′ = as-adds (ap (λ (x : List Run). runsOf (inEither s x) (pathTotal (K .netlist))) (d .runsAre n t) ∙ then-is K s) refl u
-
-      abbrev tail : EdgeAnswer
-      tail = cond (leb (length (thenRuns K s)) maxRuns) (Covered (length (thenRuns K s))) OverStore
-
-      fits-work : edgeAnswer K s ≡ tail
-      fits-work = ap (λ (x : Bool). cond x tail OverWork) (is n t .0)
 
       kept₂ : (k : ℕ) → 2 * (target + maxRuns) ≤ k → drop k ws₂ ≡ drop k ws₀
       kept₂ k h = adds-kept k ws₁ ws₂ target maxRuns (thenRuns K s) r h u′ ∙ d .kept k (omega arith)
@@ -129,26 +154,47 @@ module _ (K : Case) (file positions pathCounts masks : List ℕ) (edges inputs n
       cover-store e =
           let o : maxRuns < length (thenRuns K s) = answer-over maxRuns (thenRuns K s) (sym e ∙ u′ .answers) in
           record {
-            answers = sym (fits-work ∙ ap (λ (x : Bool). cond x (Covered (length (thenRuns K s))) OverStore) (lt-leb (length (thenRuns K s)) maxRuns o));
-            runsAre = λ m p. absurd (not-covered m p);
+            answers = rules-store (leb (working K) maxRuns) (leb (length (thenRuns K s)) maxRuns) (is n t .0) (lt-leb (length (thenRuns K s)) maxRuns o);
+            runsAre = λ m b p. absurd (not-covered m b p);
             kept = kept₂;
             between = between₂;
           }
         where
-          not-covered : (m : ℕ) → _≡_ {A = EdgeAnswer} OverStore (Covered m) → ⊥
-          not-covered m p = let z : _≡_ {A = ℕ} 0 1 = cc in omega arith
+          not-covered : (m : ℕ) (b : Bool) → _≡_ {A = EdgeAnswer} OverStore (Covered m b) → ⊥
+          not-covered m b p = let z : _≡_ {A = ℕ} 0 1 = cc in omega arith
 
-      pub covered : (m : ℕ) → 2 * (target + maxRuns) ≤ length ws₁ → r ≡ Count m → Covers K s ws₀ ws₂ target (Covered m)
+      pub covered : (m : ℕ) → 2 * (target + maxRuns) ≤ length ws₁ → r ≡ Count m → Covers K s ws₀ ws₂ target (Covered m true)
       covered m room e =
           let c = adds-count ws₁ ws₂ target maxRuns m (thenRuns K s) r room e u′ in
           record {
-            answers =
-                ap Covered (c .1)
-                ∙ sym (fits-work ∙ ap (λ (x : Bool). cond x (Covered (length (thenRuns K s))) OverStore) (le-leb (length (thenRuns K s)) maxRuns (c .0)));
-            runsAre = λ k p. let i : k ≡ m = sym (same-count m k p) in subst⁻¹ (λ (x : ℕ). runsInWords ws₂ target x ≡ thenRuns K s) i (c .2);
+            answers = rules-fit (leb (working K) maxRuns) (leb (length (thenRuns K s)) maxRuns) (is n t .0) (le-leb (length (thenRuns K s)) maxRuns (c .0));
+            runsAre = λ k b p.
+                let i : m ≡ k = cc in
+                let j : _≡_ {A = Bool} true b = cc in
+                record {
+                  areMade = λ _. subst (λ (x : ℕ). runsInWords ws₂ target x ≡ thenRuns K s) i (c .2);
+                  areHeld = λ q. absurd (true-not-false (j ∙ q));
+                  number = sym i ∙ c .1;
+                };
             kept = kept₂;
             between = between₂;
           }
-        where
-          same-count : (x y : ℕ) → _≡_ {A = EdgeAnswer} (Covered x) (Covered y) → x ≡ y
-          same-count x y p = cc
+
+    -- nothing new: each detected run lies in a run of the store
+    pub cover-known : (n : ℕ) → q ≡ Count n → (store : List ℕ) (first held : ℕ) → s ≡ runsInWords store first held → held ≤ maxRuns → Sound (pathTotal (K .netlist)) s
+        → (k : Bool) → k ≡ true → InsideWhere k store first (first + held) ws₁ maxRuns (maxRuns + n) → Covers K s ws₀ ws₁ target (Covered held false)
+    cover-known n t store first held es few so k ek w =
+        let l : length s ≡ held = ap (length {A = Run}) es ∙ length-runs store first held in
+        let same : s ≡ thenRuns K s =
+        sym (known-union (pathTotal (K .netlist)) s store first held ws₁ maxRuns n es so (λ (_ : true ≡ true). w ek))
+        ∙ ap (λ (x : List Run). runsOf (inEither s x) (pathTotal (K .netlist))) (d .runsAre n t) ∙ then-is K s in
+        let m : length (thenRuns K s) ≡ held = ap (length {A = Run}) (sym same) ∙ l in
+        record {
+          answers = rules-fit (leb (working K) maxRuns) (leb (length (thenRuns K s)) maxRuns) (is n t .0) (le-leb (length (thenRuns K s)) maxRuns (omega arith));
+          runsAre = λ j b p.
+              let i : held ≡ j = cc in
+              let f : _≡_ {A = Bool} false b = cc in
+              record { areMade = λ e. absurd (true-not-false (sym e ∙ sym f)); areHeld = λ _. same; number = sym i ∙ sym m };
+          kept = λ j h. d .kept j (omega arith);
+          between = λ f j l h. runs-drop j (4 * maxRuns) f ws₁ ws₀ (d .kept (4 * maxRuns) (omega arith)) (omega arith);
+        }

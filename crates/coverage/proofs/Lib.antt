@@ -10,6 +10,5 @@ pub mod BothLaws
 pub mod StoreRuns
 pub mod StoreWrite
 pub mod WorkRules
-pub mod FinishLaws
 pub mod StageLaws
 pub mod TestCallLaws

@@ -6,7 +6,6 @@ use mathlib.Core.List.{List, [], _∷_, _++_}
 use Prim.Native.Nat.{ℕ, zero, suc, _+_, _-_, _*_, _≤_, _<_, _^_}
 use native.Mathlib.Omega.{arith}
 use lib.Dec.{T, leb, leb→le, eqb→eq}
-use borrow.Author.Tests.{leb-true}
 use lib.ListN.{length, getD, take, drop, length-drop, length-map}
 use lib.Seq.{take-all}
 use Rattle.model.specs.Base.{Answer, refused, value, _>>=_, _>>_, checks, bit, numbersFrom}
@@ -16,15 +15,15 @@ use Rattle.model.specs.Detect.{Test, detectsNumber, hasEdge, openPin, values}
 use Rattle.model.specs.Runs.{Run, Separated, separatedRuns, runsOf, inRuns, size, howMany}
 use Rattle.model.specs.Read.{testRules, testOf, vectorBytes, inputBit, v2Part}
 use Rattle.model.specs.Store.{ByEdge, byEdge, ofEdge, maxRuns, headWords, storeWords, runCount, storeRuns, runsByEdge, storeOf, storeRules, bothEdges}
-use Rattle.model.specs.Calls.{padded, workWords, workRules, stageRules, FaultCounts, Tested, tested, testStage, heldThen, newThen, runsThen}
+use Rattle.model.specs.Calls.{padded, workWords, workRules, stageRules, Tested, tested, testStage, runsThen}
 use Rattle.model.specs.Refusals.{refusalNumber}
 use Rattle.model.specs.declared.Refusal.{Refusal}
 use Rattle.model.specs.declared.Refusal.the-variants as why
 use Rattle.model.proofs.BoolLaws.{and-left, and-right}
 use Rattle.model.proofs.AnswerLaws.{AllPass, value-inj, checks→, checks-both}
 use Rattle.model.proofs.ReadLaws.{limits}
-use Rattle.model.proofs.RunLaws.{separated→, runs-separated, runs-size, runs-of-runs, howMany-or}
-use Rattle.model.proofs.HoldingLaws.{ofEdge-byEdge, at-edge}
+use Rattle.model.proofs.RunLaws.{separated→}
+use Rattle.model.proofs.HoldingLaws.{at-edge}
 use Rattle.netlist.specs.Places.{Tables}
 use Rattle.netlist.proofs.LoadLaws.{gate-record, count-is, output-net-at, outputs-room}
 use Rattle.runs.specs.Runs.{Sound, runsInWords}
@@ -39,17 +38,17 @@ use Rattle.simulation.specs.declared.inner.test_record.Vectors.{Vectors}
 use Rattle.simulation.specs.declared.inner.test_record.InputEdges.{InputEdges}
 use Rattle.coverage.specs.Scene.{Case, GateAt, Scene}
 use Rattle.coverage.specs.Edges.{OutputsAt, EdgeAt, working}
-use Rattle.coverage.specs.Covers.{thenRuns}
-use Rattle.coverage.specs.Both.{caseOf, BothAt, SomeBothAt, CoversBoth}
-use Rattle.coverage.specs.Finish.{risingUnion, fallingUnion, UnionReady, FinishReady, FinishTrue}
-use Rattle.coverage.specs.Stores.{storeWith}
-use Rattle.coverage.specs.Stage.{CircuitTables, PinsOf, MemoryReady, StageReady, LegalReady, WorkReady, StageTrue, stageOf, returnedBy, storeAfter, workStage, StageIs}
+use Rattle.coverage.specs.Covers.{EdgeRuns}
+use Rattle.coverage.specs.Both.{caseOf, bothOf, BothAt, SomeBothAt, CoversBoth}
+use Rattle.coverage.specs.Stores.{madeOr, storeWith, StoreReady}
+use Rattle.coverage.specs.Stage.{CircuitTables, PinsOf, MemoryReady, StageReady, LegalReady, WorkReady, StageTrue, stageOf, storeAfter, workStage, StageIs}
 use Rattle.coverage.specs.declared.edges.BothAnswer.{BothAnswer}
 use Rattle.coverage.specs.declared.edges.BothAnswer.the-variants.{Fits, WorkOver, StoreOver}
-use Rattle.coverage.specs.declared.TestAnswer.{TestAnswer}
-use Rattle.coverage.specs.declared.TestAnswer.the-variants.{Taken, Refused}
+use Rattle.coverage.specs.declared.inner.StageAnswer.{StageAnswer}
+use Rattle.coverage.specs.declared.inner.StageAnswer.the-variants.{Taken, Refused}
 use Rattle.coverage.proofs.StoreRuns.{firstRun, held-runs, then-model}
-use Rattle.coverage.proofs.WorkRules.{workAnswer, work-rules}
+use Rattle.coverage.proofs.StoreWrite.{places-hold}
+use Rattle.coverage.proofs.WorkRules.{work-rules}
 
 -- What the tables of a legal netlist and the pins of a test say to the interval work
 module _ (N : Netlist) (netlist positions pathCounts : List ℕ) (inputs netCount outputs : ℕ) (c : CircuitTables N netlist positions pathCounts inputs netCount outputs) where
@@ -110,48 +109,28 @@ module _ (N : Netlist) (ws : List ℕ) (s : checks (storeRules (pathTotal N) ws)
   pub store-sound : (e : Edge) → Separated (pathTotal N) 1 (storeRuns ws e)
   store-sound e = separated→ (pathTotal N) 1 (storeRuns ws e) (at-edge (λ d. separatedRuns (pathTotal N) 1 (storeRuns ws d)) (passes .1 .0) e)
 
--- One edge of a sound store with what a test detects: sizes
-module _ (N : Netlist) (t : Test) (ws : List ℕ) (s : checks (storeRules (pathTotal N) ws) ≡ value tt) (e : Edge) where
-  old-size : howMany (λ k. inRuns (ofEdge (runsByEdge ws) e) k) (pathTotal N) ≡ size (storeRuns ws e)
-  old-size =
-      ap (λ rs. howMany (λ k. inRuns rs k) (pathTotal N)) (ofEdge-byEdge (storeRuns ws) e)
-      ∙ sym (runs-size (λ k. inRuns (storeRuns ws e) k) (pathTotal N))
-      ∙ ap size (runs-of-runs (pathTotal N) (storeRuns ws e) (store-sound N ws s e))
+-- the runs of an edge afterwards, made or held
+edge-is : (ws : List ℕ) (target n : ℕ) (made : Bool) (old new : List Run) → EdgeRuns ws target n made old new → madeOr made (runsInWords ws target n) old ≡ new
+edge-is ws target n true old new h = h .areMade refl
+edge-is ws target n false old new h = h .areHeld refl
 
-  pub then-size : size (runsThen N (runsByEdge ws) t e) ≡ howMany (heldThen N (runsByEdge ws) t e) (pathTotal N)
-  then-size = runs-size (heldThen N (runsByEdge ws) t e) (pathTotal N)
-
-  pub more-size : size (runsThen N (runsByEdge ws) t e) ≡ size (storeRuns ws e) + howMany (newThen N (runsByEdge ws) t e) (pathTotal N)
-  more-size =
-      then-size ∙ howMany-or (detectsNumber N t e) (λ k. inRuns (ofEdge (runsByEdge ws) e) k) (pathTotal N)
-      ∙ ap (λ n. n + howMany (newThen N (runsByEdge ws) t e) (pathTotal N)) old-size
-
-  pub new-size : size (runsThen N (runsByEdge ws) t e) - size (storeRuns ws e) ≡ howMany (newThen N (runsByEdge ws) t e) (pathTotal N)
-  new-size = omega (arith, more-size)
-
--- Both unions fit
-fits-few : (w a b : Bool) (l k n m : ℕ) → leb l maxRuns ≡ a → leb k maxRuns ≡ b → Fits n m ≡ cond w (cond (a && b) (Fits l k) StoreOver) WorkOver → (n ≤ maxRuns) × (m ≤ maxRuns)
-fits-few true true true l k n m x y e =
-    let p : n ≡ l = cc in
-    let q : m ≡ k = cc in
-    (omega (arith, leb-true l maxRuns x), omega (arith, leb-true k maxRuns y))
-fits-few true true false l k n m x y e = let z : _≡_ {A = ℕ} 0 1 = cc in absurd (omega arith)
-fits-few true false b l k n m x y e = let z : _≡_ {A = ℕ} 0 1 = cc in absurd (omega arith)
-fits-few false a b l k n m x y e = let z : _≡_ {A = ℕ} 0 1 = cc in absurd (omega arith)
+held-number : (ws : List ℕ) (target n : ℕ) (made : Bool) (ps : List ℕ) (first held : ℕ) (new : List Run) → EdgeRuns ws target n made (runsInWords ps first held) new
+    → made ≡ false → n ≡ held
+held-number ws target n made ps first held new h e = h .number ∙ ap (length {A = Run}) (sym (h .areHeld e)) ∙ length-runs ps first held
 
 -- What the interval work made, as the place Work
 module _ (N : Netlist) (t : Test) (ws work work′ : List ℕ) (few : pathTotal N ≤ 2 ^ 62) (s : checks (storeRules (pathTotal N) ws) ≡ value tt) (b : BothAnswer)
     (x : CoversBoth (caseOf N t rising) (caseOf N t falling) (runsInWords (drop headWords ws) 0 (runCount ws rising))
     (runsInWords (drop headWords ws) maxRuns (runCount ws falling)) work work′ b) where
-  rules-are : checks (workRules N (runsByEdge ws) t) ≡ workAnswer b
-  rules-are = sym (work-rules N t ws) ∙ ap workAnswer (sym (x .answers))
+  rules-are : checks (workRules N (runsByEdge ws) t) ≡ bothOf b
+  rules-are = sym (x .answers ∙ work-rules N t ws)
 
   pub past-work : length work′ ≡ length work → drop workWords work′ ≡ drop workWords work
   past-work l = x .kept workWords (omega arith)
 
   module _ (same : length work′ ≡ length work) where
     refused-stage : (w : Refusal) → checks (workRules N (runsByEdge ws) t) ≡ refused (refusalNumber w) → StageIs (workStage N t ws) ws ws work work′ (Refused w)
-    unfolding workStage returnedBy storeAfter
+    unfolding workStage storeAfter
     refused-stage w e = record {
       answer = rw e refl;
       store = rw e refl;
@@ -160,76 +139,62 @@ module _ (N : Netlist) (t : Test) (ws work work′ : List ℕ) (few : pathTotal 
     }
 
     pub over-work : b ≡ WorkOver → StageIs (workStage N t ws) ws ws work work′ (Refused why.WorkingRuns)
-    over-work e = refused-stage why.WorkingRuns (rules-are ∙ ap workAnswer e)
+    over-work e = refused-stage why.WorkingRuns (rules-are ∙ ap bothOf e)
 
     pub over-store : b ≡ StoreOver → StageIs (workStage N t ws) ws ws work work′ (Refused why.StoreRuns)
-    over-store e = refused-stage why.StoreRuns (rules-are ∙ ap workAnswer e)
+    over-store e = refused-stage why.StoreRuns (rules-are ∙ ap bothOf e)
 
-    module _ (n m : ℕ) (eb : b ≡ Fits n m) where
-      rising-is : risingUnion work′ n ≡ runsThen N (runsByEdge ws) t rising
-      rising-is = x .risingRuns n m eb ∙ then-model (caseOf N t rising) ws
+    module _ (n : ℕ) (u : Bool) (m : ℕ) (v : Bool) (eb : b ≡ Fits n u m v) where
+      rising-runs : EdgeRuns work′ (2 * maxRuns) n u (runsInWords (drop headWords ws) 0 (runCount ws rising)) (runsThen N (runsByEdge ws) t rising)
+      rising-runs =
+          subst (λ (rs : List Run). EdgeRuns work′ (2 * maxRuns) n u (runsInWords (drop headWords ws) 0 (runCount ws rising)) rs)
+          (then-model (caseOf N t rising) ws) (x .risingRuns n u m v eb)
 
-      falling-is : fallingUnion work′ m ≡ runsThen N (runsByEdge ws) t falling
-      falling-is = x .fallingRuns n m eb ∙ then-model (caseOf N t falling) ws
+      falling-runs : EdgeRuns work′ (3 * maxRuns) m v (runsInWords (drop headWords ws) maxRuns (runCount ws falling)) (runsThen N (runsByEdge ws) t falling)
+      falling-runs =
+          subst (λ (rs : List Run). EdgeRuns work′ (3 * maxRuns) m v (runsInWords (drop headWords ws) maxRuns (runCount ws falling)) rs)
+          (then-model (caseOf N t falling) ws) (x .fallingRuns n u m v eb)
 
-      counts-few : (n ≤ maxRuns) × (m ≤ maxRuns)
-      counts-few =
-          fits-few (leb (working (caseOf N t rising)) maxRuns && leb (working (caseOf N t falling)) maxRuns) _ _
-          (length (thenRuns (caseOf N t rising) (runsInWords (drop headWords ws) 0 (runCount ws rising))))
-          (length (thenRuns (caseOf N t falling) (runsInWords (drop headWords ws) maxRuns (runCount ws falling)))) n m refl refl (sym eb ∙ x .answers)
+      passing : checks (workRules N (runsByEdge ws) t) ≡ value tt
+      passing = rules-are ∙ ap bothOf eb
 
-      union-ready : (e : Edge) (u : List Run) → u ≡ runsThen N (runsByEdge ws) t e → length u ≤ maxRuns → UnionReady (storeRuns ws e) u
-      union-ready e u q l = record {
-        few = l;
-        sound = subst (λ rs. Separated (2 ^ 62) 1 rs) (sym q)
-            (sound-mono 1 (pathTotal N) (2 ^ 62) (runsThen N (runsByEdge ws) t e) few (runs-separated (heldThen N (runsByEdge ws) t e) (pathTotal N)));
-        grows = subst (λ rs. size (storeRuns ws e) ≤ size rs) (sym q) (omega (arith, more-size N t ws s e));
-      }
+      few-then : (e : Edge) → length (runsThen N (runsByEdge ws) t e) ≤ maxRuns
+      few-then e =
+          leb→le (length (runsThen N (runsByEdge ws) t e)) maxRuns
+          (at-edge (λ d. leb (length (runsThen N (runsByEdge ws) t d)) maxRuns) (checks→ (workRules N (runsByEdge ws) t) (record { got = tt; is = passing }) .1 .0) e)
 
-      pub finish-ready : length ws ≡ storeWords → 8 * maxRuns ≤ length work′ → FinishReady work′ n m ws
-      finish-ready lw l = record {
-        soundStore = record {
-          few = record { long = lw; fewRising = few-runs N ws s rising; fewFalling = few-runs N ws s falling };
-          soundRising = sound-mono 1 (pathTotal N) (2 ^ 62) (storeRuns ws rising) few (store-sound N ws s rising);
-          soundFalling = sound-mono 1 (pathTotal N) (2 ^ 62) (storeRuns ws falling) few (store-sound N ws s falling);
-        };
+      pub store-ready : length ws ≡ storeWords → 8 * maxRuns ≤ length work′ → StoreReady work′ n u m v ws (runCount ws rising) (runCount ws falling)
+      store-ready lw l = record {
         workLength = l;
-        onRising = union-ready rising (risingUnion work′ n) rising-is (omega (arith, length-runs work′ (2 * maxRuns) n, counts-few .0));
-        onFalling = union-ready falling (fallingUnion work′ m) falling-is (omega (arith, length-runs work′ (3 * maxRuns) m, counts-few .1));
+        fewRising = omega (arith, rising-runs .number, few-then rising);
+        fewFalling = omega (arith, falling-runs .number, few-then falling);
+        long = lw;
+        held = places-hold (pathTotal N) ws lw (checks→ (storeRules (pathTotal N) ws) (record { got = tt; is = s }));
+        risingSame = λ e. held-number work′ (2 * maxRuns) n u (drop headWords ws) 0 (runCount ws rising) (runsThen N (runsByEdge ws) t rising) rising-runs e;
+        fallingSame = λ e. held-number work′ (3 * maxRuns) m v (drop headWords ws) maxRuns (runCount ws falling) (runsThen N (runsByEdge ws) t falling) falling-runs e;
       }
 
-      pub taken-stage : (ws′ : List ℕ) (r : TestAnswer) → FinishTrue work′ n m ws ws′ r → StageIs (workStage N t ws) ws ws′ work work′ r
-      unfolding workStage returnedBy storeAfter tested
-      taken-stage ws′ r f =
-          let c : checks (workRules N (runsByEdge ws) t) ≡ value tt = rules-are ∙ ap workAnswer eb in
-          record {
-            answer = ap stageOf (f .answer ∙ taken-is) ∙ rw c refl;
-            store = f .store ∙ store-is ∙ rw c refl;
-            sameLength = same;
-            pastWork = past-work same;
-          }
+      pub taken-stage : (ws′ : List ℕ)
+          → ws′ ≡ storeWith (madeOr u (runsInWords work′ (2 * maxRuns) n) (runsInWords (drop headWords ws) 0 (runCount ws rising)))
+          (madeOr v (runsInWords work′ (3 * maxRuns) m) (runsInWords (drop headWords ws) maxRuns (runCount ws falling)))
+          → StageIs (workStage N t ws) ws ws′ work work′ Taken
+      unfolding workStage storeAfter tested
+      taken-stage ws′ f =
+          let c : checks (workRules N (runsByEdge ws) t) ≡ value tt = passing in
+          record { answer = rw c refl; store = f ∙ store-is ∙ rw c refl; sameLength = same; pastWork = past-work same }
         where
-          nu : Edge → ℕ
-          nu e = howMany (newThen N (runsByEdge ws) t e) (pathTotal N)
-
-          he : Edge → ℕ
-          he e = howMany (heldThen N (runsByEdge ws) t e) (pathTotal N)
-
-          taken-is : Taken (size (risingUnion work′ n) - size (storeRuns ws rising)) (size (fallingUnion work′ m) - size (storeRuns ws falling))
-              (size (risingUnion work′ n)) (size (fallingUnion work′ m)) ≡ Taken (nu rising) (nu falling) (he rising) (he falling)
-          taken-is =
-              ap₂ (λ (u v : List Run). Taken (size u - size (storeRuns ws rising)) (size v - size (storeRuns ws falling)) (size u) (size v)) rising-is falling-is
-              ∙ ap₂ (λ (u v : ℕ). Taken u v (size (runsThen N (runsByEdge ws) t rising)) (size (runsThen N (runsByEdge ws) t falling)))
-              (new-size N t ws s rising) (new-size N t ws s falling)
-              ∙ ap₂ (λ (u v : ℕ). Taken (nu rising) (nu falling) u v) (then-size N t ws s rising) (then-size N t ws s falling)
-
-          store-is : storeWith (risingUnion work′ n) (fallingUnion work′ m) ≡ storeOf (byEdge (runsThen N (runsByEdge ws) t))
-          store-is = ap₂ (λ (u v : List Run). storeWith u v) rising-is falling-is
+          store-is : storeWith (madeOr u (runsInWords work′ (2 * maxRuns) n) (runsInWords (drop headWords ws) 0 (runCount ws rising)))
+              (madeOr v (runsInWords work′ (3 * maxRuns) m) (runsInWords (drop headWords ws) maxRuns (runCount ws falling)))
+              ≡ storeOf (byEdge (runsThen N (runsByEdge ws) t))
+          store-is =
+              ap₂ (λ (r f : List Run). storeWith r f)
+              (edge-is work′ (2 * maxRuns) n u (runsInWords (drop headWords ws) 0 (runCount ws rising)) (runsThen N (runsByEdge ws) t rising) rising-runs)
+              (edge-is work′ (3 * maxRuns) m v (runsInWords (drop headWords ws) maxRuns (runCount ws falling)) (runsThen N (runsByEdge ws) t falling) falling-runs)
 
 -- The places Test and Store before Work
 module _ (N : Netlist) (rec ws : List ℕ) where
   pub stage-refused : (w : Refusal) (work : List ℕ) → refused (refusalNumber w) ≡ checks (testRules N rec) → StageIs (testStage N rec ws) ws ws work work (Refused w)
-  unfolding testStage returnedBy storeAfter
+  unfolding testStage storeAfter
   stage-refused w work e =
       let c : checks (stageRules N rec ws) ≡ refused (refusalNumber w) =
       checks-both (testRules N rec) (storeRules (pathTotal N) ws ++ workRules N (runsByEdge ws) (testOf N rec)) ∙ rw (← e) refl in
@@ -289,16 +254,18 @@ module _ (netlist positions pathCounts masks : List ℕ) (rises falls inputs net
           (made N t (both-at N netlist positions pathCounts inputs netCount outputs c t masks rises falls p work (h .memory .workLength))
           (sound-part N c rising) (sound-part N c falling))
 
-      pub work-finish : (n m : ℕ) → b ≡ Fits n m → FinishReady work′ n m ws
-      work-finish n m e =
-          finish-ready (h .circuit) (h .test) ws work work′ (few-paths (h .circuit) netlist positions pathCounts inputs netCount outputs (h .tables))
-          (h .memory .sound) b (covers (h .circuit) (h .test) (h .tables) (h .pins)) same n m e (h .memory .storeLength) (omega (arith, h .memory .workLength))
+      pub work-ready : (n : ℕ) (u : Bool) (m : ℕ) (v : Bool) → b ≡ Fits n u m v → StoreReady work′ n u m v ws (runCount ws rising) (runCount ws falling)
+      work-ready n u m v e =
+          store-ready (h .circuit) (h .test) ws work work′ (few-paths (h .circuit) netlist positions pathCounts inputs netCount outputs (h .tables))
+          (h .memory .sound) b (covers (h .circuit) (h .test) (h .tables) (h .pins)) same n u m v e (h .memory .storeLength) (omega (arith, h .memory .workLength))
 
-      pub work-taken : (n m : ℕ) → b ≡ Fits n m → (ws′ : List ℕ) (r : TestAnswer) → FinishTrue work′ n m ws ws′ r
+      pub work-taken : (n : ℕ) (u : Bool) (m : ℕ) (v : Bool) → b ≡ Fits n u m v → (ws′ : List ℕ)
+          → ws′ ≡ storeWith (madeOr u (runsInWords work′ (2 * maxRuns) n) (runsInWords (drop headWords ws) 0 (runCount ws rising)))
+          (madeOr v (runsInWords work′ (3 * maxRuns) m) (runsInWords (drop headWords ws) maxRuns (runCount ws falling)))
           → (N : Netlist) (t : Test) → CircuitTables N netlist positions pathCounts inputs netCount outputs → PinsOf N t masks rises falls
-          → StageIs (workStage N t ws) ws ws′ work work′ r
-      work-taken n m e ws′ r f N t c p =
-          taken-stage N t ws work work′ (few-paths N netlist positions pathCounts inputs netCount outputs c) (one-circuit N c .sound) b (covers N t c p) same n m e ws′ r f
+          → StageIs (workStage N t ws) ws ws′ work work′ Taken
+      work-taken n u m v e ws′ f N t c p =
+          taken-stage N t ws work work′ (few-paths N netlist positions pathCounts inputs netCount outputs c) (one-circuit N c .sound) b (covers N t c p) same n u m v e ws′ f
 
       pub work-over : b ≡ WorkOver → (N : Netlist) (t : Test) → CircuitTables N netlist positions pathCounts inputs netCount outputs → PinsOf N t masks rises falls
           → StageIs (workStage N t ws) ws ws work work′ (Refused why.WorkingRuns)
@@ -367,7 +334,7 @@ module _ (netlist positions pathCounts : List ℕ) (inputs netCount outputs : �
       memory = h .stage .memory;
     }
 
-    pub legal-taken : (ws′ work′ : List ℕ) (r : TestAnswer)
+    pub legal-taken : (ws′ work′ : List ℕ) (r : StageAnswer)
         → ((N : Netlist) (t : Test) → CircuitTables N netlist positions pathCounts inputs netCount outputs → PinsOf N t masks (edges .rises) (edges .falls)
         → StageIs (workStage N t ws) ws ws′ work work′ r)
         → (N : Netlist) → CircuitTables N netlist positions pathCounts inputs netCount outputs → StageTrue N rec ws ws′ work work′ r

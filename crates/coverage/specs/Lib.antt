@@ -4,6 +4,5 @@ pub mod Edges
 pub mod Covers
 pub mod Both
 pub mod Stores
-pub mod Finish
 pub mod Stage
 pub mod TestCall

@@ -4,18 +4,18 @@ use mathlib.Core.Path.{_≡_}
 use mathlib.Core.List.{List}
 use Prim.Native.Nat.{ℕ, _≤_, _<_}
 use lib.ListN.{length, getD, drop}
-use Rattle.model.specs.Base.{Answer, refused, value, _>>=_, _>>_, checks, after, bit}
+use Rattle.model.specs.Base.{Answer, refused, value, _>>_, checks, passes, after, bit}
 use Rattle.model.specs.Netlist.{Netlist, pathTotal}
 use Rattle.model.specs.Netlist as model
 use Rattle.model.specs.Path.{rising, falling}
 use Rattle.model.specs.Detect.{Test, hasEdge, openPin}
 use Rattle.model.specs.Read.{readNetlist, testRules}
 use Rattle.model.specs.Store.{storeWords, storeOf, storeRules, runsByEdge}
-use Rattle.model.specs.Calls.{padded, workWords, workRules, FaultCounts, Tested, tested, testStage}
+use Rattle.model.specs.Calls.{padded, workWords, workRules, Tested, tested, testStage}
 use Rattle.model.specs.Refusals.{refusalNumber}
 use Rattle.netlist.specs.Places as places
-use Rattle.coverage.specs.declared.TestAnswer.{TestAnswer}
-use Rattle.coverage.specs.declared.TestAnswer.the-variants as stage
+use Rattle.coverage.specs.declared.inner.StageAnswer.{StageAnswer}
+use Rattle.coverage.specs.declared.inner.StageAnswer.the-variants as stage
 
 -- a legal netlist, the positions of its gates' records, its counts, and its numbers of inputs, nets and outputs
 pub record CircuitTables (N : Netlist) (netlist positions counts : List ℕ) (inputs nets outputs : ℕ) : Type 0 where
@@ -55,16 +55,12 @@ pub record WorkReady (netlist positions counts masks : List ℕ) (rises falls in
   pub pins : PinsOf circuit test masks rises falls
   pub memory : MemoryReady circuit store work
 
--- document 01's number and values for each case
-abbrev pub stageOf : TestAnswer → Answer FaultCounts
-stageOf (stage.Taken newR newF heldR heldF) =
-    value (record { newFaults = record { onRising = newR; onFalling = newF }; heldFaults = record { onRising = heldR; onFalling = heldF } })
+-- document 01's number for each case
+abbrev pub stageOf : StageAnswer → Answer (Unit {0})
+stageOf stage.Taken = value tt
 stageOf (stage.Refused why) = refused (refusalNumber why)
 
--- what a stage returns, and the store that it leaves
-unfoldable pub returnedBy : Answer Tested → Answer FaultCounts
-returnedBy x = x >>= λ t. value (t .returned)
-
+-- the store that a stage leaves
 unfoldable pub storeAfter : Answer Tested → List ℕ → List ℕ
 storeAfter x ws = after x ws (λ t. storeOf (t .runs))
 
@@ -72,13 +68,13 @@ storeAfter x ws = after x ws (λ t. storeOf (t .runs))
 unfoldable pub workStage : Netlist → Test → List ℕ → Answer Tested
 workStage N t ws = checks (workRules N (runsByEdge ws) t) >> value (tested N (runsByEdge ws) t)
 
--- the answer and the store are those of the stage `x`; working memory past its first 8,192 words is as found
-pub record StageIs (x : Answer Tested) (ws ws′ work work′ : List ℕ) (r : TestAnswer) : Type 0 where
-  pub answer : stageOf r ≡ returnedBy x
+-- whether it is taken and the store are those of the stage `x`; working memory past its first 8,192 words is as found
+pub record StageIs (x : Answer Tested) (ws ws′ work work′ : List ℕ) (r : StageAnswer) : Type 0 where
+  pub answer : stageOf r ≡ passes x
   pub store : ws′ ≡ storeAfter x ws
   pub sameLength : length work′ ≡ length work
   pub pastWork : drop workWords work′ ≡ drop workWords work
 
 -- the places Test, Store and Work for one record
-abbrev pub StageTrue : Netlist → List ℕ → List ℕ → List ℕ → List ℕ → List ℕ → TestAnswer → Type 0
+abbrev pub StageTrue : Netlist → List ℕ → List ℕ → List ℕ → List ℕ → List ℕ → StageAnswer → Type 0
 StageTrue N rec ws ws′ work work′ r = StageIs (testStage N rec ws) ws ws′ work work′ r

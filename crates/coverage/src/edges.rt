@@ -48,14 +48,15 @@ fn union_runs(
     )
 }
 
-// What a test makes of one edge: the number of the runs that the store would have, or why it may not.
+// What a test makes of one edge: the number of the runs that the store would have and whether they are made in the words (else nothing is new and
+// the store has them), or why it may not.
 pub enum EdgeAnswer {
-    Covered(usize),
+    Covered(usize, bool),
     OverWork,
     OverStore,
 }
 
-// Covers one edge: the runs of the store's edge with the detected path numbers, made at run `target` of the words.
+// Covers one edge: the runs of the store's edge with the detected path numbers, made at run `target` of the words where something is new.
 pub(crate) fn cover_edge(
     netlist: &[u8],
     positions: &[u16; 512],
@@ -73,7 +74,7 @@ pub(crate) fn cover_edge(
     target: usize,
 ) -> EdgeAnswer
     requires { ⌜ SomeEdgeAt (now netlist) (now positions) (now counts) (now masks) edges inputs nets at outputs (now words) ⌝ }
-    requires { ⌜ (2 * (first + held) ≤ length (now store)) × (2 * maxRuns ≤ target) × (2 * (target + maxRuns) ≤ length (now words)) ⌝ }
+    requires { ⌜ (held ≤ maxRuns) × (2 * (first + held) ≤ length (now store)) × (2 * maxRuns ≤ target) × (2 * (target + maxRuns) ≤ length (now words)) ⌝ }
     requires { ⌜ Sound (2 ^ 62) (runsInWords (now store) first held) ⌝ }
     ensures { λ r. ⌜ ((K : Case) → EdgeAt K (now (netlist .entry)) (now (positions .entry)) (now (counts .entry)) (now (masks .entry)) edges inputs nets at outputs (now (words .entry)) → Sound (pathTotal (K .netlist)) (runsInWords (now (store .entry)) first held) → Covers K (runsInWords (now (store .entry)) first held) (now (words .entry)) (now (words .exit)) target r) ⌝ }
 {
@@ -89,17 +90,30 @@ pub(crate) fn cover_edge(
         outputs,
         words,
     ) {
-        Added::Count(found) => match union_runs(store, first, held, words, found, target) {
-            Added::Count(n) => EdgeAnswer::Covered(n),
-            Added::Full => EdgeAnswer::OverStore,
-        },
+        Added::Count(found) => {
+            let known = inner::inside(
+                store,
+                first,
+                first + held,
+                words,
+                MAX_RUNS,
+                MAX_RUNS + found,
+            );
+            if known {
+                return EdgeAnswer::Covered(held, false);
+            }
+            match union_runs(store, first, held, words, found, target) {
+                Added::Count(n) => EdgeAnswer::Covered(n, true),
+                Added::Full => EdgeAnswer::OverStore,
+            }
+        }
         Added::Full => EdgeAnswer::OverWork,
     }
 }
 
-// What a test makes of both edges: the numbers of runs that the store would have, or why it may not.
+// What a test makes of both edges: for each edge the number of runs that the store would have and whether they are made, or why it may not.
 pub enum BothAnswer {
-    Fits(usize, usize),
+    Fits(usize, bool, usize, bool),
     WorkOver,
     StoreOver,
 }
@@ -109,14 +123,19 @@ fn join_answers(rising: EdgeAnswer, falling: EdgeAnswer) -> BothAnswer
     ensures { λ r. ⌜ r ≡ joined rising falling ⌝ }
 {
     match rising {
-        EdgeAnswer::Covered(n) => match falling {
-            EdgeAnswer::Covered(m) => BothAnswer::Fits(n, m),
+        EdgeAnswer::Covered(n, rising_made) => match falling {
+            EdgeAnswer::Covered(m, falling_made) => BothAnswer::Fits(
+                n,
+                rising_made,
+                m,
+                falling_made,
+            ),
             EdgeAnswer::OverWork => BothAnswer::WorkOver,
             EdgeAnswer::OverStore => BothAnswer::StoreOver,
         },
         EdgeAnswer::OverWork => BothAnswer::WorkOver,
         EdgeAnswer::OverStore => match falling {
-            EdgeAnswer::Covered(m) => BothAnswer::StoreOver,
+            EdgeAnswer::Covered(m, falling_made) => BothAnswer::StoreOver,
             EdgeAnswer::OverWork => BothAnswer::WorkOver,
             EdgeAnswer::OverStore => BothAnswer::StoreOver,
         },

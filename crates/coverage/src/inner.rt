@@ -3,8 +3,6 @@
 ghost use Rattle.model.specs.Detect.{Test};
 ghost use Rattle.model.specs.Netlist.{Netlist};
 ghost use Rattle.coverage.specs.Stage.{CircuitTables, PinsOf, StageReady, WorkReady, LegalReady, workStage, StageIs, StageTrue};
-ghost use Rattle.coverage.specs.Finish.{FinishReady, FinishTrue};
-use crate::TestAnswer;
 use crate::edges::BothAnswer;
 use crate::edges::cover_both;
 use crate::store_write::write_store;
@@ -17,22 +15,11 @@ use simulation::inner::test_record::edges_of;
 use simulation::inner::test_record::read_vectors;
 use store::inner::FALLING_COUNT;
 use store::inner::RISING_COUNT;
-use store::inner::totals_of;
 
-// Puts the unions of both edges, as they stand in the working words, into the store, and counts what is new.
-fn finish(work: &[u64], rising: usize, falling: usize, store: &mut [u64]) -> TestAnswer
-    requires { ⌜ FinishReady (now work) rising falling (now store) ⌝ }
-    ensures { λ r. ⌜ FinishTrue (now (work .entry)) rising falling (now (store .entry)) (now (store .exit)) r ⌝ }
-{
-    let before = totals_of(store);
-    write_store(work, rising, falling, store);
-    let after = totals_of(store);
-    TestAnswer::Taken {
-        new_rising: after.rising - before.rising,
-        new_falling: after.falling - before.falling,
-        held_rising: after.rising,
-        held_falling: after.falling,
-    }
+// What the stage answers: that the store now holds what the test detects too, or why it was refused.
+pub enum StageAnswer {
+    Taken,
+    Refused(Refusal),
 }
 
 // The place Work, from the open pins and the edges of the inputs.
@@ -48,7 +35,7 @@ fn work_on(
     outputs: usize,
     store: &mut [u64],
     work: &mut [u64],
-) -> TestAnswer
+) -> StageAnswer
     requires { ⌜ WorkReady (now netlist) (now positions) (now counts) (now masks) rises falls inputs nets outputs (now store) (now work) ⌝ }
     ensures { λ r. ⌜ ((N : Netlist) (t : Test) → CircuitTables N (now (netlist .entry)) (now (positions .entry)) (now (counts .entry)) inputs nets outputs → PinsOf N t (now (masks .entry)) rises falls → StageIs (workStage N t (now (store .entry))) (now (store .entry)) (now (store .exit)) (now (work .entry)) (now (work .exit)) r) ⌝ }
 {
@@ -73,9 +60,21 @@ fn work_on(
         work,
     );
     match both {
-        BothAnswer::Fits(n, m) => finish(work, n, m, store),
-        BothAnswer::WorkOver => TestAnswer::Refused(Refusal::WorkingRuns),
-        BothAnswer::StoreOver => TestAnswer::Refused(Refusal::StoreRuns),
+        BothAnswer::Fits(n, rising_made, m, falling_made) => {
+            write_store(
+                work,
+                n,
+                rising_made,
+                m,
+                falling_made,
+                store,
+                rising,
+                falling,
+            );
+            StageAnswer::Taken
+        }
+        BothAnswer::WorkOver => StageAnswer::Refused(Refusal::WorkingRuns),
+        BothAnswer::StoreOver => StageAnswer::Refused(Refusal::StoreRuns),
     }
 }
 
@@ -90,7 +89,7 @@ pub fn take_legal(
     test: &[u8],
     store: &mut [u64],
     work: &mut [u64],
-) -> TestAnswer
+) -> StageAnswer
     requires { ⌜ LegalReady (now netlist) (now positions) (now counts) inputs nets outputs (now test) (now store) (now work) ⌝ }
     ensures { λ r. ⌜ ((N : Netlist) → CircuitTables N (now (netlist .entry)) (now (positions .entry)) (now (counts .entry)) inputs nets outputs → StageTrue N (now (test .entry)) (now (store .entry)) (now (store .exit)) (now (work .entry)) (now (work .exit)) r) ⌝ }
 {
@@ -123,13 +122,13 @@ pub fn take_test(
     test: &[u8],
     store: &mut [u64],
     work: &mut [u64],
-) -> TestAnswer
+) -> StageAnswer
     requires { ⌜ StageReady (now netlist) (now positions) (now counts) inputs nets outputs (now store) (now work) ⌝ }
     ensures { λ r. ⌜ ((N : Netlist) → CircuitTables N (now (netlist .entry)) (now (positions .entry)) (now (counts .entry)) inputs nets outputs → StageTrue N (now (test .entry)) (now (store .entry)) (now (store .exit)) (now (work .entry)) (now (work .exit)) r) ⌝ }
 {
     let checked = check_record(test, inputs);
     match checked {
-        RecordAnswer::Refused(why) => TestAnswer::Refused(why),
+        RecordAnswer::Refused(why) => StageAnswer::Refused(why),
         RecordAnswer::Legal => take_legal(
             netlist,
             positions,

@@ -5,8 +5,10 @@ mod net_runs;
 mod store_write;
 
 ghost use Rattle.model.specs.Netlist.{Netlist};
-ghost use Rattle.coverage.specs.Stage.{CircuitTables, StageTrue};
-ghost use Rattle.coverage.specs.TestCall.{CheckedReady, TestTrue};
+ghost use Rattle.model.specs.Calls.{testStage};
+ghost use Rattle.coverage.specs.Stage.{CircuitTables, LegalReady};
+ghost use Rattle.coverage.specs.TestCall.{CheckedReady, TestedIs, TestTrue};
+use crate::inner::StageAnswer;
 use crate::inner::take_legal;
 use model::Refusal;
 use model::STORE_WORDS;
@@ -17,6 +19,7 @@ use simulation::inner::test_record::RecordAnswer;
 use simulation::inner::test_record::check_record;
 use store::inner::StoreCheck;
 use store::inner::check_words;
+use store::inner::totals_of;
 
 // What a test answers: for each edge the faults new to the store and those then held.
 pub enum TestAnswer {
@@ -27,6 +30,47 @@ pub enum TestAnswer {
         held_falling: u64,
     },
     Refused(Refusal),
+}
+
+// A legal record on a sound store: the stage, with the faults that the store holds counted before and after it.
+fn count_new(
+    netlist: &[u8],
+    positions: &[u16; 512],
+    counts: &[u64; 512],
+    inputs: usize,
+    nets: usize,
+    outputs: usize,
+    test: &[u8],
+    store: &mut [u64],
+    work: &mut [u64],
+) -> TestAnswer
+    requires { ⌜ LegalReady (now netlist) (now positions) (now counts) inputs nets outputs (now test) (now store) (now work) ⌝ }
+    ensures { λ r. ⌜ ((N : Netlist) → CircuitTables N (now (netlist .entry)) (now (positions .entry)) (now (counts .entry)) inputs nets outputs → TestedIs (testStage N (now (test .entry)) (now (store .entry))) (now (store .entry)) (now (store .exit)) (now (work .entry)) (now (work .exit)) r) ⌝ }
+{
+    let before = totals_of(store);
+    let stage = take_legal(
+        netlist,
+        positions,
+        counts,
+        inputs,
+        nets,
+        outputs,
+        test,
+        store,
+        work,
+    );
+    match stage {
+        StageAnswer::Refused(why) => TestAnswer::Refused(why),
+        StageAnswer::Taken => {
+            let after = totals_of(store);
+            TestAnswer::Taken {
+                new_rising: after.rising - before.rising,
+                new_falling: after.falling - before.falling,
+                held_rising: after.rising,
+                held_falling: after.falling,
+            }
+        }
+    }
 }
 
 // The places Test, Store and Work for one record, on a netlist whose tables are at hand and a store that is not checked yet.
@@ -43,7 +87,7 @@ fn test_on(
     work: &mut [u64],
 ) -> TestAnswer
     requires { ⌜ CheckedReady (now netlist) (now positions) (now counts) inputs nets outputs paths (now store) (now work) ⌝ }
-    ensures { λ r. ⌜ ((N : Netlist) → CircuitTables N (now (netlist .entry)) (now (positions .entry)) (now (counts .entry)) inputs nets outputs → StageTrue N (now (test .entry)) (now (store .entry)) (now (store .exit)) (now (work .entry)) (now (work .exit)) r) ⌝ }
+    ensures { λ r. ⌜ ((N : Netlist) → CircuitTables N (now (netlist .entry)) (now (positions .entry)) (now (counts .entry)) inputs nets outputs → TestedIs (testStage N (now (test .entry)) (now (store .entry))) (now (store .entry)) (now (store .exit)) (now (work .entry)) (now (work .exit)) r) ⌝ }
 {
     let legal = check_record(test, inputs);
     match legal {
@@ -52,7 +96,7 @@ fn test_on(
             let sound = check_words(store, paths);
             match sound {
                 StoreCheck::Refused(why) => TestAnswer::Refused(why),
-                StoreCheck::Sound => take_legal(
+                StoreCheck::Sound => count_new(
                     netlist,
                     positions,
                     counts,

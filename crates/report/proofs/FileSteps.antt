@@ -9,7 +9,7 @@ use native.Mathlib.Omega.{arith}
 use borrow.Author.Needs.{needs}
 use lib.ListN.{length, take, drop, replicate, length-drop}
 use lib.Seq.{drop-drop}
-use Rattle.model.specs.Base.{Answer, refused, value, _>>=_, checks, after}
+use Rattle.model.specs.Base.{Answer, refused, value, _>>=_, checks, passes, after}
 use Rattle.model.specs.Netlist.{Netlist, pathTotal}
 use Rattle.model.specs.Read.{vectorBytes, recordLength}
 use Rattle.model.specs.Refusals.{refusalNumber}
@@ -17,13 +17,14 @@ use Rattle.model.specs.Store.{storeWords, emptyStore, storeOf, storeRules}
 use Rattle.model.specs.Calls.{Tested, testStage, workWords}
 use Rattle.model.specs.Report.{records, fileRecords, testAll}
 use Rattle.model.specs.declared.Refusal.{Refusal}
-use Rattle.model.proofs.AnswerLaws.{AllPass, Passed, checks→, →checks, not-refused, steps}
+use Rattle.model.proofs.AnswerLaws.{AllPass, Passed, checks→, →checks}
 use Rattle.model.proofs.ReadLaws.{limits}
 use Rattle.model.proofs.HoldingLaws.{stage-length, stage-sound}
-use Rattle.coverage.specs.Stage.{CircuitTables, StageReady, StageTrue, stageOf, returnedBy, storeAfter}
+use Rattle.coverage.specs.Stage.{CircuitTables, StageReady, StageTrue, stageOf, storeAfter}
+use Rattle.coverage.proofs.TestCallLaws.{refused-by, taken-by}
 use Rattle.report.specs.TestFile.{leftStore, FileTaken}
-use Rattle.coverage.specs.declared.TestAnswer.{TestAnswer}
-use Rattle.coverage.specs.declared.TestAnswer.the-variants as stage
+use Rattle.coverage.specs.declared.inner.StageAnswer.{StageAnswer}
+use Rattle.coverage.specs.declared.inner.StageAnswer.the-variants as stage
 use Rattle.report.specs.declared.test_file.FileAnswer.the-variants as file
 
 -- all words zero, of a store's length
@@ -37,20 +38,12 @@ few-inputs netlist positions netCounts inputs netCount outputs ws work s =
     omega (arith, s .tables .inputsAre, limits netlist (s .circuit) (s .tables .legal) .fewInputs)
 
 -- The stage, from its answer
-module _ (N : Netlist) (rec ws : List ℕ) (r : TestAnswer) (e : stageOf r ≡ returnedBy (testStage N rec ws)) where
-  stage-took : (a b c d : ℕ) → r ≡ stage.Taken a b c d → Passed (testStage N rec ws)
-  unfolding returnedBy
-  stage-took a b c d q =
-      let s = steps (testStage N rec ws) (λ t. value (t .returned)) (sym e ∙ ap stageOf q) in
-      record { got = s .got; is = s .first }
+module _ (N : Netlist) (rec ws : List ℕ) (r : StageAnswer) (e : stageOf r ≡ passes (testStage N rec ws)) where
+  stage-took : r ≡ stage.Taken → Passed (testStage N rec ws)
+  stage-took q = taken-by (testStage N rec ws) (sym (ap stageOf q) ∙ e)
 
   stage-refuses : (w : Refusal) → r ≡ stage.Refused w → testStage N rec ws ≡ refused (refusalNumber w)
-  unfolding returnedBy
-  stage-refuses w q = go (testStage N rec ws) (sym e ∙ ap stageOf q)
-    where
-      go : (m : Answer Tested) → (m >>= λ t. value (t .returned)) ≡ refused (refusalNumber w) → m ≡ refused (refusalNumber w)
-      go (refused n) p = let z : n ≡ refusalNumber w = cc in ap (λ k. refused k) z
-      go (value t) p = absurd (not-refused (sym p))
+  stage-refuses w q = refused-by (testStage N rec ws) (refusalNumber w) (sym (ap stageOf q) ∙ e)
 
 -- The records of a file
 records-next : (len : ℕ) (bs : List ℕ) → 0 < len → len ≤ length bs
@@ -112,7 +105,7 @@ module _ (netlist positions netCounts : List ℕ) (inputs netCount outputs : ℕ
           pastWork = g .pastWork;
         }
 
-    module _ (h : bytes ≤ length testFile - at) (ws′ work′ : List ℕ) (r : TestAnswer)
+    module _ (h : bytes ≤ length testFile - at) (ws′ work′ : List ℕ) (r : StageAnswer)
         (s : (N : Netlist) → CircuitTables N netlist positions netCounts inputs netCount outputs → StageTrue N (take (at + bytes - at) (drop at testFile)) ws ws′ work work′ r) where
       abbrev rec : List ℕ
       rec = take (at + bytes - at) (drop at testFile)
@@ -149,9 +142,9 @@ module _ (netlist positions netCounts : List ℕ) (inputs netCount outputs : ℕ
             pastWork = here .pastWork ∙ g .pastWork;
           }
 
-      module _ (a b c d : ℕ) (q : r ≡ stage.Taken a b c d) where
+      module _ (q : r ≡ stage.Taken) where
         took : Passed (testStage C rec ws)
-        took = stage-took C rec ws r (here .answer) a b c d q
+        took = stage-took C rec ws r (here .answer) q
 
         left-is : ws′ ≡ storeOf (took .got .runs)
         unfolding storeAfter
@@ -179,7 +172,7 @@ module _ (netlist positions netCounts : List ℕ) (inputs netCount outputs : ℕ
                 };
               };
               rest = λ N t.
-                  let m = stage-took N rec ws r (s N t .answer) a b c d q in
+                  let m = stage-took N rec ws r (s N t .answer) q in
                   let w : ws′ ≡ storeOf (m .got .runs) = s N t .store ∙ ap (λ (x : Answer Tested). after x ws (λ y. storeOf (y .runs))) (m .is) in
                   sym (more N t ∙ rw (m .is) (ap (λ (x : List ℕ). testAll N (fileRecords N (drop (at + bytes) testFile)) x) (sym w)));
               sameLength = here .sameLength ∙ g .sameLength;

@@ -4,7 +4,7 @@ ghost use Prim.Native.Nat.{_+_, _*_, _≤_, _<_};
 ghost use Rattle.model.specs.Read.{vectorBytes};
 ghost use Rattle.coverage.specs.Stage.{StageReady};
 ghost use Rattle.report.specs.TestFile.{FileTaken};
-use coverage::TestAnswer;
+use coverage::inner::StageAnswer;
 use coverage::inner::take_test;
 use model::Refusal;
 use simulation::inner::test_record::vector_bytes;
@@ -54,11 +54,11 @@ pub(crate) fn take_records(
             work,
         );
         match taken {
-            TestAnswer::Refused(why) => {
+            StageAnswer::Refused(why) => {
                 clear(store);
                 return FileAnswer::Refused(why);
             }
-            TestAnswer::Taken { .. } => {
+            StageAnswer::Taken => {
                 at += bytes;
             }
         }

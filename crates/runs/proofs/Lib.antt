@@ -6,6 +6,7 @@ pub mod AppendSteps
 pub mod Adding
 pub mod ShiftedSteps
 pub mod UnionSteps
+pub mod InsideSteps
 pub mod SizeSteps
 pub mod ContainsSteps
 pub mod SeparatedSteps

@@ -6,7 +6,7 @@ ghost use lib.ListN.{length};
 ghost use Rattle.model.specs.Runs;
 ghost use Rattle.model.specs.Runs.{runsOf, inRuns, separatedRuns};
 ghost use Rattle.runs.specs.Runs.{run, RunWithin, Sound, addRun, addRuns, shiftRun, shiftRuns, leftFirst, inEither, runAt, runsInWords, writeRuns};
-ghost use Rattle.runs.specs.Answers.{Room, Adds};
+ghost use Rattle.runs.specs.Answers.{Room, Adds, InsideWhere};
 
 // The runs that a list then has, or that they are over its capacity.
 pub enum Added {
@@ -205,6 +205,33 @@ pub fn union(
         }
     }
     Added::Count(k)
+}
+
+// Whether each of the runs b_from..b_to of some words lies in one of the runs a_from..a_to of others. Both ascend, so one walk along both serves;
+// the answer false promises nothing: the caller then makes the union.
+pub fn inside(a: &[u64], a_from: usize, a_to: usize, b: &[u64], b_from: usize, b_to: usize) -> bool
+    requires { ⌜ («a_from» ≤ «a_to») × (2 * «a_to» ≤ length (now a)) × («b_from» ≤ «b_to») × (2 * «b_to» ≤ length (now b)) ⌝ }
+    ensures { λ r. ⌜ InsideWhere r (now (a .entry)) «a_from» «a_to» (now (b .entry)) «b_from» «b_to» ⌝ }
+{
+    let mut i = a_from;
+    let mut j = b_from;
+    while j < b_to {
+        if a_to <= i {
+            return false;
+        }
+        if a[2 * i + 1] < b[2 * j] {
+            i += 1;
+        } else {
+            if b[2 * j] < a[2 * i] {
+                return false;
+            }
+            if a[2 * i + 1] < b[2 * j + 1] {
+                return false;
+            }
+            j += 1;
+        }
+    }
+    true
 }
 
 // How many numbers lie in the runs from..to.

@@ -6,7 +6,7 @@ use Rattle.coverage.proofs.test_on.Statement.{statement}
 use Rattle.coverage.proofs.test_on.Tie as tie
 use Rattle.coverage.proofs.test_on.Reads as reads
 use Rattle.coverage.proofs.test_on.Lts as lts
-use Rattle.coverage.proofs.inner.take_legal.Reads as take-legal-reads
+use Rattle.coverage.proofs.count_new.Reads as count-new-reads
 use Rattle.simulation.proofs.inner.test_record.check_record.Reads as check-record-reads
 use Rattle.store.proofs.inner.check_words.Reads as check-words-reads
 
@@ -28,8 +28,8 @@ enum-known-sound c = search needs
 enum-told-2 : tie.Need-enum-told-2
 enum-told-2 c = search needs
 
-take-legal-requires : tie.Need-take-legal-requires
-take-legal-requires c κs = checked-legal (c .before .before .before .before .before .before .before .before .before .before .before .before .before .args .netlist .now) (c .before .before .before .before .before .before .before .before .before .before .before .before .before .args .positions .now) (c .before .before .before .before .before .before .before .before .before .before .before .before .before .args .counts .now) (c .before .before .before .before .before .before .before .before .before .before .before .before .before .args .inputs) (c .before .before .before .before .before .before .before .before .before .before .before .before .before .args .nets) (c .before .before .before .before .before .before .before .before .before .before .before .before .before .args .outputs) (c .before .before .before .before .before .before .before .before .before .before .before .before .before .args .paths) (c .before .before .before .before .before .before .before .before .before .before .before .before .before .args .test .now) (c .before .before .before .before .before .before .before .before .before .before .before .before .before .args .store .now) (c .before .before .before .before .before .before .before .before .before .before .before .before .before .args .work .now) (c .before .before .before .before .before .before .before .before .before .before .before .before .before .pre) (c .before .before .before .before .before .before .before .before .check-record .result) (c .before .before .before .before .before .before .before .before .check-record .ensures) (c .before .before .before .before .before .before .enum-told .given .1) (c .before .before .before .before .check-words .result) (c .before .before .before .before .check-words .ensures) (c .before .before .enum-told2 .given .1)
+count-new-requires : tie.Need-count-new-requires
+count-new-requires c κs = checked-legal (c .before .before .before .before .before .before .before .before .before .before .before .before .before .args .netlist .now) (c .before .before .before .before .before .before .before .before .before .before .before .before .before .args .positions .now) (c .before .before .before .before .before .before .before .before .before .before .before .before .before .args .counts .now) (c .before .before .before .before .before .before .before .before .before .before .before .before .before .args .inputs) (c .before .before .before .before .before .before .before .before .before .before .before .before .before .args .nets) (c .before .before .before .before .before .before .before .before .before .before .before .before .before .args .outputs) (c .before .before .before .before .before .before .before .before .before .before .before .before .before .args .paths) (c .before .before .before .before .before .before .before .before .before .before .before .before .before .args .test .now) (c .before .before .before .before .before .before .before .before .before .before .before .before .before .args .store .now) (c .before .before .before .before .before .before .before .before .before .before .before .before .before .args .work .now) (c .before .before .before .before .before .before .before .before .before .before .before .before .before .pre) (c .before .before .before .before .before .before .before .before .check-record .result) (c .before .before .before .before .before .before .before .before .check-record .ensures) (c .before .before .before .before .before .before .enum-told .given .1) (c .before .before .before .before .check-words .result) (c .before .before .before .before .check-words .ensures) (c .before .before .enum-told2 .given .1)
 
 returns : tie.Need-returns
 returns c = record-refused (c .before .before .before .before .before .before .before .before .args .netlist .now) (c .before .before .before .before .before .before .before .before .args .positions .now) (c .before .before .before .before .before .before .before .before .args .counts .now) (c .before .before .before .before .before .before .before .before .args .inputs) (c .before .before .before .before .before .before .before .before .args .nets) (c .before .before .before .before .before .before .before .before .args .outputs) (c .before .before .before .before .before .before .before .before .args .paths) (c .before .before .before .before .before .before .before .before .args .test .now) (c .before .before .before .before .before .before .before .before .args .store .now) (c .before .before .before .before .before .before .before .before .args .work .now) (c .before .before .before .before .before .before .before .before .pre) (c .before .before .before .check-record .result) (c .before .before .before .check-record .ensures) (c .before .legal .given .0 .0) (c .before .legal .given .1)
@@ -59,7 +59,7 @@ test-on-spec =
     check-words-requires
     enum-known-sound
     enum-told-2
-    take-legal-requires
+    count-new-requires
     returns
     same-length
     returns-2

@@ -16,7 +16,7 @@ cover-edge-requires : tie.Need-cover-edge-requires
 cover-edge-requires c κs = let a = c .before .before .before .before .args in
     let p = c .before .before .before .before .pre in (
       record { case = caseOf (p .0 .netlist) (p .0 .test) up; at-edge = p .0 .at-both .risingAt },
-      ((omega (arith, p .1 .0), omega arith, omega (arith, p .1 .0)), p .1 .1 .0),
+      ((p .1 .0 .0, omega (arith, p .1 .0), omega arith, omega (arith, p .1 .0)), p .1 .1 .0),
     )
 
 cover-edge-requires-2 : tie.Need-cover-edge-requires-2
@@ -24,7 +24,7 @@ cover-edge-requires-2 c κs = let a = c .before .before .before .before .before 
     let p = c .before .before .before .before .before .before .before .before .pre in
     let l = c .before .before .before .cover-edge .kept .1 .1 .1 .1 .1 .1 .1 .1 .1 .1 .1 .1 .0 in (
       record { case = caseOf (p .0 .netlist) (p .0 .test) down; at-edge = edge-again (caseOf (p .0 .netlist) (p .0 .test) down) (a .netlist .now) (a .positions .now) (a .counts .now) (a .masks .now) (a .falls) (a .inputs) (a .nets) (a .at) (a .outputs) (a .words .now) (c .before .before .before .cover-edge .last .1 .1 .1 .1 .1 .1 .1 .1 .1 .1 .1 .1 .0) l (p .0 .at-both .fallingAt) },
-      ((omega (arith, p .1 .0), omega arith, omega (arith, p .1 .0, l)), p .1 .1 .1),
+      ((p .1 .0 .1, omega (arith, p .1 .0), omega arith, omega (arith, p .1 .0, l)), p .1 .1 .1),
     )
 
 join-answers-requires : tie.Need-join-answers-requires

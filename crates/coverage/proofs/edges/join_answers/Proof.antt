@@ -1,72 +1,56 @@
-use Rattle.coverage.specs.Both.{joined}
+-- `coverage::edges::join_answers` meets its contract, case by case.
+-- Assumes nothing.
 use mathlib.Core.Path.{ap₂, sym}
+use Rattle.coverage.specs.Both.{joined}
 use borrow.Author.Needs.{needs}
 use Rattle.coverage.proofs.edges.join_answers.Statement.{statement}
 use Rattle.coverage.proofs.edges.join_answers.Tie as tie
-use Rattle.coverage.proofs.edges.join_answers.Reads as reads
-use Rattle.coverage.proofs.edges.join_answers.Lts as lts
 
--- src/lib.rt:384:29
 enum-known-rising : tie.Need-enum-known-rising
 enum-known-rising c = search needs
 
--- src/lib.rt:385:33
 enum-known-falling : tie.Need-enum-known-falling
 enum-known-falling c = search needs
 
--- src/lib.rt:386:37
 enum-told : tie.Need-enum-told
 enum-told c = search needs
 
--- src/lib.rt:387:38
 enum-told-2 : tie.Need-enum-told-2
 enum-told-2 c = search needs
 
--- src/lib.rt:389:33
 enum-told-3 : tie.Need-enum-told-3
 enum-told-3 c = search needs
 
--- src/lib.rt:390:34
 enum-told-4 : tie.Need-enum-told-4
 enum-told-4 c = search needs
 
--- src/lib.rt:391:33
 enum-known-falling-2 : tie.Need-enum-known-falling-2
 enum-known-falling-2 c = search needs
 
--- src/lib.rt:392:37
 enum-told-5 : tie.Need-enum-told-5
 enum-told-5 c = search needs
 
--- src/lib.rt:393:38
 enum-told-6 : tie.Need-enum-told-6
 enum-told-6 c = search needs
 
--- src/lib.rt:380:1
 returns : tie.Need-returns
 returns c = sym (ap₂ joined (c .before .before .before .before .rising .given .1) (c .before .falling .given .1))
 
--- src/lib.rt:380:1
 returns-2 : tie.Need-returns-2
 returns-2 c = search needs
 
--- src/lib.rt:380:1
 returns-3 : tie.Need-returns-3
 returns-3 c = search needs
 
--- src/lib.rt:380:1
 returns-4 : tie.Need-returns-4
 returns-4 c = search needs
 
--- src/lib.rt:380:1
 returns-5 : tie.Need-returns-5
 returns-5 c = search needs
 
--- src/lib.rt:380:1
 returns-6 : tie.Need-returns-6
 returns-6 c = search needs
 
--- src/lib.rt:380:1
 returns-7 : tie.Need-returns-7
 returns-7 c = search needs
 

@@ -1,17 +1,15 @@
--- `coverage::inner::work_on` meets its contract: the interval work's answer is the place Work, and the unions are the runs that the store then has.
+-- `coverage::inner::work_on` meets its contract: the interval work's answer is the place Work, and the runs of both edges are those that the store then has.
 -- Assumes nothing.
 use mathlib.Core.Path.{ap}
 use native.Mathlib.Omega.{arith}
 use lib.ListN.{length, length-drop}
 use Rattle.model.specs.Path.{rising, falling}
-use Rattle.coverage.proofs.StageLaws.{work-outputs, work-both, work-few, work-sound, work-finish, work-taken, work-over, work-full, places-part}
+use Rattle.coverage.proofs.StageLaws.{work-outputs, work-both, work-few, work-sound, work-ready, work-taken, work-over, work-full, places-part}
 use borrow.Author.Needs.{needs}
 use Rattle.coverage.proofs.inner.work_on.Statement.{statement}
 use Rattle.coverage.proofs.inner.work_on.Tie as tie
-use Rattle.coverage.proofs.inner.work_on.Reads as reads
-use Rattle.coverage.proofs.inner.work_on.Lts as lts
 use Rattle.coverage.proofs.edges.cover_both.Reads as cover-both-reads
-use Rattle.coverage.proofs.inner.finish.Reads as finish-reads
+use Rattle.coverage.proofs.store_write.write_store.Reads as write-store-reads
 
 slice-read-rising : tie.Need-slice-read-rising
 slice-read-rising c = search needs
@@ -35,8 +33,7 @@ part-places-end : tie.Need-part-places-end
 part-places-end c = search needs
 
 cover-both-requires : tie.Need-cover-both-requires
-cover-both-requires c κs =
-    let s = c .before .before .before .before .before .before .before .before .args .store .now in
+cover-both-requires c κs = let s = c .before .before .before .before .before .before .before .before .args .store .now in
     let h = c .before .before .before .before .before .before .before .before .pre in
     let q = places-part s in (
       work-both (c .before .before .before .before .before .before .before .before .args .netlist .now) (c .before .before .before .before .before .before .before .before .args .positions .now) (c .before .before .before .before .before .before .before .before .args .counts .now) (c .before .before .before .before .before .before .before .before .args .masks .now) (c .before .before .before .before .before .before .before .before .args .rises) (c .before .before .before .before .before .before .before .before .args .falls) (c .before .before .before .before .before .before .before .before .args .inputs) (c .before .before .before .before .before .before .before .before .args .nets) (c .before .before .before .before .before .before .before .before .args .outputs) (c .before .before .before .before .before .before .before .before .args .store .now) (c .before .before .before .before .before .before .before .before .args .work .now) (c .before .before .before .before .before .before .before .before .pre),
@@ -49,8 +46,8 @@ cover-both-requires c κs =
 enum-known-both : tie.Need-enum-known-both
 enum-known-both c = search needs
 
-finish-requires : tie.Need-finish-requires
-finish-requires c κs = work-finish (c .before .before .before .before .before .before .before .before .before .before .before .before .before .before .before .before .args .netlist .now) (c .before .before .before .before .before .before .before .before .before .before .before .before .before .before .before .before .args .positions .now) (c .before .before .before .before .before .before .before .before .before .before .before .before .before .before .before .before .args .counts .now) (c .before .before .before .before .before .before .before .before .before .before .before .before .before .before .before .before .args .masks .now) (c .before .before .before .before .before .before .before .before .before .before .before .before .before .before .before .before .args .rises) (c .before .before .before .before .before .before .before .before .before .before .before .before .before .before .before .before .args .falls) (c .before .before .before .before .before .before .before .before .before .before .before .before .before .before .before .before .args .inputs) (c .before .before .before .before .before .before .before .before .before .before .before .before .before .before .before .before .args .nets) (c .before .before .before .before .before .before .before .before .before .before .before .before .before .before .before .before .args .outputs) (c .before .before .before .before .before .before .before .before .before .before .before .before .before .before .before .before .args .store .now) (c .before .before .before .before .before .before .before .before .before .before .before .before .before .before .before .before .args .work .now) (c .before .before .before .before .before .before .before .before .before .before .before .before .before .before .before .before .pre) _ (places-part (c .before .before .before .before .before .before .before .before .before .before .before .before .before .before .before .before .args .store .now)) (c .before .before .before .before .before .before .before .cover-both .result) (c .before .before .before .before .before .before .before .cover-both .last .1 .1 .1 .1 .1 .1 .1 .1 .1 .1 .1 .1 .1 .0) (c .before .before .before .before .before .before .before .cover-both .kept .1 .1 .1 .1 .1 .1 .1 .1 .1 .1 .1 .1 .1 .0) (c .before .before .before .before .before .before .before .cover-both .ensures) (c .before .before .before .both .given .0 .0) (c .before .before .before .both .given .0 .1 .0) (c .before .before .before .both .given .1)
+write-store-requires : tie.Need-write-store-requires
+write-store-requires c κs = work-ready (c .before .before .before .before .before .before .before .before .before .before .before .before .before .before .before .before .args .netlist .now) (c .before .before .before .before .before .before .before .before .before .before .before .before .before .before .before .before .args .positions .now) (c .before .before .before .before .before .before .before .before .before .before .before .before .before .before .before .before .args .counts .now) (c .before .before .before .before .before .before .before .before .before .before .before .before .before .before .before .before .args .masks .now) (c .before .before .before .before .before .before .before .before .before .before .before .before .before .before .before .before .args .rises) (c .before .before .before .before .before .before .before .before .before .before .before .before .before .before .before .before .args .falls) (c .before .before .before .before .before .before .before .before .before .before .before .before .before .before .before .before .args .inputs) (c .before .before .before .before .before .before .before .before .before .before .before .before .before .before .before .before .args .nets) (c .before .before .before .before .before .before .before .before .before .before .before .before .before .before .before .before .args .outputs) (c .before .before .before .before .before .before .before .before .before .before .before .before .before .before .before .before .args .store .now) (c .before .before .before .before .before .before .before .before .before .before .before .before .before .before .before .before .args .work .now) (c .before .before .before .before .before .before .before .before .before .before .before .before .before .before .before .before .pre) _ (places-part (c .before .before .before .before .before .before .before .before .before .before .before .before .before .before .before .before .args .store .now)) (c .before .before .before .before .before .before .before .cover-both .result) (c .before .before .before .before .before .before .before .cover-both .last .1 .1 .1 .1 .1 .1 .1 .1 .1 .1 .1 .1 .1 .0) (c .before .before .before .before .before .before .before .cover-both .kept .1 .1 .1 .1 .1 .1 .1 .1 .1 .1 .1 .1 .1 .0) (c .before .before .before .before .before .before .before .cover-both .ensures) (c .before .before .before .both .given .0 .0) (c .before .before .before .both .given .0 .1 .0) (c .before .before .before .both .given .0 .1 .1 .0) (c .before .before .before .both .given .0 .1 .1 .1 .0) (c .before .before .before .both .given .1)
 
 enum-told : tie.Need-enum-told
 enum-told c = search needs
@@ -65,7 +62,7 @@ same-length-2 : tie.Need-same-length-2
 same-length-2 c = search needs
 
 returns : tie.Need-returns
-returns c = work-taken (c .before .before .before .before .before .before .before .before .before .before .before .before .before .before .before .before .before .before .before .args .netlist .now) (c .before .before .before .before .before .before .before .before .before .before .before .before .before .before .before .before .before .before .before .args .positions .now) (c .before .before .before .before .before .before .before .before .before .before .before .before .before .before .before .before .before .before .before .args .counts .now) (c .before .before .before .before .before .before .before .before .before .before .before .before .before .before .before .before .before .before .before .args .masks .now) (c .before .before .before .before .before .before .before .before .before .before .before .before .before .before .before .before .before .before .before .args .rises) (c .before .before .before .before .before .before .before .before .before .before .before .before .before .before .before .before .before .before .before .args .falls) (c .before .before .before .before .before .before .before .before .before .before .before .before .before .before .before .before .before .before .before .args .inputs) (c .before .before .before .before .before .before .before .before .before .before .before .before .before .before .before .before .before .before .before .args .nets) (c .before .before .before .before .before .before .before .before .before .before .before .before .before .before .before .before .before .before .before .args .outputs) (c .before .before .before .before .before .before .before .before .before .before .before .before .before .before .before .before .before .before .before .args .store .now) (c .before .before .before .before .before .before .before .before .before .before .before .before .before .before .before .before .before .before .before .args .work .now) (c .before .before .before .before .before .before .before .before .before .before .before .before .before .before .before .before .before .before .before .pre) _ (places-part (c .before .before .before .before .before .before .before .before .before .before .before .before .before .before .before .before .before .before .before .args .store .now)) (c .before .before .before .before .before .before .before .before .before .before .cover-both .result) (c .before .before .before .before .before .before .before .before .before .before .cover-both .last .1 .1 .1 .1 .1 .1 .1 .1 .1 .1 .1 .1 .1 .0) (c .before .before .before .before .before .before .before .before .before .before .cover-both .kept .1 .1 .1 .1 .1 .1 .1 .1 .1 .1 .1 .1 .1 .0) (c .before .before .before .before .before .before .before .before .before .before .cover-both .ensures) (c .before .before .before .before .before .before .both .given .0 .0) (c .before .before .before .before .before .before .both .given .0 .1 .0) (c .before .before .before .before .before .before .both .given .1) (c .before .before .finish .last .1 .1 .1 .0) (c .before .before .finish .result) (c .before .before .finish .ensures)
+returns c = work-taken (c .before .before .before .before .before .before .before .before .before .before .before .before .before .before .before .before .before .before .before .args .netlist .now) (c .before .before .before .before .before .before .before .before .before .before .before .before .before .before .before .before .before .before .before .args .positions .now) (c .before .before .before .before .before .before .before .before .before .before .before .before .before .before .before .before .before .before .before .args .counts .now) (c .before .before .before .before .before .before .before .before .before .before .before .before .before .before .before .before .before .before .before .args .masks .now) (c .before .before .before .before .before .before .before .before .before .before .before .before .before .before .before .before .before .before .before .args .rises) (c .before .before .before .before .before .before .before .before .before .before .before .before .before .before .before .before .before .before .before .args .falls) (c .before .before .before .before .before .before .before .before .before .before .before .before .before .before .before .before .before .before .before .args .inputs) (c .before .before .before .before .before .before .before .before .before .before .before .before .before .before .before .before .before .before .before .args .nets) (c .before .before .before .before .before .before .before .before .before .before .before .before .before .before .before .before .before .before .before .args .outputs) (c .before .before .before .before .before .before .before .before .before .before .before .before .before .before .before .before .before .before .before .args .store .now) (c .before .before .before .before .before .before .before .before .before .before .before .before .before .before .before .before .before .before .before .args .work .now) (c .before .before .before .before .before .before .before .before .before .before .before .before .before .before .before .before .before .before .before .pre) _ (places-part (c .before .before .before .before .before .before .before .before .before .before .before .before .before .before .before .before .before .before .before .args .store .now)) (c .before .before .before .before .before .before .before .before .before .before .cover-both .result) (c .before .before .before .before .before .before .before .before .before .before .cover-both .last .1 .1 .1 .1 .1 .1 .1 .1 .1 .1 .1 .1 .1 .0) (c .before .before .before .before .before .before .before .before .before .before .cover-both .kept .1 .1 .1 .1 .1 .1 .1 .1 .1 .1 .1 .1 .1 .0) (c .before .before .before .before .before .before .before .before .before .before .cover-both .ensures) (c .before .before .before .before .before .before .both .given .0 .0) (c .before .before .before .before .before .before .both .given .0 .1 .0) (c .before .before .before .before .before .before .both .given .0 .1 .1 .0) (c .before .before .before .before .before .before .both .given .0 .1 .1 .1 .0) (c .before .before .before .before .before .before .both .given .1) (c .before .before .write-store .last .1 .1 .1 .1 .1 .0) (c .before .before .write-store .ensures)
 
 same-length-3 : tie.Need-same-length-3
 same-length-3 c = search needs
@@ -98,7 +95,7 @@ work-on-spec =
     part-places-end
     cover-both-requires
     enum-known-both
-    finish-requires
+    write-store-requires
     enum-told
     enum-told-2
     same-length

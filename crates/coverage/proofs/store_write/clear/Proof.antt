@@ -12,7 +12,7 @@ use Rattle.coverage.proofs.store_write.clear.Reads as reads
 use Rattle.coverage.proofs.store_write.clear.Lts as lts
 
 abbrev Inv-loop : tie.InvT-loop
-Inv-loop store₀ from to i₀ store i = (from ≤ i) × (i ≤ to) × (length store ≡ length store₀) × (writeRuns store i (zeroRuns (to - i)) ≡ writeRuns store₀ from (zeroRuns (to - from)))
+Inv-loop store₀ from to i₀ store i = (length store ≡ length store₀) × (writeRuns store i (zeroRuns (to - i)) ≡ writeRuns store₀ from (zeroRuns (to - from)))
 
 abbrev μ-loop : tie.MeasureT-loop
 μ-loop store₀ from to i₀ store i = to - i
@@ -43,7 +43,7 @@ mul-places-2 c = search needs
 
 -- src/lib.rt:466:9
 slice-write-places-2 : tie.Need-slice-write-places-2 Inv-loop μ-loop
-slice-write-places-2 c = let l = c .before .loop in omega (arith, length-set (l .places) (2 * l .i) 0, l .inv .2, c .before .before .pre .1, c .loop-test .taken)
+slice-write-places-2 c = let l = c .before .loop in omega (arith, length-set (l .places) (2 * l .i) 0, l .inv .0, c .before .before .pre, c .loop-test .taken)
 
 -- src/lib.rt:467:9
 add-i : tie.Need-add-i Inv-loop μ-loop
@@ -57,10 +57,8 @@ loop-less c = search needs
 loop-again : tie.Need-loop-again Inv-loop μ-loop
 loop-again c = let a = c .before .before .args in
     let l = c .before .loop in (
-      omega arith,
-      omega arith,
-      length-set (set (l .places) (2 * l .i) 0) (2 * l .i + 1) 0 ∙ length-set (l .places) (2 * l .i) 0 ∙ l .inv .2,
-      sym (zero-next (l .places) (l .i) (a .to) (c .loop-test .taken)) ∙ l .inv .3,
+      length-set (set (l .places) (2 * l .i) 0) (2 * l .i + 1) 0 ∙ length-set (l .places) (2 * l .i) 0 ∙ l .inv .0,
+      sym (zero-next (l .places) (l .i) (a .to) (c .loop-test .taken)) ∙ l .inv .1,
     )
 
 -- src/lib.rt:458:1
@@ -71,7 +69,7 @@ same-length c = search needs
 returns : tie.Need-returns Inv-loop μ-loop
 returns c = let a = c .before .before .args in
     let l = c .before .loop in
-    sym (zero-done (l .places) (l .i) (a .to) (c .loop-test .left)) ∙ l .inv .3
+    sym (zero-done (l .places) (l .i) (a .to) (c .loop-test .left)) ∙ l .inv .1
 
 pub clear-spec : {M : Type 1} → statement M
 clear-spec =
