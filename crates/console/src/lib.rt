@@ -1,9 +1,15 @@
 // What the programs share: the files of the current folder, and plain lines on a descriptor.
 mod conditions;
+mod pieces;
 
 pub use conditions::print_condition;
 use model::Refusal;
 use model::refusal_number;
+pub use pieces::PIECE_BYTES;
+pub use pieces::next_record;
+pub use pieces::read_piece;
+pub use pieces::record_length;
+pub use pieces::whole_records;
 ghost use Rattle.io.specs.Counts.{Counts};
 ghost use Prim.Native.Nat.{_≤_};
 

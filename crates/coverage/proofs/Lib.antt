@@ -5,6 +5,7 @@ pub mod NetLaws
 pub mod NetsLoop
 pub mod OutLaws
 pub mod EdgeLaws
+pub mod QuietLaws
 pub mod CoverLaws
 pub mod BothLaws
 pub mod StoreRuns

@@ -20,12 +20,9 @@ use Rattle.runs.proofs.RunLaws.{cases}
 use Rattle.runs.proofs.WordLaws.{length-writeRuns, runs-write, runs-write-before, answer-fits, answer-full}
 use Rattle.runs.proofs.Adding.{answer-count, answer-over}
 use Rattle.coverage.proofs.AddLaws.{as-adds}
+use Rattle.runs.proofs.PlaceSteps.{write-append}
 use Rattle.coverage.specs.Scene.{Case, setRuns, allRuns, Scene, Done, NetAt, SomeNetAt, NetsAt, NetsMade}
 use Rattle.coverage.proofs.NetLaws.{all-next, all-mono}
-
-pub write-append : (ws : List ℕ) (i k : ℕ) (s t : List Run) → k ≡ i + length s → writeRuns (writeRuns ws i s) k t ≡ writeRuns ws i (s ++ t)
-write-append ws i k [] t e = let e′ : k ≡ i = omega arith in rw e′
-write-append ws i k (r ∷ s) t e = write-append (set (set ws (2 * i) (r .low)) (2 * i + 1) (r .high)) (i + 1) k s t (omega arith)
 
 -- the first runs stay the same when nets are added
 take-more : (K : Case) (cap m n : ℕ) → m ≤ n → cap ≤ length (allRuns K m) → take cap (allRuns K n) ≡ take cap (allRuns K m)

@@ -6,6 +6,7 @@ use mathlib.Core.Bool.{Bool, true, false}
 use mathlib.Core.List.{List, [], _∷_, _++_}
 use native.Mathlib.Omega.{arith}
 use native.Mathlib.Numerals.{add-one}
+use lib.Dec.{eqb}
 use lib.ListN.{length, getD}
 use Rattle.model.specs.Runs.{Run}
 use Rattle.runs.specs.Runs.{onlyIf}
@@ -13,6 +14,7 @@ use Rattle.runs.specs.Runs.{Sound, addRuns, shiftRuns, runsInWords}
 use Rattle.runs.specs.Answers.{Room, Adds}
 use Rattle.runs.specs.declared.inner.Added.{Added}
 use Rattle.runs.specs.declared.inner.Added.the-variants.{Count, Full}
+use Rattle.runs.proofs.RunLaws.{cases}
 use Rattle.runs.proofs.Adding.{Adding, adding-start, adding-runs, adding-length, adding-done, as-rest, part-full, part-more}
 use Rattle.coverage.proofs.AddLaws.{as-adds}
 use Rattle.coverage.specs.Parts.{parts, sumTo, runsIn, netPart, NetReady}
@@ -84,3 +86,48 @@ between starts ws net from to e d = ap₂ (λ (x y : ℕ). runsInWords ws x (y -
 pub adds-none : (ws : List ℕ) (start cap k : ℕ) → Room ws start k cap → (s : List Run) → s ≡ [] → Adds ws ws start cap (addRuns (runsInWords ws start k) s) (Count k)
 adds-none ws start cap k room s e =
     as-adds (ap (addRuns (runsInWords ws start k)) (sym e)) refl (adding-done ws ws start cap k (runsInWords ws start k) (adding-start ws start cap k [] (room .fits)))
+
+-- the runs of an open pin, none of a shut one: their number is multiplied by the mask's bit
+pub open-runs : (ws : List ℕ) (from to bitOf : ℕ) (b : Bool) → bitOf < 2 → eqb bitOf 1 ≡ b → runsInWords ws from (from + (to - from) * bitOf - from) ≡ onlyIf b (runsInWords ws from (to - from))
+open-runs ws from to bitOf b l e =
+    cases 1 bitOf
+    (λ h.
+    let one : bitOf ≡ 1 = omega arith in
+    let n : from + (to - from) * bitOf - from ≡ to - from = rw one (omega arith) in
+    ap (λ (k : ℕ). runsInWords ws from k) n ∙ sym (only-open b (runsInWords ws from (to - from)) (sym e ∙ ap (λ (k : ℕ). eqb k 1) one)))
+    (λ h.
+    let none : bitOf ≡ 0 = omega arith in
+    let n : from + (to - from) * bitOf - from ≡ 0 = rw none (omega arith) in
+    ap (λ (k : ℕ). runsInWords ws from k) n ∙ sym (only-shut b (runsInWords ws from (to - from)) (sym e ∙ ap (λ (k : ℕ). eqb k 1) none)))
+
+shift-only : (b : Bool) (o : ℕ) (s : List Run) → shiftRuns o (onlyIf b s) ≡ onlyIf b (shiftRuns o s)
+shift-only true o s = refl
+shift-only false o s = refl
+
+sound-only : (n : ℕ) (b : Bool) (s : List Run) → Sound n s → Sound n (onlyIf b s)
+sound-only n true s h = h
+sound-only n false s h = tt
+
+-- a pin's runs as the code adds them
+module _ (starts ws : List ℕ) (start net from to bitOf : ℕ) (b : Bool) (e : from ≡ getD starts net 0) (d : to ≡ getD starts (net + 1) 0)
+    (l : bitOf < 2) (o : eqb bitOf 1 ≡ b) (r : NetReady starts ws start net) where
+  pin-runs : runsInWords ws from (from + (to - from) * bitOf - from) ≡ onlyIf b (runsIn starts ws net)
+  pin-runs = open-runs ws from to bitOf b l o ∙ ap (onlyIf b) (between starts ws net from to e d)
+
+  pub pin-sound : Sound (2 ^ 62) (runsInWords ws from (from + (to - from) * bitOf - from))
+  pin-sound = subst (λ (s : List Run). Sound (2 ^ 62) s) (sym pin-runs) (sound-only (2 ^ 62) b (runsIn starts ws net) (r .sound))
+
+  pub pin-few : (to - from) * bitOf ≤ to - from
+  pin-few =
+      cases 1 bitOf
+      (λ h. let one : bitOf ≡ 1 = omega arith in rw one (omega arith))
+      (λ h. let none : bitOf ≡ 0 = omega arith in rw none (omega arith))
+
+  pub pin-end : from + (to - from) * bitOf ≤ start
+  pin-end =
+      cases 1 bitOf
+      (λ h. let one : bitOf ≡ 1 = omega arith in rw one (omega (arith, r .ordered, r .inside, e, d)))
+      (λ h. let none : bitOf ≡ 0 = omega arith in rw none (omega (arith, r .ordered, r .inside, e, d)))
+
+  pub pin-adds : (offset : ℕ) → shiftRuns offset (runsInWords ws from (from + (to - from) * bitOf - from)) ≡ onlyIf b (shiftRuns offset (runsIn starts ws net))
+  pin-adds offset = ap (shiftRuns offset) pin-runs ∙ shift-only b offset (runsIn starts ws net)

@@ -3,6 +3,7 @@
 ghost use mathlib.Core.Path.{_≡_};
 ghost use mathlib.Core.List.{[], _∷_};
 ghost use Prim.Native.Nat.{ℕ, _+_, _-_, _*_, _<_, _≤_, _^_};
+ghost use lib.Dec.{eqb};
 ghost use lib.ListN.{length};
 ghost use Rattle.model.specs.Base.{bit};
 ghost use Rattle.model.specs.Store.{maxRuns};
@@ -15,12 +16,12 @@ use model::MAX_RUNS;
 use runs::inner;
 use runs::inner::Added;
 
-// Whether a pin is open, by its gate's mask.
-fn is_open(mask: u8, pin: u8) -> bool
+// The bit of a pin in its gate's mask: 1 where the pin is open.
+fn open_bit(mask: u8, pin: u8) -> usize
     requires { ⌜ pin < 8 ⌝ }
-    ensures { λ r. ⌜ r ≡ bit mask pin ⌝ }
+    ensures { λ r. ⌜ (r < 2) × (eqb r 1 ≡ bit mask pin) ⌝ }
 {
-    (mask >> pin) & 1 == 1
+    ((mask >> pin) & 1) as usize
 }
 
 // Adds the runs of a net, shifted.
@@ -43,7 +44,8 @@ fn add_net(
     inner::append_shifted(words, from, to, start, count, capacity, offset)
 }
 
-// Adds the runs of a pin's net, shifted, where the pin is open.
+// Adds the runs of a pin's net, shifted, where the pin is open. A shut pin has 0 times as many: pins are open and shut without a pattern, and a
+// branch on each would be mispredicted.
 fn add_pin(
     mask: u8,
     pin: u8,
@@ -61,10 +63,18 @@ fn add_pin(
     requires { ⌜ offset ≤ 2 ^ 62 ⌝ }
     ensures { λ r. ⌜ Adds (now (words .entry)) (now (words .exit)) start capacity (addRuns (runsInWords (now (words .entry)) start count) (onlyIf (bit mask pin) (shiftRuns offset (runsIn (now (starts .entry)) (now (words .entry)) net)))) r ⌝ }
 {
-    if is_open(mask, pin) {
-        return add_net(starts, net, words, start, count, capacity, offset);
-    }
-    Added::Count(count)
+    let open = open_bit(mask, pin);
+    let from = records::inner::wide_word(starts[net]);
+    let to = records::inner::wide_word(starts[net + 1]);
+    inner::append_shifted(
+        words,
+        from,
+        from + (to - from) * open,
+        start,
+        count,
+        capacity,
+        offset,
+    )
 }
 
 // Makes the runs of a gate's net, pin by pin.
@@ -237,8 +247,8 @@ fn out_runs(
     Added::Count(count)
 }
 
-// Makes the runs of the path numbers that the test detects, or answers Full where the working runs are over 1,024.
-pub(crate) fn detected_runs(
+// Makes the runs of the path numbers that the test detects, net by net, or answers Full where the working runs are over 1,024.
+fn make_detected(
     netlist: &[u8],
     positions: &[u16; 512],
     counts: &[u64; 512],
@@ -268,4 +278,37 @@ pub(crate) fn detected_runs(
         Added::Count(_) => out_runs(netlist, at, outputs, counts, &starts, words),
         Added::Full => Added::Full,
     }
+}
+
+// The same, with no work where no input makes the edge: then nothing is detected.
+pub(crate) fn detected_runs(
+    netlist: &[u8],
+    positions: &[u16; 512],
+    counts: &[u64; 512],
+    masks: &[u8; 512],
+    edges: u64,
+    inputs: usize,
+    nets: usize,
+    at: usize,
+    outputs: usize,
+    words: &mut [u64],
+) -> Added
+    requires { ⌜ SomeEdgeAt (now netlist) (now positions) (now counts) (now masks) edges inputs nets at outputs (now words) ⌝ }
+    ensures { λ r. ⌜ ((K : Case) → EdgeAt K (now (netlist .entry)) (now (positions .entry)) (now (counts .entry)) (now (masks .entry)) edges inputs nets at outputs (now (words .entry)) → Detects K (now (words .entry)) (now (words .exit)) r) ⌝ }
+{
+    if edges == 0 {
+        return Added::Count(0);
+    }
+    make_detected(
+        netlist,
+        positions,
+        counts,
+        masks,
+        edges,
+        inputs,
+        nets,
+        at,
+        outputs,
+        words,
+    )
 }

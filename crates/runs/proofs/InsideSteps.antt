@@ -25,23 +25,24 @@ pub record Walked (a : List ℕ) (a-from a-to : ℕ) (b : List ℕ) (b-from b-to
   pub done : (k : ℕ) → b-from ≤ k → k < j → RunInside a a-from a-to (runAt b k)
 
 module _ (a : List ℕ) (a-from a-to : ℕ) (b : List ℕ) (b-from b-to : ℕ) where
-  pub walked-start : a-from ≤ a-to → b-from ≤ b-to → Walked a a-from a-to b b-from b-to a-from b-from
-  walked-start h k = record { a-begun = omega arith; a-within = h; b-begun = omega arith; b-within = k; done = λ m p q. absurd (omega arith) }
+  pub walked-none : b-to ≤ b-from → InsideWhere true a a-from a-to b b-from b-to
+  walked-none h e k p q = absurd (omega arith)
+
+  pub walked-start : (i : ℕ) → (a-from ≤ i) × (i ≤ a-to) → b-from ≤ b-to → Walked a a-from a-to b b-from b-to i b-from
+  walked-start i h k = record { a-begun = h .0; a-within = h .1; b-begun = omega arith; b-within = k; done = λ m p q. absurd (omega arith) }
 
   module _ (i j : ℕ) (w : Walked a a-from a-to b b-from b-to i j) where
-    pub walked-skip : i < a-to → Walked a a-from a-to b b-from b-to (i + 1) j
-    walked-skip h = record { a-begun = omega (arith, w .a-begun); a-within = omega arith; b-begun = w .b-begun; b-within = w .b-within; done = w .done }
-
-    pub walked-more : i < a-to → j < b-to → getD a (2 * i) 0 ≤ getD b (2 * j) 0 → getD b (2 * j + 1) 0 ≤ getD a (2 * i + 1) 0 → Walked a a-from a-to b b-from b-to i (j + 1)
-    walked-more h k l m = record {
-      a-begun = w .a-begun;
-      a-within = w .a-within;
+    pub walked-more : (k : ℕ) → (i ≤ k) × (k ≤ a-to) → k < a-to → j < b-to → getD a (2 * k) 0 ≤ getD b (2 * j) 0 → getD b (2 * j + 1) 0 ≤ getD a (2 * k + 1) 0
+        → Walked a a-from a-to b b-from b-to k (j + 1)
+    walked-more k q h g l m = record {
+      a-begun = omega (arith, w .a-begun, q .0);
+      a-within = q .1;
       b-begun = omega (arith, w .b-begun);
       b-within = omega arith;
-      done = λ n p q. cases j n
-          (λ g. let e : j ≡ n = omega arith in
-          subst (λ (x : ℕ). RunInside a a-from a-to (runAt b x)) e (record { place = i; begun = w .a-begun; ended = h; notBelow = l; notAbove = m }))
-          (λ g. w .done n p g);
+      done = λ n p r. cases j n
+          (λ f. let e : j ≡ n = omega arith in
+          subst (λ (x : ℕ). RunInside a a-from a-to (runAt b x)) e (record { place = k; begun = omega (arith, w .a-begun, q .0); ended = h; notBelow = l; notAbove = m }))
+          (λ f. w .done n p f);
     }
 
     pub walked-end : b-to ≤ j → InsideWhere true a a-from a-to b b-from b-to

@@ -5,6 +5,7 @@ pub mod CutLaws
 pub mod AppendSteps
 pub mod Adding
 pub mod ShiftedSteps
+pub mod PlaceSteps
 pub mod UnionSteps
 pub mod InsideSteps
 pub mod SizeSteps

@@ -6,7 +6,7 @@ ghost use lib.ListN.{length};
 ghost use Rattle.model.specs.Runs;
 ghost use Rattle.model.specs.Runs.{runsOf, inRuns, separatedRuns};
 ghost use Rattle.runs.specs.Runs.{run, RunWithin, Sound, addRun, addRuns, shiftRun, shiftRuns, leftFirst, inEither, runAt, runsInWords, writeRuns};
-ghost use Rattle.runs.specs.Answers.{Room, Adds, InsideWhere};
+ghost use Rattle.runs.specs.Answers.{Room, Adds, InsideWhere, FitsWhere};
 
 // The runs that a list then has, or that they are over its capacity.
 pub enum Added {
@@ -88,8 +88,8 @@ fn append_run_shifted(
     append(words, start, count, capacity, low, high)
 }
 
-// Adds the runs from..to of the same words, shifted.
-pub fn append_shifted(
+// Adds the runs from..to of the same words, shifted, one after the other.
+fn append_each(
     words: &mut [u64],
     from: usize,
     to: usize,
@@ -117,6 +117,95 @@ pub fn append_shifted(
         i += 1;
     }
     Added::Count(n)
+}
+
+// Whether the runs from..to of the words, shifted, begin apart from the last run of a list that has room for all of them.
+fn fit_after(
+    words: &[u64],
+    from: usize,
+    to: usize,
+    start: usize,
+    count: usize,
+    capacity: usize,
+    offset: u64,
+) -> bool
+    requires { ⌜ Room (now words) start count capacity ⌝ }
+    requires { ⌜ (from < to) × (to ≤ start) × (offset ≤ 2 ^ 62) × RunWithin (2 ^ 62) (runAt (now words) from) ⌝ }
+    ensures { λ r. ⌜ FitsWhere r (now (words .entry)) from to start count capacity offset ⌝ }
+{
+    if capacity - count < to - from {
+        return false;
+    }
+    words[2 * (start + count) - 1] < words[2 * from] + offset - 1
+}
+
+// Places the runs from..to of the same words, shifted, from a run place on.
+fn place_shifted(words: &mut [u64], from: usize, to: usize, place: usize, offset: u64)
+    requires { ⌜ (from ≤ to) × (to ≤ place) × (2 * (place + (to - from)) ≤ length (now words)) × (offset ≤ 2 ^ 62) ⌝ }
+    requires { ⌜ Sound (2 ^ 62) (runsInWords (now words) from (to - from)) ⌝ }
+    ensures { λ _. ⌜ now (words .exit) ≡ writeRuns (now (words .entry)) place (shiftRuns offset (runsInWords (now (words .entry)) from (to - from))) ⌝ }
+{
+    let mut i = from;
+    let mut at = place;
+    while i < to {
+        let low = words[2 * i] + offset;
+        let high = words[2 * i + 1] + offset;
+        words[2 * at] = low;
+        words[2 * at + 1] = high;
+        i += 1;
+        at += 1;
+    }
+}
+
+// Adds the runs from..to, shifted. They are apart among themselves: where the first is apart from the list, none joins another and all are placed.
+fn append_rest(
+    words: &mut [u64],
+    from: usize,
+    to: usize,
+    start: usize,
+    count: usize,
+    capacity: usize,
+    offset: u64,
+) -> Added
+    requires { ⌜ Room (now words) start count capacity ⌝ }
+    requires { ⌜ (from ≤ to) × (to ≤ start) × (offset ≤ 2 ^ 62) ⌝ }
+    requires { ⌜ Sound (2 ^ 62) (runsInWords (now words) from (to - from)) ⌝ }
+    ensures { λ r. ⌜ Adds (now (words .entry)) (now (words .exit)) start capacity (addRuns (runsInWords (now (words .entry)) start count) (shiftRuns offset (runsInWords (now (words .entry)) from (to - from)))) r ⌝ }
+{
+    if to <= from {
+        return Added::Count(count);
+    }
+    let apart = fit_after(words, from, to, start, count, capacity, offset);
+    if !apart {
+        return append_each(words, from, to, start, count, capacity, offset);
+    }
+    place_shifted(words, from, to, start + count, offset);
+    let more = count + (to - from);
+    Added::Count(more)
+}
+
+// Adds the runs from..to of the same words, shifted. Only the first may join the list's last run.
+pub fn append_shifted(
+    words: &mut [u64],
+    from: usize,
+    to: usize,
+    start: usize,
+    count: usize,
+    capacity: usize,
+    offset: u64,
+) -> Added
+    requires { ⌜ Room (now words) start count capacity ⌝ }
+    requires { ⌜ (from ≤ to) × (to ≤ start) × (offset ≤ 2 ^ 62) ⌝ }
+    requires { ⌜ Sound (2 ^ 62) (runsInWords (now words) from (to - from)) ⌝ }
+    ensures { λ r. ⌜ Adds (now (words .entry)) (now (words .exit)) start capacity (addRuns (runsInWords (now (words .entry)) start count) (shiftRuns offset (runsInWords (now (words .entry)) from (to - from)))) r ⌝ }
+{
+    if to <= from {
+        return Added::Count(count);
+    }
+    match append_run_shifted(words, from, start, count, capacity, offset) {
+        Added::Count(n) => append_rest(words, from + 1, to, start, n, capacity, offset),
+        Added::Full => Added::Full,
+    }
 }
 
 // Whether the next run by ascending low is the left list's.
@@ -207,29 +296,62 @@ pub fn union(
     Added::Count(k)
 }
 
+// The first of the runs from..to that does not end below a number, by binary search. The contract asks less: it is only where a walk begins.
+fn first_reaching(words: &[u64], from: usize, to: usize, x: u64) -> usize
+    requires { ⌜ (from ≤ to) × (2 * to ≤ length (now words)) ⌝ }
+    ensures { λ r. ⌜ (from ≤ r) × (r ≤ to) ⌝ }
+{
+    let mut lo = from;
+    let mut hi = to;
+    while lo < hi {
+        let mid = lo + (hi - lo) / 2;
+        if words[2 * mid + 1] < x {
+            lo = mid + 1;
+        } else {
+            hi = mid;
+        }
+    }
+    lo
+}
+
+// The same by a walk, for a run that is near.
+fn next_reaching(words: &[u64], from: usize, to: usize, x: u64) -> usize
+    requires { ⌜ (from ≤ to) × (2 * to ≤ length (now words)) ⌝ }
+    ensures { λ r. ⌜ (from ≤ r) × (r ≤ to) ⌝ }
+{
+    let mut i = from;
+    while i < to {
+        if x <= words[2 * i + 1] {
+            return i;
+        }
+        i += 1;
+    }
+    i
+}
+
 // Whether each of the runs b_from..b_to of some words lies in one of the runs a_from..a_to of others. Both ascend, so one walk along both serves;
 // the answer false promises nothing: the caller then makes the union.
 pub fn inside(a: &[u64], a_from: usize, a_to: usize, b: &[u64], b_from: usize, b_to: usize) -> bool
     requires { ⌜ («a_from» ≤ «a_to») × (2 * «a_to» ≤ length (now a)) × («b_from» ≤ «b_to») × (2 * «b_to» ≤ length (now b)) ⌝ }
     ensures { λ r. ⌜ InsideWhere r (now (a .entry)) «a_from» «a_to» (now (b .entry)) «b_from» «b_to» ⌝ }
 {
-    let mut i = a_from;
+    if b_to <= b_from {
+        return true;
+    }
+    let mut i = first_reaching(a, a_from, a_to, b[2 * b_from]);
     let mut j = b_from;
     while j < b_to {
+        i = next_reaching(a, i, a_to, b[2 * j]);
         if a_to <= i {
             return false;
         }
-        if a[2 * i + 1] < b[2 * j] {
-            i += 1;
-        } else {
-            if b[2 * j] < a[2 * i] {
-                return false;
-            }
-            if a[2 * i + 1] < b[2 * j + 1] {
-                return false;
-            }
-            j += 1;
+        if b[2 * j] < a[2 * i] {
+            return false;
         }
+        if a[2 * i + 1] < b[2 * j + 1] {
+            return false;
+        }
+        j += 1;
     }
     true
 }

@@ -4,7 +4,7 @@ use mathlib.Core.Path.{_≡_, refl, ap, sym, _∙_}
 use mathlib.Core.Bool.{Bool, true, false, _&&_, not}
 use mathlib.Core.List.{List}
 use mathlib.Core.Logic.{⊎-elim}
-use Prim.Native.Nat.{ℕ, zero, suc, _-_, _*_, _%_, _^_, _≤_, _<_}
+use Prim.Native.Nat.{ℕ, zero, suc, _+_, _-_, _*_, _%_, _^_, _≤_, _<_}
 use native.Mathlib.Nat.{mod-eq-of-lt}
 use native.Mathlib.Omega.{arith}
 use borrow.Author.Tests.{eq-eqb, ne-eqb}
@@ -118,13 +118,22 @@ module _ (full c : ℕ) where
   unfolding openSet
   none-controls e = rw e refl
 
-  pub one-controls : (c ≡ 0 → ⊥) → bitAnd c (c - 1) ≡ 0 → c ≡ openSet full c
-  unfolding openSet
-  one-controls n e = rw (ne-eqb c 0 n, eq-eqb (bitAnd c (c - 1)) 0 e, openSet) refl
+  -- the number below, in a byte
+  lower : c < 256 → (c ≡ 0 → ⊥) → (c + 255) % 256 ≡ c - 1
+  lower l n = omega arith
 
-  pub more-control : (c ≡ 0 → ⊥) → (bitAnd c (c - 1) ≡ 0 → ⊥) → 0 ≡ openSet full c
+  pub one-controls : c < 256 → (c ≡ 0 → ⊥) → bitAnd c ((c + 255) % 256) ≡ 0 → c ≡ openSet full c
   unfolding openSet
-  more-control n e = rw (ne-eqb c 0 n, ne-eqb (bitAnd c (c - 1)) 0 e, openSet) refl
+  one-controls l n e =
+      let m : bitAnd c (c - 1) ≡ 0 = rw (lower l n) at e in
+      rw (ne-eqb c 0 n, eq-eqb (bitAnd c (c - 1)) 0 m, openSet) refl
+
+  pub more-control : c < 256 → (bitAnd c ((c + 255) % 256) ≡ 0 → ⊥) → 0 ≡ openSet full c
+  unfolding openSet
+  more-control l e =
+      let n : c ≡ 0 → ⊥ = λ z. e (rw z refl) in
+      let m : bitAnd c (c - 1) ≡ 0 → ⊥ = rw (lower l n) at e in
+      rw (ne-eqb c 0 n, ne-eqb (bitAnd c (c - 1)) 0 m, openSet) refl
 
 -- all pins of a gate
 pub eight-pins : (pins : ℕ) → pins ≡ 8 → 255 ≡ 2 ^ pins - 1

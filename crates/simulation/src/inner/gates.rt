@@ -5,7 +5,7 @@ ghost use Prim.Native.Nat.{ℕ, _-_, _<_, _≤_, _^_};
 ghost use Rattle.model.specs.Base.{bit};
 ghost use Rattle.model.specs.Detect as detect;
 ghost use Rattle.model.specs.Read.{kindOf, pinsFit};
-ghost use Rattle.simulation.specs.Packed.{bitsIn, parityOf, openSet, PackedPins, PinsAt, PacksPins};
+ghost use Rattle.simulation.specs.Packed.{bitsIn, parityOf, ParityTable, openSet, PackedPins, PinsAt, PacksPins};
 use records::inner;
 
 // 1 for each byte with an odd number of ones.
@@ -268,11 +268,19 @@ const PARITY: [u8; 256] = [
     0,
 ];
 
+// The table of parities, to be lent to the gates: the compiled code writes a constant table out wherever it is named.
+pub fn parities() -> [u8; 256]
+    ensures { λ r. ⌜ ParityTable r ⌝ }
+{
+    PARITY
+}
+
 // Whether a byte has an odd number of ones.
-fn is_odd(packed: u8) -> bool
+fn is_odd(packed: u8, parity: &[u8; 256]) -> bool
+    requires { ⌜ ParityTable (now parity) ⌝ }
     ensures { λ r. ⌜ r ≡ parityOf packed ⌝ }
 {
-    PARITY[packed as usize] == 1
+    parity[packed as usize] == 1
 }
 
 // All pins of a gate, a bit for each.
@@ -287,8 +295,8 @@ fn all_pins(pins: u8) -> u8
 }
 
 // The value of a gate.
-pub fn gate_value(kind: u8, pins: u8, packed: u8) -> bool
-    requires { ⌜ PackedPins kind pins packed ⌝ }
+pub fn gate_value(kind: u8, pins: u8, packed: u8, parity: &[u8; 256]) -> bool
+    requires { ⌜ PackedPins kind pins packed × ParityTable (now parity) ⌝ }
     ensures { λ r. ⌜ r ≡ detect.gateValue (kindOf kind) (bitsIn pins packed) ⌝ }
 {
     match kind {
@@ -298,22 +306,21 @@ pub fn gate_value(kind: u8, pins: u8, packed: u8) -> bool
         4 => packed != all_pins(pins),
         5 => packed != 0,
         6 => packed == 0,
-        7 => is_odd(packed),
-        _ => !is_odd(packed),
+        7 => is_odd(packed, parity),
+        _ => !is_odd(packed, parity),
     }
 }
 
 // The pins of which every other pin is non-controlling, where `controlling` are those that are not.
+// In this order of the tests the compiled code has no branch that depends on the values.
 fn open_set(all: u8, controlling: u8) -> u8
     ensures { λ r. ⌜ r ≡ openSet all controlling ⌝ }
 {
-    if controlling == 0 {
-        return all;
+    let lower = ((controlling as u16 + 255) % 256) as u8;
+    if controlling & lower != 0 {
+        return 0;
     }
-    if controlling & (controlling - 1) == 0 {
-        return controlling;
-    }
-    0
+    if controlling == 0 { all } else { controlling }
 }
 
 // The open pins of a gate, a bit for each.

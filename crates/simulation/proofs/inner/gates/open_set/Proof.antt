@@ -7,21 +7,20 @@ use Rattle.simulation.proofs.inner.gates.open_set.Tie as tie
 use Rattle.simulation.proofs.inner.gates.open_set.Reads as reads
 use Rattle.simulation.proofs.inner.gates.open_set.Lts as lts
 
--- src/gates.rt:310:9
+add-lower : tie.Need-add-lower
+add-lower c = search needs
+
+cast-lower : tie.Need-cast-lower
+cast-lower c = search needs
+
 returns : tie.Need-returns
-returns c = none-controls (c .before .args .all) (c .before .args .controlling) (c .if1 .taken)
+returns c = more-control (c .before .args .all) (c .before .args .controlling) (search needs) (c .if1 .taken)
 
--- src/gates.rt:312:23
-sub-if2 : tie.Need-sub-if2
-sub-if2 c = search needs
-
--- src/gates.rt:313:9
 returns-2 : tie.Need-returns-2
-returns-2 c = one-controls (c .before .before .args .all) (c .before .before .args .controlling) (c .before .if1 .left) (c .if2 .taken)
+returns-2 c = none-controls (c .before .before .args .all) (c .before .before .args .controlling) (c .if2 .taken)
 
--- src/gates.rt:306:1
 returns-3 : tie.Need-returns-3
-returns-3 c = more-control (c .before .before .args .all) (c .before .before .args .controlling) (c .before .if1 .left) (c .if2 .left)
+returns-3 c = one-controls (c .before .before .args .all) (c .before .before .args .controlling) (search needs) (c .if2 .left) (c .before .if1 .left)
 
 pub open-set-spec : {M : Type 1} → statement M
-open-set-spec = tie.close (tie.spec returns sub-if2 returns-2 returns-3)
+open-set-spec = tie.close (tie.spec add-lower cast-lower returns returns-2 returns-3)

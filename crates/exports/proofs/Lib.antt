@@ -1,0 +1,4 @@
+-- Laws of codes and answer words, then the cases of each call by the answer of the call beneath it.
+pub mod CodeLaws
+pub mod CountLaws
+pub mod CallCases

@@ -1,0 +1,183 @@
+// The calls of document 01 for C: each returns 0, or the number of the refusal; a refused call leaves the answer words as they were.
+mod answers;
+
+ghost use mathlib.Core.Path.{_≡_};
+ghost use Rattle.model.specs.Calls.{surveyCall, emptyCall, emptiedStore, totalsCall, faultCall, pathToNumberCall, numberToPathAnswer, numberToPathBuffer, testAnswer, testStore, WorkAfter};
+ghost use Rattle.model.specs.Report.{writerAnswer, writerBuffer, auditAnswer, auditStore};
+ghost use Rattle.exports.specs.Codes.{codeAnswer, Answered, surveyWords, edgeWords, countWords, numberWord, boolWord};
+use crate::answers::put_number;
+use crate::answers::put_survey;
+use coverage::TestAnswer;
+use model::refusal_number;
+use netlist::SurveyAnswer;
+use paths::FaultNo;
+use paths::NumberAnswer;
+use paths::PathAnswer;
+use paths::PathNo;
+use report::AuditAnswer;
+use report::WriteAnswer;
+use store::EmptyAnswer;
+use store::HeldAnswer;
+use store::TotalsAnswer;
+
+// The survey of a netlist: I, G, U, T, then a count for each of 512 nets.
+#[no_mangle]
+pub extern "C" fn genduwal_survey(netlist: &[u8], answer: &mut [u64; 516]) -> u32
+    ensures { λ r. ⌜ Answered (surveyCall (now (netlist .entry))) surveyWords r (now (answer .entry)) (now (answer .exit)) ⌝ }
+{
+    let surveyed = netlist::survey(netlist);
+    let found = surveyed.answer;
+    match found {
+        SurveyAnswer::Refused(why) => refusal_number(why),
+        SurveyAnswer::Legal => {
+            put_survey(surveyed.survey, answer);
+            0
+        }
+    }
+}
+
+// Empties a store, of any words.
+#[no_mangle]
+pub extern "C" fn genduwal_empty(store: &mut [u64]) -> u32
+    ensures { λ r. ⌜ codeAnswer r ≡ emptyCall (now (store .entry)) ⌝ }
+    ensures { λ _. ⌜ now (store .exit) ≡ emptiedStore (now (store .entry)) ⌝ }
+{
+    let emptied = store::empty(store);
+    match emptied {
+        EmptyAnswer::Refused(why) => refusal_number(why),
+        EmptyAnswer::Emptied => 0,
+    }
+}
+
+// The test call: for each edge the number of faults new to the store, then for each edge the number then held.
+#[no_mangle]
+pub extern "C" fn genduwal_test(
+    netlist: &[u8],
+    test: &[u8],
+    store: &mut [u64],
+    work: &mut [u64],
+    answer: &mut [u64; 4],
+) -> u32
+    ensures { λ r. ⌜ Answered (testAnswer (now (netlist .entry)) (now (test .entry)) (now (store .entry)) (now (work .entry))) countWords r (now (answer .entry)) (now (answer .exit)) ⌝ }
+    ensures { λ _. ⌜ now (store .exit) ≡ testStore (now (netlist .entry)) (now (test .entry)) (now (store .entry)) (now (work .entry)) ⌝ }
+    ensures { λ _. ⌜ WorkAfter (now (netlist .entry)) (now (store .entry)) (now (work .entry)) (now (work .exit)) ⌝ }
+{
+    let tested = coverage::apply_test(netlist, test, store, work);
+    match tested {
+        TestAnswer::Refused(why) => refusal_number(why),
+        TestAnswer::Taken {
+            new_rising,
+            new_falling,
+            held_rising,
+            held_falling,
+        } => {
+            answer[0] = new_rising;
+            answer[1] = new_falling;
+            answer[2] = held_rising;
+            answer[3] = held_falling;
+            0
+        }
+    }
+}
+
+// The number of rising, then of falling faults that a store holds.
+#[no_mangle]
+pub extern "C" fn genduwal_totals(netlist: &[u8], store: &[u64], answer: &mut [u64; 2]) -> u32
+    ensures { λ r. ⌜ Answered (totalsCall (now (netlist .entry)) (now (store .entry))) edgeWords r (now (answer .entry)) (now (answer .exit)) ⌝ }
+{
+    let totals = store::totals(netlist, store);
+    match totals {
+        TotalsAnswer::Refused(why) => refusal_number(why),
+        TotalsAnswer::Totals { rising, falling } => {
+            answer[0] = rising;
+            answer[1] = falling;
+            0
+        }
+    }
+}
+
+// Whether a store holds a fault: 1 if it does, else 0.
+#[no_mangle]
+pub extern "C" fn genduwal_holds(
+    netlist: &[u8],
+    store: &[u64],
+    fault: u64,
+    answer: &mut [u64; 1],
+) -> u32
+    ensures { λ r. ⌜ Answered (faultCall (now (netlist .entry)) (now (store .entry)) fault) boolWord r (now (answer .entry)) (now (answer .exit)) ⌝ }
+{
+    let held = store::fault_in_store(netlist, store, FaultNo(fault));
+    match held {
+        HeldAnswer::Refused(why) => refusal_number(why),
+        HeldAnswer::Held => put_number(1, answer),
+        HeldAnswer::NotHeld => put_number(0, answer),
+    }
+}
+
+// The number of the path in the words.
+#[no_mangle]
+pub extern "C" fn genduwal_path_to_number(
+    netlist: &[u8],
+    path: &[u16],
+    answer: &mut [u64; 1],
+) -> u32
+    ensures { λ r. ⌜ Answered (pathToNumberCall (now (netlist .entry)) (now (path .entry))) numberWord r (now (answer .entry)) (now (answer .exit)) ⌝ }
+{
+    let number = paths::path_to_number(netlist, path);
+    match number {
+        NumberAnswer::Refused(why) => refusal_number(why),
+        NumberAnswer::Number(found) => put_number(found.0, answer),
+    }
+}
+
+// Writes the path of a number into the first 513 words, with zeros after it.
+#[no_mangle]
+pub extern "C" fn genduwal_number_to_path(netlist: &[u8], number: u64, path: &mut [u16]) -> u32
+    ensures { λ r. ⌜ codeAnswer r ≡ numberToPathAnswer (now (netlist .entry)) number (now (path .entry)) ⌝ }
+    ensures { λ _. ⌜ now (path .exit) ≡ numberToPathBuffer (now (netlist .entry)) number (now (path .entry)) ⌝ }
+{
+    let written = paths::number_to_path(netlist, PathNo(number), path);
+    match written {
+        PathAnswer::Refused(why) => refusal_number(why),
+        PathAnswer::Written => 0,
+    }
+}
+
+// Writes the report of a store and a number of tests: the length of its record.
+#[no_mangle]
+pub extern "C" fn genduwal_write_report(
+    netlist: &[u8],
+    store: &[u64],
+    tests: u32,
+    report: &mut [u8],
+    answer: &mut [u64; 1],
+) -> u32
+    ensures { λ r. ⌜ Answered (writerAnswer (now (netlist .entry)) (now (store .entry)) tests (now (report .entry))) numberWord r (now (answer .entry)) (now (answer .exit)) ⌝ }
+    ensures { λ _. ⌜ now (report .exit) ≡ writerBuffer (now (netlist .entry)) (now (store .entry)) tests (now (report .entry)) ⌝ }
+{
+    let written = report::write_report(netlist, store, tests, report);
+    match written {
+        WriteAnswer::Refused(why) => refusal_number(why),
+        WriteAnswer::Written(length) => put_number(length as u64, answer),
+    }
+}
+
+// Accepts a report if it is the one that the writer gives after the test calls with the records of a file, from an empty store.
+#[no_mangle]
+pub extern "C" fn genduwal_audit(
+    netlist: &[u8],
+    tests: &[u8],
+    report: &[u8],
+    store: &mut [u64],
+    work: &mut [u64],
+) -> u32
+    ensures { λ r. ⌜ codeAnswer r ≡ auditAnswer (now (netlist .entry)) (now (tests .entry)) (now (report .entry)) (now (store .entry)) (now (work .entry)) ⌝ }
+    ensures { λ _. ⌜ now (store .exit) ≡ auditStore (now (netlist .entry)) (now (tests .entry)) (now (report .entry)) (now (store .entry)) (now (work .entry)) ⌝ }
+    ensures { λ _. ⌜ WorkAfter (now (netlist .entry)) (now (store .entry)) (now (work .entry)) (now (work .exit)) ⌝ }
+{
+    let audited = report::audit(netlist, tests, report, store, work);
+    match audited {
+        AuditAnswer::Refused(why) => refusal_number(why),
+        AuditAnswer::Accepted => 0,
+    }
+}

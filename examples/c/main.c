@@ -1,0 +1,141 @@
+/* Judges document 01's circuit Q with its three tests, from C. What it prints is in the file expected, worked out from document 01. */
+#include "genduwal.h"
+
+#include <stdio.h>
+
+/* Q: net 2 is AND of inputs 0 and 1, net 3 is OR of nets 2 and 1, and net 3 is the output. */
+static const uint8_t circuit[] = {
+    0x4E, 0x4C, 2, 0, 2, 0, 1, 0,       /* 2 inputs, 2 gates, 1 output */
+    0x47, 0x54, 3, 2, 0, 0, 1, 0,       /* AND of nets 0 and 1 */
+    0x47, 0x54, 5, 2, 2, 0, 1, 0,       /* OR of nets 2 and 1 */
+    0x4F, 0x55, 3, 0,                   /* output: net 3 */
+};
+
+/* Three test records of four bytes: mark, V1, V2. */
+enum { record_bytes = 4, records = 3 };
+static const uint8_t tests[records * record_bytes] = {
+    0x54, 0x50, 2, 3,
+    0x54, 0x50, 3, 1,
+    0x54, 0x50, 0, 2,
+};
+
+static uint64_t store[GENDUWAL_STORE_WORDS];
+static uint64_t work[GENDUWAL_WORK_WORDS];
+static uint16_t path[GENDUWAL_PATH_WORDS];
+static uint8_t report[GENDUWAL_REPORT_BYTES];
+
+/* The inputs count 1 each, the AND 1 + 1 = 2, the OR 2 + 1 = 3, which is the output's and so the total. */
+static void show_survey(void)
+{
+    uint64_t answer[GENDUWAL_SURVEY_WORDS];
+    uint32_t code = genduwal_survey(circuit, sizeof circuit, answer);
+    if (code != 0) {
+        printf("survey refused %u\n", (unsigned)code);
+        return;
+    }
+    printf("inputs %llu gates %llu outputs %llu paths %llu\n", (unsigned long long)answer[0], (unsigned long long)answer[1],
+           (unsigned long long)answer[2], (unsigned long long)answer[3]);
+    printf("counts %llu %llu %llu %llu\n", (unsigned long long)answer[4], (unsigned long long)answer[5], (unsigned long long)answer[6],
+           (unsigned long long)answer[7]);
+}
+
+/* The first test detects nothing. The second detects faults 4 and 6: paths 2 and 3, falling. The third detects fault 5: path 3, rising.
+ * So the new faults are 0 0, then 0 2, then 1 0, and those held add up to 1 rising and 2 falling. */
+static void show_test(unsigned place)
+{
+    uint64_t answer[4];
+    uint32_t code = genduwal_test(circuit, sizeof circuit, tests + place * record_bytes, record_bytes, store, GENDUWAL_STORE_WORDS, work,
+                                  GENDUWAL_WORK_WORDS, answer);
+    if (code != 0) {
+        printf("test %u refused %u\n", place + 1, (unsigned)code);
+        return;
+    }
+    printf("test %u new %llu %llu held %llu %llu\n", place + 1, (unsigned long long)answer[0], (unsigned long long)answer[1],
+           (unsigned long long)answer[2], (unsigned long long)answer[3]);
+}
+
+/* What the three tests leave: one rising fault, two falling ones. */
+static void show_totals(void)
+{
+    uint64_t answer[2];
+    uint32_t code = genduwal_totals(circuit, sizeof circuit, store, GENDUWAL_STORE_WORDS, answer);
+    if (code != 0) {
+        printf("totals refused %u\n", (unsigned)code);
+        return;
+    }
+    printf("rising %llu falling %llu\n", (unsigned long long)answer[0], (unsigned long long)answer[1]);
+}
+
+/* Fault 4 is path 2, falling, which the second test detects. There is no fault 7, since there are three paths: refused 60. */
+static void show_fault(uint64_t fault)
+{
+    uint64_t answer[1];
+    uint32_t code = genduwal_holds(circuit, sizeof circuit, store, GENDUWAL_STORE_WORDS, fault, answer);
+    if (code != 0) {
+        printf("fault %llu refused %u\n", (unsigned long long)fault, (unsigned)code);
+        return;
+    }
+    printf("fault %llu %s\n", (unsigned long long)fault, answer[0] == 1 ? "held" : "not held");
+}
+
+/* One rising run, 3 to 3, and one falling run, 2 to 3: the record has 34 + 16 + 16 = 66 bytes. */
+static size_t show_report(void)
+{
+    uint64_t answer[1];
+    uint32_t code = genduwal_write_report(circuit, sizeof circuit, store, GENDUWAL_STORE_WORDS, records, report, sizeof report, answer);
+    if (code != 0) {
+        printf("report refused %u\n", (unsigned)code);
+        return 0;
+    }
+    printf("report %llu bytes\n", (unsigned long long)answer[0]);
+    return (size_t)answer[0];
+}
+
+/* The report that was written is accepted. With 4 in the place of its 3 tests it differs in that byte alone: refused 72. */
+static void show_audit(size_t length)
+{
+    uint32_t code = genduwal_audit(circuit, sizeof circuit, tests, sizeof tests, report, length, store, GENDUWAL_STORE_WORDS, work,
+                                   GENDUWAL_WORK_WORDS);
+    if (code != 0)
+        printf("audit refused %u\n", (unsigned)code);
+    else
+        printf("audit accepted\n");
+}
+
+/* Path 2 goes from output 0 through two pins: pin 0 of the OR, then pin 1 of the AND. Its number leads back to it. */
+static void show_path(uint64_t number)
+{
+    uint64_t answer[1];
+    uint32_t code = genduwal_number_to_path(circuit, sizeof circuit, number, path, GENDUWAL_PATH_WORDS);
+    if (code != 0) {
+        printf("path %llu refused %u\n", (unsigned long long)number, (unsigned)code);
+        return;
+    }
+    size_t words = 2 + (size_t)path[1];
+    printf("path %llu words", (unsigned long long)number);
+    for (size_t i = 0; i < words; i++)
+        printf(" %u", (unsigned)path[i]);
+    printf("\n");
+    code = genduwal_path_to_number(circuit, sizeof circuit, path, words, answer);
+    if (code != 0)
+        printf("number refused %u\n", (unsigned)code);
+    else
+        printf("number %llu\n", (unsigned long long)answer[0]);
+}
+
+int main(void)
+{
+    show_survey();
+    printf("empty %u\n", (unsigned)genduwal_empty(store, GENDUWAL_STORE_WORDS));
+    for (unsigned place = 0; place < records; place++)
+        show_test(place);
+    show_totals();
+    show_fault(4);
+    show_fault(7);
+    size_t length = show_report();
+    show_audit(length);
+    report[2] = 4;
+    show_audit(length);
+    show_path(2);
+    return 0;
+}

@@ -1,0 +1,103 @@
+/* Genduwal for C and C++: netlists, path numbers, tests, stores of tested faults, reports and their audit.
+ *
+ * Link target/staticlib/libexports.a (rt staticlib exports), on Linux x86-64; it needs memcpy and memset of the C library alone.
+ *
+ * Each function returns 0 if the call was taken, else the number of the refusal; no refusal has the number 0. What is proved of each
+ * function holds for every content and every length of the parts that it is handed, if these hold of the pointers:
+ *
+ * - A pointer with a length names that many elements, a pointer to an answer as many words as its declaration states.
+ * - No pointer is null, also where the length is 0, and each is aligned for its elements.
+ * - A part that a call may write (not const) overlaps no other part that this call is handed.
+ *
+ * Lengths are counted in elements: bytes of a uint8_t part, words of a uint64_t or uint16_t part. A refused call leaves the answer words as
+ * they were. The library keeps nothing between calls, so calls that write unlike parts of memory may run at the same time.
+ *
+ * Refusals, in the order in which they are looked for:
+ *   1  store not 4,098 words                     2  working memory under 8,192 words
+ *   3  path buffer under 513 words               4  report buffer under 32,802 bytes
+ *  10  netlist: header cut off or its mark      11  inputs, gates, nets or outputs out of range
+ *  12  gate cut off or its mark                 13  kind of gate
+ *  14  pin count for the kind                   15  pin not from a lower net
+ *  17  count of a net over 2^62                 18  output cut off or its mark
+ *  19  no such net, or not higher               21  paths of the outputs over 2^62
+ *  20  bytes left over after the netlist
+ *  33  test file not whole records, or over 4,294,967,295 of them
+ *  30  test record's length                     31  test record's mark
+ *  32  spare bit set
+ *  40  store: number of runs over 1,024         41  a run out of range or not after the one before
+ *  42  word past the last run not zero
+ *  50  over 1,024 working runs of an edge       51  the store would have over 1,024 runs of an edge
+ *  60  no such path or fault number             61  words are not a path of the netlist
+ *  70  report under 34 bytes or its mark        71  report's length
+ *  72  another byte of the report differs
+ */
+#ifndef GENDUWAL_H
+#define GENDUWAL_H
+
+#include <stddef.h>
+#include <stdint.h>
+
+#ifdef __cplusplus
+extern "C" {
+#endif
+
+/* Words of a store, least words of working memory and of a path buffer, least bytes of a report buffer, words of a survey. */
+#define GENDUWAL_STORE_WORDS 4098
+#define GENDUWAL_WORK_WORDS 8192
+#define GENDUWAL_PATH_WORDS 513
+#define GENDUWAL_REPORT_BYTES 32802
+#define GENDUWAL_SURVEY_WORDS 516
+
+/* The survey of a netlist. answer: inputs, gates, outputs, paths, then the count of paths of each of 512 nets, zero past the last net.
+ * Refusals: 10 to 15, 17 to 21. */
+uint32_t genduwal_survey(const uint8_t *netlist, size_t netlist_len, uint64_t answer[516]);
+
+/* Empties a store, of any words: all 4,098 words become zero.
+ * Refusals: 1. */
+uint32_t genduwal_empty(uint64_t *store, size_t store_len);
+
+/* Adds the faults that one test record detects to a store of 4,098 words. answer: new rising faults, new falling faults, rising faults then
+ * held, falling faults then held. work is at least 8,192 words; the first 8,192 may hold anything afterwards, later ones stay as they were.
+ * A refused call leaves the store as it was.
+ * Refusals: 1, 2, 10 to 15, 17 to 21, 30 to 32, 40 to 42, 50, 51. */
+uint32_t genduwal_test(const uint8_t *netlist, size_t netlist_len, const uint8_t *test, size_t test_len, uint64_t *store, size_t store_len,
+                       uint64_t *work, size_t work_len, uint64_t answer[4]);
+
+/* The faults that a store of 4,098 words holds. answer: rising faults, falling faults.
+ * Refusals: 1, 10 to 15, 17 to 21, 40 to 42. */
+uint32_t genduwal_totals(const uint8_t *netlist, size_t netlist_len, const uint64_t *store, size_t store_len, uint64_t answer[2]);
+
+/* Whether a store of 4,098 words holds a fault: path i has faults 2i - 1 (rising) and 2i (falling). answer: 1 if it does, else 0.
+ * Refusals: 1, 10 to 15, 17 to 21, 40 to 42, 60. */
+uint32_t genduwal_holds(const uint8_t *netlist, size_t netlist_len, const uint64_t *store, size_t store_len, uint64_t fault,
+                        uint64_t answer[1]);
+
+/* The number of a path. path: the output's place, the number n of pins, then n pins from the output back; path_len is exactly 2 + n.
+ * answer: the path's number, from 1.
+ * Refusals: 10 to 15, 17 to 21, 61. */
+uint32_t genduwal_path_to_number(const uint8_t *netlist, size_t netlist_len, const uint16_t *path, size_t path_len, uint64_t answer[1]);
+
+/* Writes the path of a number into the first 513 words of path, with zeros after it; path is at least 513 words, and later ones stay as they
+ * were. A refused call leaves all of them as they were.
+ * Refusals: 3, 10 to 15, 17 to 21, 60. */
+uint32_t genduwal_number_to_path(const uint8_t *netlist, size_t netlist_len, uint64_t number, uint16_t *path, size_t path_len);
+
+/* Writes the report of a store of 4,098 words and a number of tests. report is at least 32,802 bytes; those past the record, or all of them
+ * if the call is refused, stay as they were. answer: the record's length in bytes.
+ * Refusals: 1, 4, 10 to 15, 17 to 21, 40 to 42. */
+uint32_t genduwal_write_report(const uint8_t *netlist, size_t netlist_len, const uint64_t *store, size_t store_len, uint32_t tests,
+                               uint8_t *report, size_t report_len, uint64_t answer[1]);
+
+/* Judges a report: empties the store unread, takes the test records, which lie end to end in tests, in their order, and accepts (returns 0)
+ * if the report is the one that the writer gives for the store then reached and the number of records. store is 4,098 words, of any content;
+ * work is at least 8,192 words, used as by a test. An accepting call leaves the store that the tests reach, one refused with a number over 2
+ * leaves it all zeros.
+ * Refusals: 1, 2, 10 to 15, 17 to 21, 31 to 33, 50, 51, 70 to 72. */
+uint32_t genduwal_audit(const uint8_t *netlist, size_t netlist_len, const uint8_t *tests, size_t tests_len, const uint8_t *report,
+                        size_t report_len, uint64_t *store, size_t store_len, uint64_t *work, size_t work_len);
+
+#ifdef __cplusplus
+}
+#endif
+
+#endif
