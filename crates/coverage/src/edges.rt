@@ -136,7 +136,7 @@ fn join_answers(rising: EdgeAnswer, falling: EdgeAnswer) -> BothAnswer
         EdgeAnswer::OverWork => BothAnswer::WorkOver,
         EdgeAnswer::OverStore => match falling {
             EdgeAnswer::Covered(m, falling_made) => BothAnswer::StoreOver,
-            EdgeAnswer::OverWork => BothAnswer::WorkOver,
+            EdgeAnswer::OverWork => BothAnswer::WorkOver, // before the rising edge's 51
             EdgeAnswer::OverStore => BothAnswer::StoreOver,
         },
     }

@@ -1,11 +1,12 @@
 -- Steps of `zero_words` and `clear`: words that are zero so far, or are made so.
 -- Assumes nothing.
 use mathlib.Core.Path.{_≡_, refl, ap, sym, _∙_}
-use mathlib.Core.Bool.{true, false, _&&_}
+use mathlib.Core.Bool.{Bool, true, false, _&&_}
 use mathlib.Core.List.{List, [], _∷_, _++_, append-nil}
 use Prim.Native.Nat.{ℕ, zero, suc, _+_, _-_, _≤_, _<_}
 use native.Mathlib.Omega.{arith}
 use native.Mathlib.Numerals.{add-one}
+use lib.Bits.{bitOr, or-zero-l, or-add-and, and-le-r}
 use lib.Dec.{eqb}
 use lib.ListN.{length, getD, take, drop, set, replicate, length-replicate, drop-of-length-le}
 use lib.Seq.{drop-cons, set-at}
@@ -13,7 +14,7 @@ use borrow.Author.Tests.{eq-eqb, ne-eqb}
 use Rattle.model.specs.Base.{allOf}
 
 -- the n words from word `at` on are all zero
-abbrev pub zeros : List ℕ → ℕ → ℕ → mathlib.Core.Bool.Bool
+abbrev pub zeros : List ℕ → ℕ → ℕ → Bool
 zeros ws at n = allOf (λ w. eqb w 0) (take n (drop at ws))
 
 zeros-next : (ws : List ℕ) (at n : ℕ) → 0 < n → at < length ws → zeros ws at n ≡ (eqb (getD ws at 0) 0 && zeros ws (at + 1) (n - 1))
@@ -26,17 +27,33 @@ none-left : (ws : List ℕ) (at n : ℕ) → n ≤ 0 → zeros ws at n ≡ true
 none-left ws at zero h = refl
 none-left ws at (suc n) h = absurd (omega arith)
 
--- the words from `place` on, `left` of them, decide
-module _ (ws : List ℕ) (at n place left : ℕ) (so-far : zeros ws place left ≡ zeros ws at n) where
-  pub zeros-end : left ≤ 0 → true ≡ zeros ws at n
-  zeros-end h = sym (none-left ws place left h) ∙ so-far
+and-true : (a : Bool) → (a && true) ≡ a
+and-true true = refl
+and-true false = refl
 
-  module _ (ends : place + left ≡ at + n) (inside : at + n ≤ length ws) (more : 0 < left) where
-    pub zeros-no : (getD ws place 0 ≡ 0 → ⊥) → false ≡ zeros ws at n
-    zeros-no d = sym (zeros-next ws place left more (omega arith) ∙ rw (ne-eqb (getD ws place 0) 0 d) refl) ∙ so-far
+and-assoc : (a b c : Bool) → ((a && b) && c) ≡ (a && (b && c))
+and-assoc true b c = refl
+and-assoc false b c = refl
 
-    pub zeros-yes : getD ws place 0 ≡ 0 → zeros ws (place + 1) (left - 1) ≡ zeros ws at n
-    zeros-yes d = sym (zeros-next ws place left more (omega arith) ∙ rw (eq-eqb (getD ws place 0) 0 d) refl) ∙ so-far
+-- two words are zero where their union of bits is
+or-zero : (a b : ℕ) → eqb (bitOr a b) 0 ≡ (eqb a 0 && eqb b 0)
+or-zero zero b = ap (λ (x : ℕ). eqb x 0) (or-zero-l b)
+or-zero (suc a) b =
+    ne-eqb (bitOr (suc a) b) 0 (λ e. absurd (omega (arith, or-add-and (suc a) b, and-le-r (suc a) b, e)))
+    ∙ sym (rw (ne-eqb (suc a) 0 (λ e. absurd (omega (arith, e)))) refl)
+
+-- the words before `place`, whose union of bits is `seen`, and those from `place` on, `left` of them, decide
+module _ (ws : List ℕ) (at n place left seen : ℕ) (so-far : (eqb seen 0 && zeros ws place left) ≡ zeros ws at n) where
+  pub zeros-end : left ≤ 0 → eqb seen 0 ≡ zeros ws at n
+  zeros-end h = sym (and-true (eqb seen 0)) ∙ ap (λ (b : Bool). eqb seen 0 && b) (sym (none-left ws place left h)) ∙ so-far
+
+  pub zeros-more : place + left ≡ at + n → at + n ≤ length ws → 0 < left
+      → (eqb (bitOr seen (getD ws place 0)) 0 && zeros ws (place + 1) (left - 1)) ≡ zeros ws at n
+  zeros-more ends inside more =
+      ap (λ (b : Bool). b && zeros ws (place + 1) (left - 1)) (or-zero seen (getD ws place 0))
+      ∙ and-assoc (eqb seen 0) (eqb (getD ws place 0) 0) (zeros ws (place + 1) (left - 1))
+      ∙ ap (λ (b : Bool). eqb seen 0 && b) (sym (zeros-next ws place left more (omega arith)))
+      ∙ so-far
 
 -- zeros so far, the rest as found
 zeros-before : (n : ℕ) (l : List ℕ) → replicate n 0 ++ (0 ∷ l) ≡ replicate (suc n) 0 ++ l

@@ -44,21 +44,20 @@ pub struct StoreTotals {
     pub falling: u64,
 }
 
-// Whether the n words from word `at` on are zero.
+// Whether the n words from word `at` on are zero. All are read, with no early end, so that the compiler reads several at once.
 fn zero_words(words: &[u64], at: usize, n: usize) -> bool
     requires { ⌜ at + n ≤ length (now words) ⌝ }
     ensures { λ r. ⌜ r ≡ allOf (λ w. eqb w 0) (take n (drop at (now (words .entry)))) ⌝ }
 {
     let mut place = at;
     let mut left = n;
+    let mut seen: u64 = 0;
     while 0 < left {
-        if words[place] != 0 {
-            return false;
-        }
+        seen = seen | words[place];
         place += 1;
         left -= 1;
     }
-    true
+    seen == 0
 }
 
 // Whether neither edge has more runs than places.

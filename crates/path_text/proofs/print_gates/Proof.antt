@@ -1,20 +1,15 @@
--- `show_path::print_gates` is safe and ends: a path has at most 511 pins.
+-- `path_text::print_gates` is safe and ends: a path has at most 511 pins.
 -- Assumes nothing.
 use borrow.Author.Needs.{needs}
 use Prim.Native.Nat.{_≤_, _-_}
-use Rattle.show_path.proofs.print_gates.Statement.{statement}
-use Rattle.show_path.proofs.print_gates.Tie as tie
-use Rattle.records.proofs.inner.wide_word.Reads as wide-word-reads
-use Rattle.show_path.proofs.pin_count.Reads as pin-count-reads
-use Rattle.show_path.proofs.print.Reads as print-reads
-use Rattle.show_path.proofs.print_gate.Reads as print-gate-reads
-use Rattle.show_path.proofs.print_number.Reads as print-number-reads
+use Rattle.path_text.proofs.print_gates.Statement.{statement}
+use Rattle.path_text.proofs.print_gates.Tie as tie
 
 abbrev Inv-loop : tie.InvT-loop
-Inv-loop netlist positions words output pins net₀ k₀ t8 t9 net k = (k ≤ pins) × (pins ≤ 511)
+Inv-loop fd netlist positions words output pins net₀ k₀ t9 net k = (k ≤ pins) × (pins ≤ 511)
 
 abbrev μ-loop : tie.MeasureT-loop
-μ-loop netlist positions words output pins net₀ k₀ t8 t9 net k = pins - k
+μ-loop fd netlist positions words output pins net₀ k₀ t9 net k = pins - k
 
 pin-count-requires : tie.Need-pin-count-requires Inv-loop μ-loop
 pin-count-requires c κs = search needs
@@ -46,20 +41,17 @@ loop-less c = search needs
 loop-again : tie.Need-loop-again Inv-loop μ-loop
 loop-again c = search needs
 
-slice-aggregate-print : tie.Need-slice-aggregate-print Inv-loop μ-loop
-slice-aggregate-print c = search needs
+net-line-requires : tie.Need-net-line-requires Inv-loop μ-loop
+net-line-requires c κs = search needs
 
-print-requires : tie.Need-print-requires Inv-loop μ-loop
-print-requires c κs = search needs
+slice-aggregate-with-text : tie.Need-slice-aggregate-with-text Inv-loop μ-loop
+slice-aggregate-with-text c = search needs
 
-print-number-requires : tie.Need-print-number-requires Inv-loop μ-loop
-print-number-requires c κs = search needs
+with-text-requires : tie.Need-with-text-requires Inv-loop μ-loop
+with-text-requires c κs = search needs
 
-slice-aggregate-print-2 : tie.Need-slice-aggregate-print-2 Inv-loop μ-loop
-slice-aggregate-print-2 c = search needs
-
-print-requires-2 : tie.Need-print-requires-2 Inv-loop μ-loop
-print-requires-2 c κs = search needs
+print-line-requires : tie.Need-print-line-requires Inv-loop μ-loop
+print-line-requires c κs = search needs
 
 returns : tie.Need-returns Inv-loop μ-loop
 returns c = search needs
@@ -80,9 +72,8 @@ print-gates-spec =
     add-k
     loop-less
     loop-again
-    slice-aggregate-print
-    print-requires
-    print-number-requires
-    slice-aggregate-print-2
-    print-requires-2
+    net-line-requires
+    slice-aggregate-with-text
+    with-text-requires
+    print-line-requires
     returns)

@@ -1,0 +1,260 @@
+//! The verified library beside its unverified twin: equal answers, and the processor time of both.
+//! Arguments: the folder of circuits, the file for the results, and `--quick` for one repeat with 10,000 records.
+
+mod compare;
+mod loads;
+mod timing;
+mod twin;
+mod verified;
+
+use compare::Both;
+use loads::{Load, Memory, Random};
+use std::fmt::Write;
+use std::hint::black_box;
+use timing::{Times, race};
+
+const CIRCUITS: [&str; 5] = ["c17", "sn74181", "modet_rca16", "cn30_xnor", "mult6_nand"];
+
+const INTRODUCTION: &str = "\
+Processor time, the least of the repeats, verified library and twin in turn. T: paths. runs: those of the final store, both edges.
+distinct: different records of the audit's load, which has taken records only; the others are repeats.
+50, 51: records of the test call's load that were refused so.
+";
+
+const CIRCUITS_HEAD: &str = "\
+circuit      gates          T  records distinct  runs |  audit ms   twin ms ratio |  test ns  twin ns ratio     50     51 | survey ns  twin ns ratio";
+
+const GROWTH_HEAD: &str = "circuit      gates          T  records distinct  runs |  audit ms   twin ms ratio";
+
+/// How much to measure, and what was measured.
+struct Bench {
+    folder: String,
+    repeats: usize,
+    records: usize,
+    both: Both,
+    random: Random,
+    results: String,
+}
+
+/// A load of taken records with its true report, and what its circuit and final store are like.
+struct Case {
+    name: String,
+    load: Load,
+    report: Vec<u8>,
+    gates: usize,
+    paths: u64,
+    runs: usize,
+}
+
+impl Case {
+    /// The case of a load, its report and its audit equal on both sides.
+    fn new(name: &str, load: Load, both: &mut Both) -> Case {
+        let survey = twin::survey(&load.netlist).expect("a legal netlist");
+        assert_eq!(both.survey(&load.netlist), None);
+        let report = compare::true_report(both, &load);
+        assert_eq!(both.audit(&load.netlist, &load.tests, &report), 0);
+        let runs = (report.len() - 34) / 16;
+        let (gates, paths) = (survey.gates, survey.total);
+        Case { name: name.to_string(), load, report, gates, paths, runs }
+    }
+
+    /// The first columns of a table.
+    fn columns(&self) -> String {
+        let load = &self.load;
+        format!(
+            "{:12} {:5} {:10} {:8} {:8} {:5}",
+            self.name, self.gates, self.paths, load.records, load.distinct, self.runs
+        )
+    }
+}
+
+/// The audit of a case, accepted.
+fn time_audit(case: &Case, repeats: usize) -> Times {
+    let (mut left, mut right) = (Memory::new(), Memory::new());
+    let (netlist, tests, report) = (&case.load.netlist, &case.load.tests, &case.report);
+    race(
+        repeats,
+        || {
+            let answer = verified::audit(netlist, tests, report, &mut left.store, &mut left.work);
+            assert_eq!(answer, Ok(()));
+        },
+        || {
+            let answer = twin::audit(netlist, tests, report, &mut right.store, &mut right.work);
+            assert_eq!(answer, Ok(()));
+        },
+    )
+}
+
+/// One test call for each record of a load, from an empty store; the time of one call.
+fn time_tests(load: &Load, repeats: usize) -> Times {
+    let (mut left, mut right) = (Memory::new(), Memory::new());
+    let netlist = &load.netlist;
+    let times = race(
+        repeats,
+        || {
+            left.store.fill(0);
+            for record in load.records() {
+                let answer = verified::test(netlist, record, &mut left.store, &mut left.work);
+                let _ = black_box(answer);
+            }
+        },
+        || {
+            right.store.fill(0);
+            for record in load.records() {
+                let answer = twin::test(netlist, record, &mut right.store, &mut right.work);
+                let _ = black_box(answer);
+            }
+        },
+    );
+    times.each(load.records)
+}
+
+/// The time of one survey.
+fn time_survey(netlist: &[u8], repeats: usize) -> Times {
+    const CALLS: usize = 2000;
+    let mut words = [0; 516];
+    let times = race(
+        repeats,
+        || {
+            for _ in 0..CALLS {
+                let refusal = verified::survey_words(black_box(netlist), black_box(&mut words));
+                assert_eq!(refusal, 0);
+            }
+        },
+        || {
+            for _ in 0..CALLS {
+                assert!(black_box(twin::survey(black_box(netlist))).is_ok());
+            }
+        },
+    );
+    times.each(CALLS)
+}
+
+impl Bench {
+    /// The file of a circuit and its number of inputs.
+    fn netlist(&self, name: &str) -> (Vec<u8>, usize) {
+        let file = format!("{}/{name}.nl", self.folder);
+        let netlist = std::fs::read(file).expect("a circuit's file");
+        let inputs = twin::survey(&netlist).expect("a legal netlist").inputs;
+        (netlist, inputs)
+    }
+
+    /// Keeps a line of the results file. The columns of the audit's load stay empty for another call.
+    fn keep(&mut self, table: &str, call: &str, case: &Case, times: Times) {
+        let Case { name, load, gates, paths, runs, .. } = case;
+        let load = match call {
+            "audit" => format!("{},{},{runs}", load.records, load.distinct),
+            _ => ",,".to_string(),
+        };
+        let Times { verified, twin } = times;
+        let (repeats, ratio) = (self.repeats, times.ratio());
+        writeln!(
+            self.results,
+            "{table},{call},{name},{gates},{paths},{load},{repeats},{verified:.1},{twin:.1},{ratio:.3}"
+        )
+        .expect("a line");
+    }
+
+    /// Equal answers on refused input.
+    fn check(&mut self, case: &Case) {
+        let mut memory = Memory::new();
+        for record in case.load.records() {
+            memory.twin_test(&case.load.netlist, record).expect("a taken record");
+        }
+        let both = &mut self.both;
+        compare::refused_audits(both, &case.load, &case.report);
+        compare::wrong_lengths(both, &case.load, &case.report);
+        compare::refused_tests(both, &case.load, &memory.store, &mut self.random);
+        compare::broken_netlists(both, &case.load.netlist, &mut self.random);
+    }
+
+    /// Equal answers on a circuit, then its line of the first table.
+    fn circuit(&mut self, name: &str) {
+        let (netlist, inputs) = self.netlist(name);
+        let mixed = loads::mixed(&netlist, inputs, self.records);
+        let refused = compare::over_load(&mut self.both, &mixed);
+        let taken = loads::taken(&netlist, inputs, self.records);
+        let case = Case::new(name, taken, &mut self.both);
+        self.check(&case);
+        let audit = time_audit(&case, self.repeats);
+        let test = time_tests(&mixed, self.repeats);
+        let survey = time_survey(&netlist, self.repeats);
+        self.keep("circuits", "audit", &case, audit);
+        self.keep("circuits", "test", &case, test);
+        self.keep("circuits", "survey", &case, survey);
+        println!(
+            "{} | {} | {} {:6} {:6} | {}",
+            case.columns(),
+            audit.columns(1e6, 9, 2),
+            test.columns(1.0, 8, 0),
+            refused[0],
+            refused[1],
+            survey.columns(1.0, 8, 0)
+        );
+    }
+
+    /// A line of a growth table: the audit alone.
+    fn growth(&mut self, table: &str, case: &Case) {
+        let times = time_audit(case, self.repeats);
+        self.keep(table, "audit", case, times);
+        println!("{} | {}", case.columns(), times.columns(1e6, 9, 3));
+    }
+
+    /// How the audit's time grows with the records.
+    fn by_records(&mut self) {
+        println!("\nThe audit by records\n{GROWTH_HEAD}");
+        for name in CIRCUITS {
+            let (netlist, inputs) = self.netlist(name);
+            for records in [self.records / 100, self.records / 10, self.records] {
+                let load = loads::taken(&netlist, inputs, records);
+                let case = Case::new(name, load, &mut self.both);
+                self.growth("records", &case);
+            }
+        }
+    }
+
+    /// How the audit's time grows with the gates.
+    fn by_gates(&mut self) {
+        println!("\nThe audit by gates: chains of full adders\n{GROWTH_HEAD}");
+        for bits in [3, 6, 12, 24, 48, 96] {
+            let netlist = loads::adder_chain(bits);
+            let load = loads::taken(&netlist, loads::ADDER_INPUTS, self.records / 10);
+            let case = Case::new(&format!("adder{bits}"), load, &mut self.both);
+            self.growth("gates", &case);
+        }
+    }
+
+    /// How the audit's time grows with the runs in the store.
+    fn by_runs(&mut self) {
+        println!("\nThe audit by runs in the store\n{GROWTH_HEAD}");
+        for power in 0..=10 {
+            let load = loads::comb_load(1 << power, self.records / 10);
+            let case = Case::new("comb", load, &mut self.both);
+            assert_eq!(case.runs, 2 << power);
+            self.growth("runs", &case);
+        }
+    }
+}
+
+/// The tables, in turn, then the results file.
+fn main() {
+    let words: Vec<String> = std::env::args().collect();
+    let quick = words.iter().any(|word| word == "--quick");
+    let (repeats, records) = if quick { (1, 10_000) } else { (9, 100_000) };
+    let mut bench = Bench {
+        folder: words[1].clone(),
+        repeats,
+        records,
+        both: Both::new(),
+        random: Random::new(0xA076_1D64_78BD_642F),
+        results: "table,call,circuit,gates,paths,records,distinct,runs,repeats,verified_ns,twin_ns,ratio\n".to_string(),
+    };
+    compare::limits(&mut bench.both);
+    println!("{INTRODUCTION}Repeats: {repeats}.\n\n{CIRCUITS_HEAD}");
+    CIRCUITS.iter().for_each(|name| bench.circuit(name));
+    bench.by_records();
+    bench.by_gates();
+    bench.by_runs();
+    std::fs::write(&words[2], &bench.results).expect("the results file");
+    println!("\n{} answers, stores and reports compared: all equal", bench.both.compared);
+}

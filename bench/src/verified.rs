@@ -1,0 +1,137 @@
+//! The proved library, through its C interface (crate `exports`), with the twin's signatures. The declarations must agree with that crate.
+
+use crate::twin::Survey;
+
+unsafe extern "C" {
+    fn genduwal_survey(netlist: *const u8, netlist_bytes: usize, answer: *mut u64) -> u32;
+    fn genduwal_empty(store: *mut u64, store_words: usize) -> u32;
+    fn genduwal_test(
+        netlist: *const u8,
+        netlist_bytes: usize,
+        record: *const u8,
+        record_bytes: usize,
+        store: *mut u64,
+        store_words: usize,
+        work: *mut u64,
+        work_words: usize,
+        answer: *mut u64,
+    ) -> u32;
+    fn genduwal_totals(
+        netlist: *const u8,
+        netlist_bytes: usize,
+        store: *const u64,
+        store_words: usize,
+        answer: *mut u64,
+    ) -> u32;
+    fn genduwal_write_report(
+        netlist: *const u8,
+        netlist_bytes: usize,
+        store: *const u64,
+        store_words: usize,
+        tests: u32,
+        report: *mut u8,
+        report_bytes: usize,
+        answer: *mut u64,
+    ) -> u32;
+    fn genduwal_audit(
+        netlist: *const u8,
+        netlist_bytes: usize,
+        tests: *const u8,
+        tests_bytes: usize,
+        report: *const u8,
+        report_bytes: usize,
+        store: *mut u64,
+        store_words: usize,
+        work: *mut u64,
+        work_words: usize,
+    ) -> u32;
+}
+
+/// An answer, unless the call was refused.
+fn answer<A>(refusal: u32, answer: A) -> Result<A, u32> {
+    if refusal == 0 { Ok(answer) } else { Err(refusal) }
+}
+
+/// The survey's numbers as the call writes them: I, G, U, T and the 512 counts.
+pub fn survey_words(netlist: &[u8], words: &mut [u64; 516]) -> u32 {
+    unsafe { genduwal_survey(netlist.as_ptr(), netlist.len(), words.as_mut_ptr()) }
+}
+
+/// The survey.
+pub fn survey(netlist: &[u8]) -> Result<Survey, u32> {
+    let mut words = [0; 516];
+    let refusal = survey_words(netlist, &mut words);
+    let mut counts = [0; 512];
+    counts.copy_from_slice(&words[4..]);
+    let [inputs, gates, outputs] = [words[0], words[1], words[2]].map(|word| word as usize);
+    answer(refusal, Survey { inputs, gates, outputs, total: words[3], counts })
+}
+
+/// Empties a store.
+pub fn empty(store: &mut [u64]) -> Result<(), u32> {
+    answer(unsafe { genduwal_empty(store.as_mut_ptr(), store.len()) }, ())
+}
+
+/// The test call: new rising, new falling, held rising, held falling.
+pub fn test(netlist: &[u8], record: &[u8], store: &mut [u64], work: &mut [u64]) -> Result<[u64; 4], u32> {
+    let mut numbers = [0; 4];
+    let refusal = unsafe {
+        genduwal_test(
+            netlist.as_ptr(),
+            netlist.len(),
+            record.as_ptr(),
+            record.len(),
+            store.as_mut_ptr(),
+            store.len(),
+            work.as_mut_ptr(),
+            work.len(),
+            numbers.as_mut_ptr(),
+        )
+    };
+    answer(refusal, numbers)
+}
+
+/// The totals: rising and falling.
+pub fn totals(netlist: &[u8], store: &[u64]) -> Result<[u64; 2], u32> {
+    let mut numbers = [0; 2];
+    let refusal =
+        unsafe { genduwal_totals(netlist.as_ptr(), netlist.len(), store.as_ptr(), store.len(), numbers.as_mut_ptr()) };
+    answer(refusal, numbers)
+}
+
+/// The writer: the report's length.
+pub fn write_report(netlist: &[u8], store: &[u64], tests: u32, report: &mut [u8]) -> Result<usize, u32> {
+    let mut length = [0];
+    let refusal = unsafe {
+        genduwal_write_report(
+            netlist.as_ptr(),
+            netlist.len(),
+            store.as_ptr(),
+            store.len(),
+            tests,
+            report.as_mut_ptr(),
+            report.len(),
+            length.as_mut_ptr(),
+        )
+    };
+    answer(refusal, length[0] as usize)
+}
+
+/// The audit.
+pub fn audit(netlist: &[u8], tests: &[u8], report: &[u8], store: &mut [u64], work: &mut [u64]) -> Result<(), u32> {
+    let refusal = unsafe {
+        genduwal_audit(
+            netlist.as_ptr(),
+            netlist.len(),
+            tests.as_ptr(),
+            tests.len(),
+            report.as_ptr(),
+            report.len(),
+            store.as_mut_ptr(),
+            store.len(),
+            work.as_mut_ptr(),
+            work.len(),
+        )
+    };
+    answer(refusal, ())
+}

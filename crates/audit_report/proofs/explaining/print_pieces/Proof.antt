@@ -1,0 +1,73 @@
+-- `audit_report::explaining::print_pieces` is safe and ends: each stretch ends at a higher number.
+-- Assumes nothing.
+use borrow.Author.Needs.{needs}
+use Prim.Native.Nat.{_-_, _^_}
+use native.Mathlib.Omega.{arith}
+use Rattle.audit_report.proofs.StepCases.{ends-ahead}
+use Rattle.audit_report.proofs.explaining.print_pieces.Statement.{statement}
+use Rattle.audit_report.proofs.explaining.print_pieces.Tie as tie
+
+abbrev Inv-loop : tie.InvT-loop
+Inv-loop title a b before lines₀ from₀ lines from = Unit {0}
+
+abbrev μ-loop : tie.MeasureT-loop
+μ-loop title a b before lines₀ from₀ lines from = 2 ^ 64 - from
+
+loop-holds : tie.Need-loop-holds Inv-loop μ-loop
+loop-holds c = search needs
+
+next-piece-requires : tie.Need-next-piece-requires Inv-loop μ-loop
+next-piece-requires c κs = search needs
+
+enum-told : tie.Need-enum-told Inv-loop μ-loop
+enum-told c = search needs
+
+returns : tie.Need-returns Inv-loop μ-loop
+returns c = search needs
+
+enum-known-piece : tie.Need-enum-known-piece Inv-loop μ-loop
+enum-known-piece c = search needs
+
+print-piece-requires : tie.Need-print-piece-requires Inv-loop μ-loop
+print-piece-requires c κs = search needs
+
+one-more-requires : tie.Need-one-more-requires Inv-loop μ-loop
+one-more-requires c κs = search needs
+
+returns-2 : tie.Need-returns-2 Inv-loop μ-loop
+returns-2 c = search needs
+
+add-from : tie.Need-add-from Inv-loop μ-loop
+add-from c = search needs
+
+loop-less : tie.Need-loop-less Inv-loop μ-loop
+loop-less c =
+    let a = c .before .before .before .before .before .before .before .before .before .before .before .args in
+    let n = c .before .before .before .before .before .before .next-piece in
+    let g = c .before .before .before .before .piece .given in
+    omega (
+      arith,
+      c .before .before .before .known-told .given .1 .0 .1,
+      ends-ahead (n .result) (a .a .now) (a .b .now) (c .before .before .before .before .before .before .before .loop .from) (n .ensures) (g .0 .0) (g .0 .1 .0) (g .1),
+    )
+
+loop-again : tie.Need-loop-again Inv-loop μ-loop
+loop-again c = search needs
+
+pub print-pieces-spec : {M : Type 1} → statement M
+print-pieces-spec =
+    tie.close
+    (tie.spec
+    Inv-loop
+    μ-loop
+    loop-holds
+    next-piece-requires
+    enum-told
+    returns
+    enum-known-piece
+    print-piece-requires
+    one-more-requires
+    returns-2
+    add-from
+    loop-less
+    loop-again)
