@@ -1,0 +1,64 @@
+-- `cases::same_words` is safe and ends: no more words are found than were looked at.
+-- Assumes nothing.
+use borrow.Author.Needs.{needs}
+use Prim.Native.Nat.{_≤_, _-_}
+use Rattle.cases.proofs.memory.same_words.Statement.{statement}
+use Rattle.cases.proofs.memory.same_words.Tie as tie
+use Rattle.cases.proofs.bytes.one_if.Reads as one-if-reads
+
+abbrev Inv-loop : tie.InvT-loop
+Inv-loop a b found₀ at₀ found at = (at ≤ 4098) × (found ≤ at)
+
+abbrev μ-loop : tie.MeasureT-loop
+μ-loop a b found₀ at₀ found at = 4098 - at
+
+loop-holds : tie.Need-loop-holds Inv-loop μ-loop
+loop-holds c = search needs
+
+mul-one-if : tie.Need-mul-one-if Inv-loop μ-loop
+mul-one-if c = search needs
+
+element-copy-out-one-if : tie.Need-element-copy-out-one-if Inv-loop μ-loop
+element-copy-out-one-if c = search needs
+
+mul-one-if-2 : tie.Need-mul-one-if-2 Inv-loop μ-loop
+mul-one-if-2 c = search needs
+
+element-copy-out-one-if-2 : tie.Need-element-copy-out-one-if-2 Inv-loop μ-loop
+element-copy-out-one-if-2 c = search needs
+
+one-if-requires : tie.Need-one-if-requires Inv-loop μ-loop
+one-if-requires c κs = search needs
+
+add-found : tie.Need-add-found Inv-loop μ-loop
+add-found c = search needs
+
+add-at : tie.Need-add-at Inv-loop μ-loop
+add-at c = search needs
+
+loop-less : tie.Need-loop-less Inv-loop μ-loop
+loop-less c = search needs
+
+loop-again : tie.Need-loop-again Inv-loop μ-loop
+loop-again c = search needs
+
+returns : tie.Need-returns Inv-loop μ-loop
+returns c = search needs
+
+pub same-words-spec : {M : Type 1} → statement M
+same-words-spec =
+    tie.close
+    (tie.spec
+    Inv-loop
+    μ-loop
+    loop-holds
+    mul-one-if
+    element-copy-out-one-if
+    mul-one-if-2
+    element-copy-out-one-if-2
+    one-if-requires
+    add-found
+    add-at
+    loop-less
+    loop-again
+    returns)
