@@ -291,7 +291,7 @@ fn lent_memory(tally: Tally) -> Tally {
 }
 
 // All cases of the audit.
-pub fn all(tally: Tally) -> Tally {
+pub(crate) fn all(tally: Tally) -> Tally {
     let reports = other_reports(changed_reports(accepted_reports(tally)));
     lent_memory(zeros(full_files(test_files(reports))))
 }

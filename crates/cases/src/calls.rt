@@ -33,7 +33,7 @@ fn refused_by(why: Refusal) -> Answer {
 }
 
 // The survey: the total.
-pub fn survey(circuit: Circuit) -> Answer {
+pub(crate) fn survey(circuit: Circuit) -> Answer {
     let bytes = circuit.bytes;
     let surveyed = netlist::survey(first_bytes(&bytes, circuit.length));
     let answer = surveyed.answer;
@@ -44,7 +44,7 @@ pub fn survey(circuit: Circuit) -> Answer {
 }
 
 // The survey: the numbers of inputs, gates and outputs, and the total.
-pub fn survey_numbers(circuit: Circuit) -> Answer {
+pub(crate) fn survey_numbers(circuit: Circuit) -> Answer {
     let bytes = circuit.bytes;
     let surveyed = netlist::survey(first_bytes(&bytes, circuit.length));
     let survey = surveyed.survey;
@@ -57,7 +57,7 @@ pub fn survey_numbers(circuit: Circuit) -> Answer {
 }
 
 // The survey: the count of a net.
-pub fn survey_count(circuit: Circuit, net: usize) -> u64 {
+pub(crate) fn survey_count(circuit: Circuit, net: usize) -> u64 {
     let bytes = circuit.bytes;
     let surveyed = netlist::survey(first_bytes(&bytes, circuit.length));
     let counts = surveyed.survey.counts;
@@ -68,7 +68,7 @@ pub fn survey_count(circuit: Circuit, net: usize) -> u64 {
 }
 
 // The survey: the sum of its 512 counts.
-pub fn survey_sum(circuit: Circuit) -> u64 {
+pub(crate) fn survey_sum(circuit: Circuit) -> u64 {
     let bytes = circuit.bytes;
     let surveyed = netlist::survey(first_bytes(&bytes, circuit.length));
     let counts = surveyed.survey.counts;
@@ -76,7 +76,12 @@ pub fn survey_sum(circuit: Circuit) -> u64 {
 }
 
 // The test call with memory of any length: new rising, new falling, held rising, held falling.
-pub fn apply_lent(circuit: Circuit, test: &[u8], store: &mut [u64], work: &mut [u64]) -> Answer {
+pub(crate) fn apply_lent(
+    circuit: Circuit,
+    test: &[u8],
+    store: &mut [u64],
+    work: &mut [u64],
+) -> Answer {
     let bytes = circuit.bytes;
     let answer = apply_test(first_bytes(&bytes, circuit.length), test, store, work);
     match answer {
@@ -91,19 +96,19 @@ pub fn apply_lent(circuit: Circuit, test: &[u8], store: &mut [u64], work: &mut [
 }
 
 // The test call with a record of any length.
-pub fn apply_record(circuit: Circuit, test: &[u8], store: &mut StoreWords) -> Answer {
+pub(crate) fn apply_record(circuit: Circuit, test: &[u8], store: &mut StoreWords) -> Answer {
     let mut work = work_of(0);
     apply_lent(circuit, test, store, &mut work)
 }
 
 // The test call with vectors of one byte each.
-pub fn apply(circuit: Circuit, v1: u8, v2: u8, store: &mut StoreWords) -> Answer {
+pub(crate) fn apply(circuit: Circuit, v1: u8, v2: u8, store: &mut StoreWords) -> Answer {
     let test = [0x54, 0x50, v1, v2];
     apply_record(circuit, &test, store)
 }
 
 // The test call with vectors of two bytes each, low byte first.
-pub fn apply_wide(circuit: Circuit, v1: u16, v2: u16, store: &mut StoreWords) -> Answer {
+pub(crate) fn apply_wide(circuit: Circuit, v1: u16, v2: u16, store: &mut StoreWords) -> Answer {
     let first = (v1 % 256) as u8;
     let second = (v1 / 256) as u8;
     let third = (v2 % 256) as u8;
@@ -113,7 +118,7 @@ pub fn apply_wide(circuit: Circuit, v1: u16, v2: u16, store: &mut StoreWords) ->
 }
 
 // The totals of a store of any length: rising faults, falling faults.
-pub fn totals_lent(circuit: Circuit, store: &[u64]) -> Answer {
+pub(crate) fn totals_lent(circuit: Circuit, store: &[u64]) -> Answer {
     let bytes = circuit.bytes;
     let answer = store::totals(first_bytes(&bytes, circuit.length), store);
     match answer {
@@ -123,12 +128,12 @@ pub fn totals_lent(circuit: Circuit, store: &[u64]) -> Answer {
 }
 
 // The totals.
-pub fn totals(circuit: Circuit, store: &StoreWords) -> Answer {
+pub(crate) fn totals(circuit: Circuit, store: &StoreWords) -> Answer {
     totals_lent(circuit, store)
 }
 
 // Whether a fault is in a store of any length: 1 or 0.
-pub fn fault_lent(circuit: Circuit, store: &[u64], fault: u64) -> Answer {
+pub(crate) fn fault_lent(circuit: Circuit, store: &[u64], fault: u64) -> Answer {
     let bytes = circuit.bytes;
     let netlist = first_bytes(&bytes, circuit.length);
     let answer = store::fault_in_store(netlist, store, FaultNo(fault));
@@ -140,12 +145,12 @@ pub fn fault_lent(circuit: Circuit, store: &[u64], fault: u64) -> Answer {
 }
 
 // Whether a fault is in the store.
-pub fn fault_in_store(circuit: Circuit, store: &StoreWords, fault: u64) -> Answer {
+pub(crate) fn fault_in_store(circuit: Circuit, store: &StoreWords, fault: u64) -> Answer {
     fault_lent(circuit, store, fault)
 }
 
 // Emptying a store.
-pub fn empty(store: &mut [u64]) -> Answer {
+pub(crate) fn empty(store: &mut [u64]) -> Answer {
     let answer = store::empty(store);
     match answer {
         EmptyAnswer::Emptied => accepted(),
@@ -154,7 +159,7 @@ pub fn empty(store: &mut [u64]) -> Answer {
 }
 
 // Path to number.
-pub fn path_to_number(circuit: Circuit, path: &[u16]) -> Answer {
+pub(crate) fn path_to_number(circuit: Circuit, path: &[u16]) -> Answer {
     let bytes = circuit.bytes;
     let answer = paths::path_to_number(first_bytes(&bytes, circuit.length), path);
     match answer {
@@ -164,7 +169,7 @@ pub fn path_to_number(circuit: Circuit, path: &[u16]) -> Answer {
 }
 
 // Number to path.
-pub fn number_to_path(circuit: Circuit, number: u64, path: &mut [u16]) -> Answer {
+pub(crate) fn number_to_path(circuit: Circuit, number: u64, path: &mut [u16]) -> Answer {
     let bytes = circuit.bytes;
     let netlist = first_bytes(&bytes, circuit.length);
     let answer = paths::number_to_path(netlist, PathNo(number), path);
@@ -175,7 +180,7 @@ pub fn number_to_path(circuit: Circuit, number: u64, path: &mut [u16]) -> Answer
 }
 
 // The fault of a path and an edge.
-pub fn fault_of(path: u64, edge: Edge) -> Answer {
+pub(crate) fn fault_of(path: u64, edge: Edge) -> Answer {
     let answer = paths::fault_of(PathNo(path), edge);
     match answer {
         FaultAnswer::Fault(fault) => one(fault.0),
@@ -184,7 +189,7 @@ pub fn fault_of(path: u64, edge: Edge) -> Answer {
 }
 
 // The path of a fault, and its edge: 1 for rising, 0 for falling.
-pub fn path_and_edge(fault: u64) -> Answer {
+pub(crate) fn path_and_edge(fault: u64) -> Answer {
     let path = paths::path_of(FaultNo(fault));
     let edge = paths::edge_of(FaultNo(fault));
     match edge {
@@ -194,7 +199,12 @@ pub fn path_and_edge(fault: u64) -> Answer {
 }
 
 // The writer: the length of the record.
-pub fn write_report(circuit: Circuit, store: &[u64], tests: u32, report: &mut [u8]) -> Answer {
+pub(crate) fn write_report(
+    circuit: Circuit,
+    store: &[u64],
+    tests: u32,
+    report: &mut [u8],
+) -> Answer {
     let bytes = circuit.bytes;
     let netlist = first_bytes(&bytes, circuit.length);
     let answer = report::write_report(netlist, store, tests, report);
@@ -205,7 +215,7 @@ pub fn write_report(circuit: Circuit, store: &[u64], tests: u32, report: &mut [u
 }
 
 // The audit with memory of any length.
-pub fn audit_lent(
+pub(crate) fn audit_lent(
     circuit: Circuit,
     tests: &[u8],
     report: &[u8],
@@ -222,7 +232,12 @@ pub fn audit_lent(
 }
 
 // The audit.
-pub fn audit(circuit: Circuit, tests: &[u8], report: &[u8], store: &mut StoreWords) -> Answer {
+pub(crate) fn audit(
+    circuit: Circuit,
+    tests: &[u8],
+    report: &[u8],
+    store: &mut StoreWords,
+) -> Answer {
     let mut work = work_of(0);
     audit_lent(circuit, tests, report, store, &mut work)
 }

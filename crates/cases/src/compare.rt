@@ -23,7 +23,7 @@ pub struct Answer {
 }
 
 // No comparison yet.
-pub fn no_comparisons() -> Tally {
+pub(crate) fn no_comparisons() -> Tally {
     Tally {
         compared: 0,
         wrong: 0,
@@ -32,7 +32,7 @@ pub fn no_comparisons() -> Tally {
 }
 
 // The tally, with what the next comparisons are about.
-pub fn about(tally: Tally, subject: &[u8]) -> Tally {
+pub(crate) fn about(tally: Tally, subject: &[u8]) -> Tally {
     Tally {
         compared: tally.compared,
         wrong: tally.wrong,
@@ -41,7 +41,7 @@ pub fn about(tally: Tally, subject: &[u8]) -> Tally {
 }
 
 // A refusal by its number in document 01.
-pub fn refused(number: u64) -> Answer {
+pub(crate) fn refused(number: u64) -> Answer {
     Answer {
         refusal: number,
         count: 0,
@@ -50,12 +50,12 @@ pub fn refused(number: u64) -> Answer {
 }
 
 // The answer of a call that is not refused and returns nothing else.
-pub fn accepted() -> Answer {
+pub(crate) fn accepted() -> Answer {
     refused(0)
 }
 
 // The answer of a call that returns a number.
-pub fn one(a: u64) -> Answer {
+pub(crate) fn one(a: u64) -> Answer {
     Answer {
         refusal: 0,
         count: 1,
@@ -64,7 +64,7 @@ pub fn one(a: u64) -> Answer {
 }
 
 // The answer of a call that returns two numbers.
-pub fn two(a: u64, b: u64) -> Answer {
+pub(crate) fn two(a: u64, b: u64) -> Answer {
     Answer {
         refusal: 0,
         count: 2,
@@ -73,7 +73,7 @@ pub fn two(a: u64, b: u64) -> Answer {
 }
 
 // The answer of a call that returns four numbers.
-pub fn four(a: u64, b: u64, c: u64, d: u64) -> Answer {
+pub(crate) fn four(a: u64, b: u64, c: u64, d: u64) -> Answer {
     Answer {
         refusal: 0,
         count: 4,
@@ -144,13 +144,13 @@ fn print_start(line: Line) {
 }
 
 // The start of the next line: what it is about, and what is compared.
-pub fn line_of(tally: Tally, what: &[u8]) -> Line {
+pub(crate) fn line_of(tally: Tally, what: &[u8]) -> Line {
     let subject = tally.subject;
     with_text(with_text(subject, b", "), what)
 }
 
 // Compares what a call answered with what it should answer, and writes the rest of the line.
-pub fn expect_on(line: Line, tally: Tally, expected: Answer, got: Answer) -> Tally {
+pub(crate) fn expect_on(line: Line, tally: Tally, expected: Answer, got: Answer) -> Tally {
     let subject = tally.subject;
     let start = with_text(line, b":");
     if same(expected, got) {
@@ -172,18 +172,18 @@ pub fn expect_on(line: Line, tally: Tally, expected: Answer, got: Answer) -> Tal
 }
 
 // Compares an answer that a text describes.
-pub fn expect(tally: Tally, what: &[u8], expected: Answer, got: Answer) -> Tally {
+pub(crate) fn expect(tally: Tally, what: &[u8], expected: Answer, got: Answer) -> Tally {
     expect_on(line_of(tally, what), tally, expected, got)
 }
 
 // Compares an answer that a text and a number describe.
-pub fn expect_at(tally: Tally, what: &[u8], n: u64, expected: Answer, got: Answer) -> Tally {
+pub(crate) fn expect_at(tally: Tally, what: &[u8], n: u64, expected: Answer, got: Answer) -> Tally {
     let line = with_number(line_of(tally, what), n);
     expect_on(line, tally, expected, got)
 }
 
 // Compares an answer that a text, a number, a text and a number describe.
-pub fn expect_pair(
+pub(crate) fn expect_pair(
     tally: Tally,
     what: &[u8],
     n: u64,
@@ -197,17 +197,17 @@ pub fn expect_pair(
 }
 
 // Compares a number.
-pub fn expect_number(tally: Tally, what: &[u8], expected: u64, got: u64) -> Tally {
+pub(crate) fn expect_number(tally: Tally, what: &[u8], expected: u64, got: u64) -> Tally {
     expect(tally, what, one(expected), one(got))
 }
 
 // Compares a refusal, by its number in document 01.
-pub fn expect_refusal(tally: Tally, what: &[u8], number: u64, got: Answer) -> Tally {
+pub(crate) fn expect_refusal(tally: Tally, what: &[u8], number: u64, got: Answer) -> Tally {
     expect(tally, what, refused(number), got)
 }
 
 // Writes the last line: the comparisons and the wrong ones.
-pub fn print_tally(tally: Tally) {
+pub(crate) fn print_tally(tally: Tally) {
     let compared = with_text(with_number(empty_line(), tally.compared), b" comparisons, ");
     print_line(
         STDOUT_FILENO,

@@ -282,7 +282,7 @@ fn eight_pins(tally: Tally) -> Tally {
 }
 
 // All cases of gates.
-pub fn all(tally: Tally) -> Tally {
+pub(crate) fn all(tally: Tally) -> Tally {
     let pins = single_pin(second_pin(first_pin(tally)));
     let sides = moving_sides(three_pins(pins));
     eight_pins(other_values(and_or_values(sides)))

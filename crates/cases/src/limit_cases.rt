@@ -99,7 +99,7 @@ fn after_four() -> StoreWords {
 }
 
 // The store after these and the same four falling: 1,024 runs of each edge.
-pub fn full_store() -> StoreWords {
+pub(crate) fn full_store() -> StoreWords {
     let groups = five_groups();
     let mut store = after_four();
     apply_wide(groups, 0x0001, 0x0000, &mut store);
@@ -177,7 +177,7 @@ fn both_edges(tally: Tally) -> Tally {
 }
 
 // All cases of the limits.
-pub fn all(tally: Tally) -> Tally {
+pub(crate) fn all(tally: Tally) -> Tally {
     let working = working_runs(four_gates(one_group(tally)));
     let stored = space_left(other_order(five_tests(working)));
     both_edges(working_before_store(stored))

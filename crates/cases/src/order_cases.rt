@@ -120,7 +120,7 @@ fn stores(tally: Tally) -> Tally {
 }
 
 // All cases of order; 50 before 51 is among the limits.
-pub fn all(tally: Tally) -> Tally {
+pub(crate) fn all(tally: Tally) -> Tally {
     let netlists = chains(gates(memory_and_header(tally)));
     stores(outputs(netlists))
 }

@@ -255,7 +255,7 @@ fn faults_of_paths(tally: Tally) -> Tally {
 }
 
 // All cases of paths.
-pub fn all(tally: Tally) -> Tally {
+pub(crate) fn all(tally: Tally) -> Tally {
     let read = words_that_are_no_path(paths_of_q(tally));
     let written = buffer_words(buffer_lengths(read));
     let long = longest_path(paths_of_chain(paths_of_outputs(written)));

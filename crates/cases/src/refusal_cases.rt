@@ -37,7 +37,7 @@ use console::with_text;
 const TEST: [u8; 4] = [0x54, 0x50, 0x00, 0x02];
 
 // The test call on a circuit with a store of 4,097 words and working memory of 8,191.
-pub fn short_store_and_work(circuit: Circuit) -> Answer {
+pub(crate) fn short_store_and_work(circuit: Circuit) -> Answer {
     let mut store = [0u64; 4097];
     let mut work = [0u64; 8191];
     apply_lent(circuit, &TEST, &mut store, &mut work)
@@ -58,7 +58,7 @@ fn long_store() -> Answer {
 }
 
 // The test call on a circuit with working memory of 8,191 words.
-pub fn short_work(circuit: Circuit) -> Answer {
+pub(crate) fn short_work(circuit: Circuit) -> Answer {
     let mut store = store_of(0);
     let mut work = [0u64; 8191];
     apply_lent(circuit, &TEST, &mut store, &mut work)
@@ -114,7 +114,7 @@ fn working_memory(tally: Tally) -> Tally {
 }
 
 // The test call, 00 then 02, on a netlist.
-pub fn on(circuit: Circuit) -> Answer {
+pub(crate) fn on(circuit: Circuit) -> Answer {
     let mut store = store_of(0);
     apply(circuit, 0x00, 0x02, &mut store)
 }
@@ -352,7 +352,7 @@ fn store_runs(tally: Tally) -> Tally {
 }
 
 // All refusals of the test call but 50 and 51.
-pub fn all(tally: Tally) -> Tally {
+pub(crate) fn all(tally: Tally) -> Tally {
     let memory = working_memory(lent_memory(tally));
     let netlists = outputs(pins(gates(headers(memory))));
     store_runs(store_words(test_records(netlists)))

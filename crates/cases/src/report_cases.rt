@@ -31,7 +31,7 @@ use crate::store_cases::store_after_three;
 
 // The report of Q's three tests, by hand: 2 + 4 + 8 + 2 + 2 + 8 + 8 = 34 bytes, and 16 for each of two runs. Fields are low byte first, and no
 // number is over 3, so that each field is one byte and zeros.
-pub fn report_by_hand() -> [u8; 66] {
+pub(crate) fn report_by_hand() -> [u8; 66] {
     let mut report = [0u8; 66];
     // the mark, 52 50
     report[0] = 0x52;
@@ -57,7 +57,7 @@ pub fn report_by_hand() -> [u8; 66] {
 }
 
 // The report of Q and no test, by hand: the mark, tests 0, T 3, no run and no fault.
-pub fn empty_report() -> [u8; 34] {
+pub(crate) fn empty_report() -> [u8; 34] {
     let mut report = [0u8; 34];
     report[0] = 0x52;
     report[1] = 0x50;
@@ -66,7 +66,12 @@ pub fn empty_report() -> [u8; 34] {
 }
 
 // The writer on a buffer of 32,802 bytes.
-pub fn write(circuit: Circuit, store: &StoreWords, tests: u32, report: &mut ReportBytes) -> Answer {
+pub(crate) fn write(
+    circuit: Circuit,
+    store: &StoreWords,
+    tests: u32,
+    report: &mut ReportBytes,
+) -> Answer {
     write_report(circuit, store, tests, report)
 }
 
@@ -205,6 +210,6 @@ fn refused_reports(tally: Tally) -> Tally {
 }
 
 // All cases of the writer.
-pub fn all(tally: Tally) -> Tally {
+pub(crate) fn all(tally: Tally) -> Tally {
     refused_reports(largest_report(large_fields(report_of_q(tally))))
 }

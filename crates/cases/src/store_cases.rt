@@ -87,7 +87,7 @@ fn store_after_reversed() -> StoreWords {
 }
 
 // The store after Q's three tests.
-pub fn store_after_three() -> StoreWords {
+pub(crate) fn store_after_three() -> StoreWords {
     let mut store = store_of(0);
     apply(q(), 0x02, 0x03, &mut store);
     apply(q(), 0x03, 0x01, &mut store);
@@ -235,7 +235,7 @@ fn questions(tally: Tally) -> Tally {
 }
 
 // All cases of the store.
-pub fn all(tally: Tally) -> Tally {
+pub(crate) fn all(tally: Tally) -> Tally {
     let joined = bridged_runs(adjacent_runs(words_of_q(emptying(tally))));
     questions(unsound_stores(refused_tests(joined)))
 }

@@ -84,6 +84,6 @@ fn survey_of_chains(tally: Tally) -> Tally {
 }
 
 // All cases of the survey.
-pub fn all(tally: Tally) -> Tally {
+pub(crate) fn all(tally: Tally) -> Tally {
     survey_of_chains(survey_of_small(survey_of_q(tally)))
 }

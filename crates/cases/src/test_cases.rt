@@ -132,7 +132,7 @@ fn apply_zeros(circuit: Circuit, length: usize) -> Answer {
 }
 
 // Compares the test call with a record of so many bytes, zeros after the mark.
-pub fn length(tally: Tally, circuit: Circuit, bytes: usize, expected: Answer) -> Tally {
+pub(crate) fn length(tally: Tally, circuit: Circuit, bytes: usize, expected: Answer) -> Tally {
     let got = apply_zeros(circuit, bytes);
     expect_at(tally, b"bytes ", bytes as u64, expected, got)
 }
@@ -184,7 +184,7 @@ fn most_inputs(tally: Tally) -> Tally {
 }
 
 // All cases of single tests.
-pub fn all(tally: Tally) -> Tally {
+pub(crate) fn all(tally: Tally) -> Tally {
     let on_q = faults_after_third(faults_after_second(tests_of_q(tally)));
     let small = tests_of_one_net(tests_of_wire(tests_of_chain(on_q)));
     most_inputs(nine_inputs(eight_inputs(small)))

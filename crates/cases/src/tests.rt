@@ -18,7 +18,7 @@ fn with_hex(line: Line, byte: u8) -> Line {
 }
 
 // Compares the test call with vectors of one byte each.
-pub fn test(
+pub(crate) fn test(
     tally: Tally,
     circuit: Circuit,
     v1: u8,
@@ -32,7 +32,7 @@ pub fn test(
 }
 
 // Compares the test call with vectors of two bytes each, low byte first.
-pub fn wide_test(
+pub(crate) fn wide_test(
     tally: Tally,
     circuit: Circuit,
     v1: u16,
