@@ -27,6 +27,7 @@ use crate::memory::store_of;
 use crate::memory::work_of;
 use crate::report_cases::empty_report;
 use crate::report_cases::report_by_hand;
+use crate::report_cases::with_report_byte;
 use crate::report_cases::write;
 use crate::store_cases::store_after_three;
 
@@ -59,21 +60,13 @@ fn audit_empty_report(tests: &[u8]) -> Answer {
 
 // The report of Q's three tests with another byte at a place.
 fn changed(at: usize, byte: u8) -> [u8; 66] {
-    let mut report = report_by_hand();
-    if at < 66 {
-        report[at] = byte;
-    }
-    report
+    with_report_byte(report_by_hand(), at, byte)
 }
 
 // The report of Q's three tests with the edges swapped: 2 rising faults, 1 falling, the rising run 2 to 3, the falling run 3 to 3.
 fn swapped_report() -> [u8; 66] {
-    let mut report = report_by_hand();
-    report[18] = 2;
-    report[26] = 1;
-    report[34] = 2;
-    report[50] = 3;
-    report
+    let faults = with_report_byte(changed(18, 2), 26, 1);
+    with_report_byte(with_report_byte(faults, 34, 2), 50, 3)
 }
 
 // Compares the audit of Q's three tests and their report with one byte changed.
@@ -93,11 +86,7 @@ fn byte(tally: Tally, at: usize, byte: u8, number: u64) -> Tally {
 
 // The audit of Q's three tests and their report with two bytes changed.
 fn audit_changed_twice(at: usize, byte: u8, other: usize, second: u8) -> Answer {
-    let mut report = changed(at, byte);
-    if other < 66 {
-        report[other] = second;
-    }
-    audit_three(report)
+    audit_three(with_report_byte(changed(at, byte), other, second))
 }
 
 // The same words as the three test calls leave, in the store after the audit of the three tests.
@@ -130,8 +119,8 @@ fn accepted_reports(tally: Tally) -> Tally {
     expect_refusal(t, b"one test, empty report", 72, lacking)
 }
 
-// One byte changed: a byte of the mark (0 and 1) is 70; a number of runs (bytes 14 and 16) that does not fit the length is 71; tests (2 to 5), T (6 to
-// 13), rising faults (18), falling faults (26), the ends of the rising run (34 and 42) and of the falling run (50 and 58 to 65) are 72.
+// One byte changed: a byte of the mark (0 and 1) is 70; a number of runs (bytes 14 and 16) that does not fit the length is 71; tests (2 to 5), T (6
+// to 13), rising faults (18), falling faults (26), the ends of the rising run (34, 42) and of the falling run (50, 58 to 65) are 72.
 fn changed_reports(tally: Tally) -> Tally {
     let mut t = about(tally, b"audit of the three tests of Q, report");
     t = byte(t, 0, 0x53, 70);
@@ -272,6 +261,13 @@ fn short_store() -> Answer {
     audit_lent(q(), &[], &[], &mut store, &mut work)
 }
 
+// The audit of no test with a store of 4,099 words.
+fn long_store() -> Answer {
+    let mut store = [9u64; 4099];
+    let mut work = work_of(0);
+    audit_lent(q(), &[], &[], &mut store, &mut work)
+}
+
 // The words 9 of the store of 4,097 words after an audit.
 fn kept_by_short_store() -> u64 {
     let mut store = [9u64; 4097];
@@ -284,6 +280,7 @@ fn kept_by_short_store() -> u64 {
 fn lent_memory(tally: Tally) -> Tally {
     let mut t = about(tally, b"audit on Q from a store of words 9");
     t = expect_refusal(t, b"store 4,097, work 8,191", 1, short_store());
+    t = expect_refusal(t, b"store 4,099", 1, long_store());
     t = expect_number(t, b"words of 9, store 4,097", 4097, kept_by_short_store());
     t = expect_refusal(t, b"work 8,191", 2, short_work(q()));
     t = expect_refusal(t, b"work 8,191, no netlist", 2, short_work(no_bytes()));

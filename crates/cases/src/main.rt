@@ -17,6 +17,7 @@ mod survey_cases;
 mod test_cases;
 mod tests;
 
+// All cases, subject by subject.
 fn main() {
     let surveys = survey_cases::all(compare::no_comparisons());
     let paths = path_cases::all(surveys);

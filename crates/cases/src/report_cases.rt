@@ -29,31 +29,35 @@ use crate::memory::set_word;
 use crate::memory::store_of;
 use crate::store_cases::store_after_three;
 
+// A report of 66 bytes in the making.
+fn no_report() -> [u8; 66] {
+    [0; 66]
+}
+
+// The report of 66 bytes with another byte at a place.
+pub(crate) fn with_report_byte(report: [u8; 66], at: usize, byte: u8) -> [u8; 66] {
+    let mut changed = report;
+    if at < 66 {
+        changed[at] = byte;
+    }
+    changed
+}
+
 // The report of Q's three tests, by hand: 2 + 4 + 8 + 2 + 2 + 8 + 8 = 34 bytes, and 16 for each of two runs. Fields are low byte first, and no
 // number is over 3, so that each field is one byte and zeros.
 pub(crate) fn report_by_hand() -> [u8; 66] {
-    let mut report = [0u8; 66];
     // the mark, 52 50
-    report[0] = 0x52;
-    report[1] = 0x50;
-    // tests
-    report[2] = 3;
-    // T
-    report[6] = 3;
+    let mark = with_report_byte(with_report_byte(no_report(), 0, 0x52), 1, 0x50);
+    // tests, T
+    let head = with_report_byte(with_report_byte(mark, 2, 3), 6, 3);
     // rising runs, falling runs
-    report[14] = 1;
-    report[16] = 1;
-    // rising faults: 5
-    report[18] = 1;
-    // falling faults: 4 and 6
-    report[26] = 2;
+    let runs = with_report_byte(with_report_byte(head, 14, 1), 16, 1);
+    // rising faults: 5; falling faults: 4 and 6
+    let faults = with_report_byte(with_report_byte(runs, 18, 1), 26, 2);
     // the rising run, path 3 to path 3
-    report[34] = 3;
-    report[42] = 3;
+    let rising = with_report_byte(with_report_byte(faults, 34, 3), 42, 3);
     // the falling run, path 2 to path 3
-    report[50] = 2;
-    report[58] = 3;
-    report
+    with_report_byte(with_report_byte(rising, 50, 2), 58, 3)
 }
 
 // The report of Q and no test, by hand: the mark, tests 0, T 3, no run and no fault.
@@ -174,6 +178,13 @@ fn write_short_store() -> Answer {
     write_report(q(), &store, 3, &mut report)
 }
 
+// The writer with a store of 4,099 words.
+fn write_long_store() -> Answer {
+    let store = [0u64; 4099];
+    let mut report = report_of(0xAA);
+    write_report(q(), &store, 3, &mut report)
+}
+
 // Compares the writer on Q with a store in which one word is set; a refused call keeps all 32,802 bytes.
 fn word(tally: Tally, at: usize, word: u64, number: u64) -> Tally {
     let mut store = store_of(0);
@@ -199,6 +210,7 @@ fn refused_reports(tally: Tally) -> Tally {
     let mut report = report_of(0xAA);
     let mut t = about(tally, b"report refused");
     t = expect_refusal(t, b"store 4,097, buffer 32,801", 1, write_short_store());
+    t = expect_refusal(t, b"store 4,099", 1, write_long_store());
     t = expect_refusal(t, b"buffer 32,801", 4, write_short(q()));
     t = expect_refusal(t, b"buffer 32,801, no netlist", 4, write_short(no_bytes()));
     set_word(&mut store, 1, 1025);

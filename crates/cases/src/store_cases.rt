@@ -223,12 +223,15 @@ fn unsound_stores(tally: Tally) -> Tally {
 fn questions(tally: Tally) -> Tally {
     let store = store_of(0);
     let short = [0u64; 4097];
+    let long = [0u64; 4099];
     let mut t = about(tally, b"questions");
     t = expect(t, b"totals, empty store", two(0, 0), totals(q(), &store));
     let no_totals = totals_lent(no_bytes(), &short);
     t = expect_refusal(t, b"totals, 4,097 words", 1, no_totals);
     let no_fault = fault_lent(no_bytes(), &short, 0);
     t = expect_refusal(t, b"fault, 4,097 words", 1, no_fault);
+    t = expect_refusal(t, b"totals, 4,099 words", 1, totals_lent(q(), &long));
+    t = expect_refusal(t, b"fault, 4,099 words", 1, fault_lent(q(), &long, 1));
     t = expect_refusal(t, b"totals, no netlist", 10, totals(no_bytes(), &store));
     let unread = fault_in_store(no_bytes(), &store, 0);
     expect_refusal(t, b"fault 0, no netlist", 10, unread)
