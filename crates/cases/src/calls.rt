@@ -12,15 +12,15 @@ use crate::memory::sum_of;
 use crate::memory::work_of;
 use coverage::TestAnswer;
 use coverage::apply_test;
+use faults::Edge;
+use faults::FaultAnswer;
+use faults::FaultNo;
+use faults::PathNo;
 use model::Refusal;
 use model::refusal_number;
 use netlist::SurveyAnswer;
-use paths::Edge;
-use paths::FaultAnswer;
-use paths::FaultNo;
 use paths::NumberAnswer;
 use paths::PathAnswer;
-use paths::PathNo;
 use report::AuditAnswer;
 use report::WriteAnswer;
 use store::EmptyAnswer;
@@ -181,7 +181,7 @@ pub(crate) fn number_to_path(circuit: Circuit, number: u64, path: &mut [u16]) ->
 
 // The fault of a path and an edge.
 pub(crate) fn fault_of(path: u64, edge: Edge) -> Answer {
-    let answer = paths::fault_of(PathNo(path), edge);
+    let answer = faults::fault_of(PathNo(path), edge);
     match answer {
         FaultAnswer::Fault(fault) => one(fault.0),
         FaultAnswer::Refused(why) => refused_by(why),
@@ -190,8 +190,8 @@ pub(crate) fn fault_of(path: u64, edge: Edge) -> Answer {
 
 // The path of a fault, and its edge: 1 for rising, 0 for falling.
 pub(crate) fn path_and_edge(fault: u64) -> Answer {
-    let path = paths::path_of(FaultNo(fault));
-    let edge = paths::edge_of(FaultNo(fault));
+    let path = faults::path_of(FaultNo(fault));
+    let edge = faults::edge_of(FaultNo(fault));
     match edge {
         Edge::Rising => two(path.0, 1),
         Edge::Falling => two(path.0, 0),

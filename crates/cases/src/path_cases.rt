@@ -31,7 +31,7 @@ use crate::memory::path_word;
 use console::Line;
 use console::with_number;
 use console::with_text;
-use paths::Edge;
+use faults::Edge;
 
 // Number to path, into a buffer of 514 words.
 fn write_path(circuit: Circuit, number: u64, buffer: &mut PathWords) -> Answer {

@@ -17,7 +17,7 @@ use Rattle.netlist.specs.Answers.{SurveyTrue, surveyData}
 use Rattle.netlist.specs.declared.Surveyed.{Surveyed}
 use Rattle.netlist.specs.declared.SurveyAnswer.the-variants as survey
 use Rattle.paths.specs.Answers.{numberAnswer, pathAnswer, PathWritten}
-use Rattle.paths.specs.declared.PathNo.{PathNo}
+use Rattle.faults.specs.declared.PathNo.{PathNo}
 use Rattle.paths.specs.declared.NumberAnswer.{NumberAnswer}
 use Rattle.paths.specs.declared.NumberAnswer.the-variants as number
 use Rattle.paths.specs.declared.PathAnswer.{PathAnswer}

@@ -8,12 +8,12 @@ ghost use Rattle.exports.specs.Codes.{codeAnswer, Answered, surveyWords,
 use crate::answers::put_number;
 use crate::answers::put_survey;
 use coverage::TestAnswer;
+use faults::FaultNo;
+use faults::PathNo;
 use model::refusal_number;
 use netlist::SurveyAnswer;
-use paths::FaultNo;
 use paths::NumberAnswer;
 use paths::PathAnswer;
-use paths::PathNo;
 use report::AuditAnswer;
 use report::WriteAnswer;
 use store::EmptyAnswer;

@@ -8,4 +8,3 @@ pub mod DescentCases
 pub mod WritingCases
 pub mod ReadingCases
 pub mod CallCases
-pub mod FaultCases

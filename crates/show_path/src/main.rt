@@ -2,8 +2,8 @@
 // number is the first argument.
 use console::NETLIST_BYTES;
 use console::load_file;
+use faults::PathNo;
 use libc::STDOUT_FILENO;
-use paths::PathNo;
 
 // The number that a word of digits stands for; 0 where it is no number below 10^19.
 fn number_in(word: &[u8]) -> u64 {

@@ -16,9 +16,9 @@ use Rattle.model.proofs.BoolLaws.{and-left, and-right}
 use Rattle.model.proofs.AnswerLaws.{checks→, checks-both}
 use Rattle.model.proofs.RunLaws.{separated→}
 use Rattle.model.specs.Read.{within}
-use Rattle.paths.specs.Answers.{modelEdge}
-use Rattle.paths.specs.declared.Edge as Code
-use Rattle.paths.specs.declared.Edge.the-variants as at
+use Rattle.faults.specs.Answers.{modelEdge}
+use Rattle.faults.specs.declared.Edge as Code
+use Rattle.faults.specs.declared.Edge.the-variants as at
 use Rattle.runs.specs.Runs.{Sound, runsInWords}
 use Rattle.runs.proofs.RunLaws.{sound-mono}
 use Rattle.store.specs.Answers.{checkOf, totalsIn, totalsBoth, totalsOn, faultOn}

@@ -7,11 +7,11 @@ ghost use Rattle.store.specs.Answers.{EmptyTrue, totalsOf, heldOf};
 use crate::inner::clear;
 use crate::inner::fault_on;
 use crate::inner::totals_on;
+use faults::FaultNo;
 use model::Refusal;
 use model::STORE_WORDS;
 use netlist::SurveyAnswer;
 use netlist::survey;
-use paths::FaultNo;
 
 // What emptying a store answers.
 pub enum EmptyAnswer {
