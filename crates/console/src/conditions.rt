@@ -5,10 +5,46 @@ use model::Refusal;
 // Writes the condition of a refusal as a sentence, with its line end.
 pub fn print_condition(fd: i32, why: Refusal) {
     match why {
+        Refusal::StoreLength
+        | Refusal::WorkLength
+        | Refusal::PathBufferLength
+        | Refusal::ReportBufferLength => print_memory(fd, why),
+        Refusal::Header
+        | Refusal::HeaderRange
+        | Refusal::GateCut
+        | Refusal::GateKind
+        | Refusal::PinCount
+        | Refusal::PinNotLower
+        | Refusal::CountOverLimit => print_header_and_gates(fd, why),
+        Refusal::OutputCut
+        | Refusal::OutputNet
+        | Refusal::BytesLeftOver
+        | Refusal::TotalOverLimit => print_outputs(fd, why),
+        Refusal::RecordLength | Refusal::RecordMark | Refusal::SpareBit | Refusal::TestFileLength =>
+            print_tests(fd, why),
+        Refusal::RunCount
+        | Refusal::RunRange
+        | Refusal::WordPastRuns
+        | Refusal::WorkingRuns
+        | Refusal::StoreRuns => print_store_and_work(fd, why),
+        Refusal::NoSuchNumber | Refusal::NotAPath => print_questions(fd, why),
+        Refusal::ReportMark | Refusal::ReportLength | Refusal::ReportBytes => print_report(fd, why),
+    }
+}
+
+// The conditions of lent memory.
+fn print_memory(fd: i32, why: Refusal) {
+    match why {
         Refusal::StoreLength => print(fd, b"The store has not 4,098 words.\n"),
         Refusal::WorkLength => print(fd, b"The working memory has under 8,192 words.\n"),
         Refusal::PathBufferLength => print(fd, b"The path buffer has under 513 words.\n"),
-        Refusal::ReportBufferLength => print(fd, b"The report buffer has under 32,802 bytes.\n"),
+        _ => print(fd, b"The report buffer has under 32,802 bytes.\n"),
+    }
+}
+
+// The conditions of the header and the gates of a netlist.
+fn print_header_and_gates(fd: i32, why: Refusal) {
+    match why {
         Refusal::Header => print(
             fd,
             b"The netlist has under 8 bytes or does not begin with its mark.\n",
@@ -30,7 +66,13 @@ pub fn print_condition(fd: i32, why: Refusal) {
             fd,
             b"A pin of the netlist names a net that is not lower than its gate's.\n",
         ),
-        Refusal::CountOverLimit => print(fd, b"A net of the netlist has over 2^62 paths.\n"),
+        _ => print(fd, b"A net of the netlist has over 2^62 paths.\n"),
+    }
+}
+
+// The conditions of the outputs and the end of a netlist.
+fn print_outputs(fd: i32, why: Refusal) {
+    match why {
         Refusal::OutputCut => print(
             fd,
             b"An output of the netlist is cut off or does not begin with its mark.\n",
@@ -40,14 +82,26 @@ pub fn print_condition(fd: i32, why: Refusal) {
             b"An output of the netlist names no net, or none higher than the output before.\n",
         ),
         Refusal::BytesLeftOver => print(fd, b"The netlist has bytes after its last output.\n"),
-        Refusal::TotalOverLimit => print(fd, b"The netlist has over 2^62 paths.\n"),
+        _ => print(fd, b"The netlist has over 2^62 paths.\n"),
+    }
+}
+
+// The conditions of test records.
+fn print_tests(fd: i32, why: Refusal) {
+    match why {
         Refusal::RecordLength => print(fd, b"A test record has the wrong length.\n"),
         Refusal::RecordMark => print(fd, b"A test record does not begin with its mark.\n"),
         Refusal::SpareBit => print(fd, b"A test record has a spare bit set.\n"),
-        Refusal::TestFileLength => print(
+        _ => print(
             fd,
             b"The test file is no whole number of records, or has over 4,294,967,295 of them.\n",
         ),
+    }
+}
+
+// The conditions of the store and the work.
+fn print_store_and_work(fd: i32, why: Refusal) {
+    match why {
         Refusal::RunCount => print(fd, b"The store states over 1,024 runs of an edge.\n"),
         Refusal::RunRange => print(fd, b"The store has a run out of range or out of order.\n"),
         Refusal::WordPastRuns => print(
@@ -55,12 +109,24 @@ pub fn print_condition(fd: i32, why: Refusal) {
             b"The store has a word past its last run that is not zero.\n",
         ),
         Refusal::WorkingRuns => print(fd, b"A test makes over 1,024 working runs of an edge.\n"),
-        Refusal::StoreRuns => print(
+        _ => print(
             fd,
             b"With a test the store would have over 1,024 runs of an edge.\n",
         ),
+    }
+}
+
+// The conditions of questions.
+fn print_questions(fd: i32, why: Refusal) {
+    match why {
         Refusal::NoSuchNumber => print(fd, b"The circuit has no path or fault of that number.\n"),
-        Refusal::NotAPath => print(fd, b"The words are not exactly a path.\n"),
+        _ => print(fd, b"The words are not exactly a path.\n"),
+    }
+}
+
+// The conditions of reports.
+fn print_report(fd: i32, why: Refusal) {
+    match why {
         Refusal::ReportMark => print(
             fd,
             b"The report has under 34 bytes or does not begin with its mark.\n",
@@ -69,6 +135,6 @@ pub fn print_condition(fd: i32, why: Refusal) {
             fd,
             b"The report's length is not that of the runs that it states.\n",
         ),
-        Refusal::ReportBytes => print(fd, b"The report is not the true report of these tests.\n"),
+        _ => print(fd, b"The report is not the true report of these tests.\n"),
     }
 }
