@@ -1,16 +1,16 @@
 // What is false in a report that is refused for its length or its bytes.
-use crate::claims::Head;
-use crate::claims::falling_runs;
-use crate::claims::head_of;
-use crate::claims::rising_runs;
-use crate::differences::Piece;
-use crate::differences::next_piece;
 use crate::walk::one_more;
 use console::empty_line;
 use console::print;
 use console::print_line;
 use console::with_number;
 use console::with_text;
+use differences::Piece;
+use differences::inner::Head;
+use differences::inner::falling_runs;
+use differences::inner::head_of;
+use differences::inner::rising_runs;
+use differences::next_piece;
 use faults::PathNo;
 use libc::STDOUT_FILENO;
 use path_text::print_path;

@@ -1,12 +1,8 @@
 // Audits the report report.rp of the tests tests.tp on the netlist circuit.nl, all of the current folder; a missing file counts as empty. Prints
 // the audit's answer, its reason as a sentence, and what is false in a report that is refused for its length or its bytes.
-mod claims;
-mod differences;
 mod explaining;
 mod walk;
 
-use crate::claims::head_of;
-use crate::claims::report_buffer;
 use crate::explaining::explain;
 use crate::walk::FileAnswer;
 use crate::walk::Walk;
@@ -25,6 +21,7 @@ use console::whole_records;
 use console::with_number;
 use console::with_refusal;
 use console::with_text;
+use differences::inner::head_of;
 use libc::STDOUT_FILENO;
 use model::REPORT_BYTES;
 use model::Refusal;
@@ -38,7 +35,17 @@ use report::audit;
 use report::judge;
 use report::layout::HEAD_BYTES;
 use report::write_report;
+ghost use mathlib.Core.Path.{_≡_};
+ghost use lib.ListN.{length};
 ghost use Rattle.io.specs.Counts.{Counts};
+
+// Zeros for a report: one byte more than the longest whose fields can state its length (2 times 65,535 runs), so that a longer file is refused
+// as it would be whole.
+fn report_buffer() -> [u8; 2097155]
+    ensures { λ r. ⌜ 2097155 ≡ length r ⌝ }
+{
+    [0; 2097155]
+}
 
 // The line with a number of things at its end.
 fn with_count(line: Line, count: u64, one: &[u8], many: &[u8]) -> Line {

@@ -3,7 +3,7 @@
 use borrow.Author.Needs.{needs}
 use Prim.Native.Nat.{_-_, _^_}
 use native.Mathlib.Omega.{arith}
-use Rattle.audit_report.proofs.StepCases.{ends-ahead}
+use Rattle.differences.proofs.StepCases.{ends-ahead}
 use Rattle.audit_report.proofs.explaining.print_pieces.Statement.{statement}
 use Rattle.audit_report.proofs.explaining.print_pieces.Tie as tie
 

@@ -1,2 +1,0 @@
--- What the program finds out about a report, besides the answers of the calls.
-pub mod Differences

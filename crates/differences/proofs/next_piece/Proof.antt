@@ -1,0 +1,42 @@
+-- `differences::next_piece` meets its contract: the stretch from its first number to its last.
+-- Assumes nothing.
+use borrow.Author.Needs.{needs}
+use Rattle.differences.specs.declared.First.the-variants as first
+use Rattle.differences.proofs.StepCases.{first-as}
+use Rattle.differences.proofs.next_piece.Statement.{statement}
+use Rattle.differences.proofs.next_piece.Tie as tie
+
+first-only-requires : tie.Need-first-only-requires
+first-only-requires c κs = search needs
+
+enum-told : tie.Need-enum-told
+enum-told c = search needs
+
+enum-known-first : tie.Need-enum-known-first
+enum-known-first c = search needs
+
+last-only-requires : tie.Need-last-only-requires
+last-only-requires c κs =
+    let a = c .before .before .before .before .before .before .args in
+    let f = c .before .before .before .first-only in
+    let g = c .before .first .given in
+    first-as (f .result) (first.At (g .0 .0)) (a .a .now) (a .b .now) (a .from) (f .ensures) (g .1) .2
+
+returns : tie.Need-returns
+returns c =
+    let a = c .before .before .before .before .before .args in
+    let f = c .before .before .first-only in
+    first-as (f .result) first.Nothing (a .a .now) (a .b .now) (a .from) (f .ensures) (c .enum-told .given .1)
+
+returns-2 : tie.Need-returns-2
+returns-2 c =
+    let a = c .before .before .before .before .before .before .before .args in
+    let f = c .before .before .before .before .first-only in
+    let g = c .before .before .first .given in
+    let t = first-as (f .result) (first.At (g .0 .0)) (a .a .now) (a .b .now) (a .from) (f .ensures) (g .1) in
+    (t .0, t .1, c .last-only .ensures)
+
+pub next-piece-spec : {M : Type 1} → statement M
+next-piece-spec =
+    tie.close
+    (tie.spec first-only-requires enum-told enum-known-first last-only-requires returns returns-2)

@@ -1,0 +1,2 @@
+-- What is false in a report, besides the answers of the calls.
+pub mod Differences
