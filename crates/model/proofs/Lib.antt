@@ -18,6 +18,7 @@ pub mod HoldingLaws
 pub mod DemandHolds
 pub mod RefusalLaws
 pub mod ReportLaws
+pub mod PieceLaws
 pub mod FileLaws
 pub mod ReportNames
 pub mod ExamplesHold

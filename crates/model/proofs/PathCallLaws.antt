@@ -1,20 +1,21 @@
 -- The path calls: each undoes the other, and a path fits the buffer.
 -- Assumes nothing.
 use mathlib.Core.Path.{_≡_, ap, sym, _∙_, subst}
+use mathlib.Core.Bool.{_&&_}
 use mathlib.Core.List.{List, [], _∷_}
 use Prim.Native.Nat.{ℕ, suc, _+_, _-_, _≤_, _<_}
 use native.Mathlib.Omega.{arith}
-use lib.Dec.{T, leb, eqb, leb→le, le→leb}
-use lib.ListN.{length}
+use lib.Dec.{T, leb, eqb, eqb→eq, leb→le, le→leb}
+use lib.ListN.{length, getD, drop}
 use Rattle.model.specs.Base.{Answer, value, _>>_, checks}
 use Rattle.model.specs.Netlist.{Netlist, pathTotal, nets, pinNet, outputNet}
 use Rattle.model.specs.Path.{CircuitPath, valid, validAt, numberOf, pathOf}
 use Rattle.model.specs.Read.{readNetlist, within}
-use Rattle.model.specs.Calls.{wordsOf, isPath, pathToNumberCall, numberToPathCall, pathWords}
+use Rattle.model.specs.Calls.{wordsOf, pathIn, isPath, pathToNumberCall, numberToPathCall, pathRule, pathWords}
 use Rattle.model.proofs.WellFormed.{WellFormed}
 use Rattle.model.proofs.AnswerLaws.{steps, checks→, →checks, then-first, then-second, value-inj}
-use Rattle.model.proofs.BoolLaws.{and-left, and-right, all3, eq→eqb}
-use Rattle.model.proofs.NumberLaws.{gate-of, pin-lower, valid-parts, output-net, number-of-path}
+use Rattle.model.proofs.BoolLaws.{and-left, and-right, all3, both, eq→eqb}
+use Rattle.model.proofs.NumberLaws.{gate-of, pin-lower, valid-parts, output-net, numbers-bounds, path-of-number, number-of-path}
 use Rattle.model.proofs.ReadLaws.{legal, Limits}
 
 -- each step is at a lower net
@@ -52,3 +53,37 @@ module _ (file : List ℕ) (N : Netlist) (e : readNetlist file ≡ value N) wher
         tt,
       ) in
       rw e (rw c (ap value (ap (numberOf N) (sym i) ∙ b .number)))
+
+  -- words that are exactly a path are the words of that path
+  pub words-of-path : (words : List ℕ) → T (isPath N words) → wordsOf (pathIn words) ≡ words
+  words-of-path [] t = absurd t
+  words-of-path (a ∷ []) t = absurd t
+  words-of-path (a ∷ b ∷ rest) t =
+      let l : T (eqb (length (a ∷ b ∷ rest)) (2 + b)) =
+      and-right (leb 2 (length (a ∷ b ∷ rest))) (eqb (length (a ∷ b ∷ rest)) (2 + b))
+      (and-left (leb 2 (length (a ∷ b ∷ rest)) && eqb (length (a ∷ b ∷ rest)) (2 + b)) (valid N (pathIn (a ∷ b ∷ rest))) t) in
+      let q : length rest ≡ b = omega (arith, eqb→eq (length (a ∷ b ∷ rest)) (2 + b) l) in
+      ap (λ (n : ℕ). a ∷ n ∷ rest) q
+
+  -- The path of the number of a path is that path
+  pub path-number-path : (words : List ℕ) (k : ℕ) → pathToNumberCall file words ≡ value k → (buf : List ℕ) → pathWords ≤ length buf
+      → (numberToPathCall file k buf ≡ value (pathIn words)) × (wordsOf (pathIn words) ≡ words)
+  unfolding numberToPathCall pathToNumberCall
+  path-number-path words k q buf l =
+      let p : CircuitPath = pathIn words in
+      let s = steps (readNetlist file) (λ M. checks ((61, isPath M words) ∷ []) >> value (numberOf M p)) q in
+      let m : s .got ≡ N = value-inj (sym (s .first) ∙ e) in
+      let z : (checks ((61, isPath N words) ∷ []) >> value (numberOf N p)) ≡ value k =
+      subst (λ M. (checks ((61, isPath M words) ∷ []) >> value (numberOf M p)) ≡ value k) m (s .second) in
+      let h : T (isPath N words) = checks→ ((61, isPath N words) ∷ []) (then-first (checks ((61, isPath N words) ∷ [])) (value (numberOf N p)) z) .0 in
+      let i : numberOf N p ≡ k = value-inj (then-second (checks ((61, isPath N words) ∷ [])) (value (numberOf N p)) z) in
+      let v : T (valid N p) = and-right (leb 2 (length words) && eqb (length words) (2 + getD words 1 0)) (valid N p) h in
+      let w : WellFormed N = legal file N e in
+      let b = numbers-bounds N w p v in
+      let r : pathOf N k ≡ p = ap (pathOf N) (sym i) ∙ path-of-number N w p v in
+      let low : 1 ≤ k = omega (arith, i, b .0) in
+      let high : k ≤ pathTotal N = omega (arith, i, b .1) in
+      let a : checks (pathRule buf ∷ []) ≡ value tt = →checks (pathRule buf ∷ []) (le→leb pathWords (length buf) l, tt) in
+      let c : checks ((60, within 1 (pathTotal N) k) ∷ []) ≡ value tt =
+      →checks ((60, within 1 (pathTotal N) k) ∷ []) (both (leb 1 k) (leb k (pathTotal N)) (le→leb 1 k low) (le→leb k (pathTotal N) high), tt) in
+      (rw (a, e) (rw c (ap value r)), words-of-path words h)

@@ -3,7 +3,7 @@
 -- Assumes nothing.
 use mathlib.Core.Path.{_≡_, refl, ap, ap₂, sym, _∙_, subst}
 use mathlib.Core.List.{List, [], _∷_, _++_, append-nil}
-use Prim.Native.Nat.{ℕ, zero, suc, _+_, _*_, _/_, _^_, _≤_, _<_}
+use Prim.Native.Nat.{ℕ, _+_, _*_, _^_, _≤_, _<_}
 use native.Mathlib.Omega.{arith}
 use lib.ListN.{length, drop}
 use lib.Seq.{drop-at, drop-drop}
@@ -16,14 +16,7 @@ use Rattle.model.specs.Store.{ByEdge, ofEdge, maxRuns}
 use Rattle.model.specs.Report.{runBytes, reportHead, reportRecord, runsIn, namedRuns}
 use Rattle.model.specs.Demand3.{RunsOfDetected}
 use Rattle.model.proofs.RunLaws.{separated→}
-use Rattle.model.proofs.ReportLaws.{length-runBytes}
-
--- A number that its bytes hold is read back
-pub littleEndian-back : (n k : ℕ) → k < 256 ^ n → fromLittleEndian (littleEndian n k) ≡ k
-littleEndian-back zero k h = omega arith
-littleEndian-back (suc n) k h =
-    let p : 256 ^ suc n ≡ 256 * 256 ^ n = omega arith in
-    omega (arith, littleEndian-back n (k / 256) (omega arith))
+use Rattle.model.proofs.ReportLaws.{length-runBytes, littleEndian-back, count-field}
 
 runs-back : (paths : ℕ) → paths < 256 ^ 8 → (rs : List Run) (least : ℕ) → Separated paths least rs → (post : List ℕ)
     → runsIn (runBytes rs ++ post) (length rs) ≡ rs
@@ -37,8 +30,7 @@ runs-back paths h (r ∷ rs) least a post =
 module _ (n paths : ℕ) (s : ByEdge (List Run)) (fits : (d : Edge) → length (ofEdge s d) ≤ maxRuns) where
   -- The fields of the record
   pub field-tests : n < 256 ^ 4 → field 2 4 (reportRecord n paths s) ≡ n
-  unfolding reportRecord reportHead
-  field-tests h = littleEndian-back 4 n h
+  field-tests h = count-field n paths s .0 h
 
   pub field-paths : paths ≤ maxCount → field 6 8 (reportRecord n paths s) ≡ paths
   unfolding reportRecord reportHead

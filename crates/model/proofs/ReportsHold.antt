@@ -15,9 +15,9 @@ use Rattle.model.specs.Store.{ofEdge, storeWords, maxRuns, emptyStore, s
 use Rattle.model.specs.Runs.{size}
 use Rattle.model.specs.Calls.{storeRule, workRule, workWords}
 use Rattle.model.specs.Report.{reportRule, testAll, writerCall, writerAnswer, writerBuffer, auditCall, auditAnswer, reportRecord, namedRuns, reportRules, wholeRecords, fileRecords, reportBufferBytes}
-use Rattle.model.specs.Demand3.{Call, RunsOfDetected, WhollyTaken, FileCalls, leftBy, testsOf, TrueReport, WriterTrue, Acceptable, Demand3}
+use Rattle.model.specs.Demand3.{Call, RunsOfDetected, WhollyTaken, FileCalls, leftBy, testsOf, TrueReport, NamesDetected, WriterTrue, Acceptable, Demand3}
 use Rattle.model.proofs.WellFormed.{WellFormed}
-use Rattle.model.proofs.AnswerLaws.{same→, steps, checks→, →checks, then-first, then-second}
+use Rattle.model.proofs.AnswerLaws.{same→, steps, checks→, →checks, then-first, then-second, value-inj}
 use Rattle.model.proofs.ReadLaws.{legal, limits}
 use Rattle.model.proofs.FaultLaws.{detectedAt}
 use Rattle.model.proofs.HoldingLaws.{Holding, holding-runs, ofEdge-byEdge}
@@ -35,14 +35,19 @@ module _ (N : Netlist) (w : WellFormed N) (ts : List Test) (left : List ℕ) (x 
   few-left d = rw (ofEdge-byEdge (storeRuns left) d, holding-runs N left (detectedAt N ts) x d) (x .fits d)
 
   -- The record of the store's runs is the true report
-  pub left-true : pathTotal N ≤ maxCount → (n : ℕ) → n ≡ length ts → TrueReport N ts (reportRecord n (pathTotal N) (runsByEdge left))
-  left-true h n q =
+  pub left-true : (n : ℕ) → n ≡ length ts → TrueReport N ts (reportRecord n (pathTotal N) (runsByEdge left))
+  left-true n q = record {
+    runs = runsByEdge left;
+    ofTests = runs-left;
+    faults = λ d. as-countOf (ap size (sym (ofEdge-byEdge (storeRuns left) d))) (sizes-true N w ts left x d);
+    layout = ap (λ k. reportRecord k (pathTotal N) (runsByEdge left)) q;
+  }
+
+  -- and names exactly the detected faults
+  pub left-names : pathTotal N ≤ maxCount → (n : ℕ) → NamesDetected N ts (reportRecord n (pathTotal N) (runsByEdge left))
+  left-names h n =
       let names = names-exactly N h ts (runsByEdge left) runs-left few-left n in
       record {
-        runs = runsByEdge left;
-        ofTests = runs-left;
-        faults = λ d. as-countOf (ap size (sym (ofEdge-byEdge (storeRuns left) d))) (sizes-true N w ts left x d);
-        layout = ap (λ k. reportRecord k (pathTotal N) (runsByEdge left)) q;
         namesFault = λ f v. holds-fault N w ts f (namedRuns (reportRecord n (pathTotal N) (runsByEdge left)) (f .edge)) (names (f .edge)) v;
         namesNoOther = names;
       }
@@ -75,8 +80,8 @@ module _ (netlist : List ℕ) (N : Netlist) (e : readNetlist netlist ≡ value N
   unfolding writerAnswer writerBuffer n
   writer-true = record {
     report = reportRecord n (pathTotal N) (runsByEdge left);
-    isTrue = left-true N (legal netlist N e) (testsOf N testFile) left (left-holding N (fileRecords N testFile) left t)
-        (limits netlist N e .totalFits) n (length-testsOf N testFile);
+    isTrue = left-true N (legal netlist N e) (testsOf N testFile) left (left-holding N (fileRecords N testFile) left t) n (length-testsOf N testFile);
+    names = left-names N (legal netlist N e) (testsOf N testFile) left (left-holding N (fileRecords N testFile) left t) (limits netlist N e .totalFits) n;
     returned = ap (λ a. a >>= λ r. value (length r)) writer-gives;
     written = ap (λ a. after a buffer (λ r. r ++ drop (length r) buffer)) writer-gives;
   }
@@ -124,7 +129,7 @@ module _ (netlist testFile report ws work : List ℕ) where
         reported = subst (λ b. TrueReport N (testsOf N testFile) b)
             (sym (same→ report (reportRecord (length (fileRecords N testFile)) (pathTotal N) (runsByEdge left)) (s .1 .1 .0)))
             (left-true N (legal netlist N e) (testsOf N testFile) left (left-holding N (fileRecords N testFile) left t)
-            (limits netlist N e .totalFits) (length (fileRecords N testFile)) (length-testsOf N testFile));
+            (length (fileRecords N testFile)) (length-testsOf N testFile));
       }
 
   →accepts : Acceptable netlist testFile report ws work → auditAnswer netlist testFile report ws work ≡ value tt
@@ -145,10 +150,27 @@ module _ (netlist testFile report ws work : List ℕ) where
       let d = →checks ((33, wholeRecords N testFile) ∷ []) (a .taken .whole, tt) in
       rw (audit-at-end netlist testFile report ws work c N (a .legal) d left (y .is) f) refl
 
+  -- the accepted report is the writer's, which names exactly the detected faults
+  accepted-names : auditAnswer netlist testFile report ws work ≡ value tt → (N : Netlist) → readNetlist netlist ≡ value N
+      → NamesDetected N (testsOf N testFile) report
+  accepted-names q N e =
+      let a = accepts→ q in
+      let M : Netlist = a .circuit in
+      let y = file-passes netlist M (a .legal) testFile (a .taken) in
+      let x = left-holding M (fileRecords M testFile) (y .got) (y .is) in
+      let w = legal netlist M (a .legal) in
+      let n : ℕ = length (fileRecords M testFile) in
+      let r : report ≡ reportRecord n (pathTotal M) (runsByEdge (y .got)) =
+      true-left M w (testsOf M testFile) (y .got) x n (length-testsOf M testFile) report (a .reported) in
+      let z : NamesDetected M (testsOf M testFile) report =
+      subst (λ b. NamesDetected M (testsOf M testFile) b) (sym r) (left-names M w (testsOf M testFile) (y .got) x (limits netlist M (a .legal) .totalFits) n) in
+      subst (λ (L : Netlist). NamesDetected L (testsOf L testFile) report) (value-inj (sym (a .legal) ∙ e)) z
+
 -- Demand 3
 pub demand-3 : Demand3
 demand-3 = record {
   afterEveryList = after-every-list;
   writes = writer-writes;
   audits = λ netlist testFile report ws work. (accepts→ netlist testFile report ws work, →accepts netlist testFile report ws work);
+  acceptedNames = accepted-names;
 }

@@ -146,7 +146,9 @@ pub record TrueReport (N : Netlist) (ts : List Test) (report : List ℕ) : Type 
   pub ofTests : (e : Edge) → RunsOfDetected N ts e (ofEdge runs e)
   pub faults : (e : Edge) → CountOf (Detected N ts e) (size (ofEdge runs e))
   pub layout : report ≡ reportRecord (length ts) (pathTotal N) runs
-  -- read from its bytes, it names a fault exactly when one of the tests detects it, and no other number
+
+-- Read from its bytes, a report names a fault exactly when one of the tests detects it, and no other number
+pub record NamesDetected (N : Netlist) (ts : List Test) (report : List ℕ) : Type 0 where
   pub namesFault : (f : Fault) → T (valid N (f .path)) → T (inRuns (namedRuns report (f .edge)) (numberOf N (f .path))) ↔ T (detectedBy N ts f)
   pub namesNoOther : (e : Edge) → RunsOfDetected N ts e (namedRuns report e)
 
@@ -154,6 +156,7 @@ pub record TrueReport (N : Netlist) (ts : List Test) (report : List ℕ) : Type 
 pub record WriterTrue (netlist : List ℕ) (N : Netlist) (testFile left buffer : List ℕ) : Type 0 where
   pub report : List ℕ
   pub isTrue : TrueReport N (testsOf N testFile) report
+  pub names : NamesDetected N (testsOf N testFile) report
   pub returned : writerAnswer netlist left (length (fileRecords N testFile)) buffer ≡ value (length report)
   pub written : writerBuffer netlist left (length (fileRecords N testFile)) buffer ≡ report ++ drop (length report) buffer
 
@@ -175,3 +178,6 @@ pub record Demand3 : Type 0 where
       → (buffer : List ℕ) → reportBufferBytes ≤ length buffer → WriterTrue netlist N testFile (leftBy netlist N calls) buffer
   pub audits : (netlist testFile report ws work : List ℕ)
       → (auditAnswer netlist testFile report ws work ≡ value tt) ↔ Acceptable netlist testFile report ws work
+  -- and the report that it accepts names exactly the faults that the file's tests detect
+  pub acceptedNames : (netlist testFile report ws work : List ℕ) → auditAnswer netlist testFile report ws work ≡ value tt
+      → (N : Netlist) → readNetlist netlist ≡ value N → NamesDetected N (testsOf N testFile) report

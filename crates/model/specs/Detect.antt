@@ -73,7 +73,8 @@ unfoldable pub allOpen : Netlist → (ℕ → ℕ → Bool) → (ℕ → Bool) �
 allOpen N isOpenPin edge net [] = edge net
 allOpen N isOpenPin edge net (p ∷ ps) = isOpenPin net p && allOpen N isOpenPin edge (pinNet N net p) ps
 
--- A test detects a fault when the path's input makes the fault's edge and every pin of the path is open
+-- A test detects a fault when the path's input makes the fault's edge and every pin of the path is open. It speaks of paths of the netlist:
+-- of a path that is not `valid` there the answer means nothing
 unfoldable pub detects : Netlist → Test → Fault → Bool
 detects N t f = allOpen N (openPin N t) (hasEdge t (f .edge)) (outputNet N (f .path .output)) (f .path .pins)
 

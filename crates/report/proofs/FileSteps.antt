@@ -2,7 +2,7 @@
 -- Assumes nothing.
 use mathlib.Core.Path.{_≡_, refl, ap, sym, _∙_, subst}
 use mathlib.Core.List.{List, [], _∷_}
-use Prim.Native.Nat.{ℕ, zero, suc, _+_, _-_, _*_, _/_, _≤_, _<_}
+use Prim.Native.Nat.{ℕ, _+_, _-_, _*_, _/_, _≤_, _<_}
 use native.Mathlib.Nat.{div-eq-of-lt, div-eq-sub-div}
 use native.Mathlib.Numerals.{add-one}
 use native.Mathlib.Omega.{arith}
@@ -20,6 +20,7 @@ use Rattle.model.specs.declared.Refusal.{Refusal}
 use Rattle.model.proofs.AnswerLaws.{AllPass, Passed, checks→, →checks}
 use Rattle.model.proofs.ReadLaws.{limits}
 use Rattle.model.proofs.HoldingLaws.{stage-length, stage-sound}
+pub use Rattle.model.proofs.ReportLaws.{length-records}
 use Rattle.coverage.specs.Stage.{CircuitTables, StageReady, StageTrue, stageOf, storeAfter}
 use Rattle.coverage.proofs.TestCallLaws.{refused-by, taken-by}
 use Rattle.report.specs.TestFile.{leftStore, FileTaken}
@@ -55,10 +56,6 @@ records-next len bs p h =
 
 records-end : (len : ℕ) (bs : List ℕ) → length bs < len → records len (length bs / len) bs ≡ []
 records-end len bs h = ap (λ (n : ℕ). records len n bs) (div-eq-of-lt {n = length bs} {m = len} h)
-
-pub length-records : (len n : ℕ) (bs : List ℕ) → length (records len n bs) ≡ n
-length-records len zero bs = refl
-length-records len (suc n) bs = ap suc (length-records len n (drop len bs))
 
 module _ (N : Netlist) (testFile ws : List ℕ) (at : ℕ) where
   first-record : recordLength N ≤ length testFile - at

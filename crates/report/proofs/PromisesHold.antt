@@ -15,6 +15,7 @@ use Rattle.model.specs.Demand3 as demand
 use Rattle.model.specs.Demand3.{Call, State, start, next, afterCalls, leftBy, NoRefusal, StoreTrue}
 use Rattle.model.proofs.AnswerLaws.{not-refused, value-inj, steps}
 use Rattle.model.proofs.ReportsHold.{demand-3}
+use Rattle.coverage.specs.TestCall.{testedOf}
 use Rattle.store.specs.Answers.{totalsOf}
 use Rattle.store.specs.declared.TotalsAnswer.{TotalsAnswer}
 use Rattle.store.specs.declared.TotalsAnswer.the-variants as totals
@@ -42,22 +43,22 @@ module _ (netlist : List ℕ) (N : Netlist) where
   state-after [] s p = refl
   state-after (m ∷ ms) s p =
       let t : Test = testOf N (m .call .rec) in
-      let k : demand.withTest (testCall netlist (m .call .rec) (s .store) (m .call .work)) t (s .taken) ≡ withTaken (m .answer) t (s .taken) =
-      same-taken (testCall netlist (m .call .rec) (s .store) (m .call .work)) t (s .taken) ∙ ap (λ a. withTaken a t (s .taken)) (sym (p .0)) in
-      let q : next netlist N s (m .call) ≡ record { store = m .left; taken = withTaken (m .answer) t (s .taken) } =
-      λ i. record { store = sym (p .1) i; taken = k i } in
+      let k : demand.withTest (testCall netlist (m .call .rec) (s .store) (m .call .work)) t (s .taken) ≡ withTaken (testedOf (m .answer)) t (s .taken) =
+      same-taken (testCall netlist (m .call .rec) (s .store) (m .call .work)) t (s .taken) ∙ ap (λ a. withTaken a t (s .taken)) (sym (p .0 .answer)) in
+      let q : next netlist N s (m .call) ≡ record { store = m .left; taken = withTaken (testedOf (m .answer)) t (s .taken) } =
+      λ i. record { store = sym (p .0 .store) i; taken = k i } in
       ap (λ (x : State). afterCalls netlist N x (callsOf ms)) q
-      ∙ state-after ms (record { store = m .left; taken = withTaken (m .answer) t (s .taken) }) (p .2)
+      ∙ state-after ms (record { store = m .left; taken = withTaken (testedOf (m .answer)) t (s .taken) }) (p .1)
 
   -- the calls before one of a list, and that one
   promised-before : (before : List MadeCall) (m : MadeCall) (rest : List MadeCall) (ws : List ℕ) → Promised netlist ws (before ++ (m ∷ rest)) → Promised netlist ws before
   promised-before [] m rest ws p = tt
-  promised-before (b ∷ bs) m rest ws p = (p .0, p .1, promised-before bs m rest (b .left) (p .2))
+  promised-before (b ∷ bs) m rest ws p = (p .0, promised-before bs m rest (b .left) (p .1))
 
   promised-at : (before : List MadeCall) (m : MadeCall) (rest : List MadeCall) (ws : List ℕ) → Promised netlist ws (before ++ (m ∷ rest))
-      → m .answer ≡ testAnswer netlist (m .call .rec) (lastStore ws before) (m .call .work)
-  promised-at [] m rest ws p = p .0
-  promised-at (b ∷ bs) m rest ws p = promised-at bs m rest (b .left) (p .2)
+      → testedOf (m .answer) ≡ testAnswer netlist (m .call .rec) (lastStore ws before) (m .call .work)
+  promised-at [] m rest ws p = p .0 .answer
+  promised-at (b ∷ bs) m rest ws p = promised-at bs m rest (b .left) (p .1)
 
   module _ (e : readNetlist netlist ≡ value N) where
     state-true : (ms : List MadeCall) → Promised netlist emptyStore ms → StoreTrue netlist N (stateOf N start ms)
@@ -86,7 +87,7 @@ module _ (netlist : List ℕ) (N : Netlist) where
       earlier : StoreTrue netlist N (stateOf N start before)
       earlier = state-true before (promised-before before m rest emptyStore p)
 
-      answered : m .answer ≡ testAnswer netlist (m .call .rec) (lastStore emptyStore before) (m .call .work)
+      answered : testedOf (m .answer) ≡ testAnswer netlist (m .call .rec) (lastStore emptyStore before) (m .call .work)
       answered = promised-at before m rest emptyStore p
 
       taken→ : TakenCall m → NoRefusal N (takenTests N [] before) (m .call)
@@ -134,6 +135,7 @@ calls-true = record {
       record {
         report = t .report;
         isTrue = t .isTrue;
+        names = t .names;
         returned = written-is r (length (t .report)) (w .answer ∙ t .returned);
         written = w .buffer ∙ t .written;
       };
@@ -141,4 +143,6 @@ calls-true = record {
     λ q. demand-3 .audits netlist testFile report ws found .0 (sym (a .answer) ∙ ap auditedOf q),
     λ q. accepted-is r (a .answer ∙ demand-3 .audits netlist testFile report ws found .1 q),
   );
+  acceptedNames = λ r netlist testFile report ws ws′ found left a q.
+      demand-3 .acceptedNames netlist testFile report ws found (sym (a .answer) ∙ ap auditedOf q);
 }

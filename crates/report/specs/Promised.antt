@@ -13,9 +13,11 @@ use Rattle.model.specs.Detect.{Test}
 use Rattle.model.specs.Read.{readNetlist, testOf}
 use Rattle.model.specs.Runs.{inRuns}
 use Rattle.model.specs.Store.{emptyStore, storeRuns}
-use Rattle.model.specs.Calls.{FaultCounts, testAnswer, testStore, totalsCall}
+use Rattle.model.specs.Calls.{FaultCounts, totalsCall}
 use Rattle.model.specs.Report.{fileRecords, reportBufferBytes}
-use Rattle.model.specs.Demand3.{Call, CountOf, Detected, RunsOfDetected, detectedBy, NoRefusal, Returned, WhollyTaken, FileCalls, testsOf, TrueReport, Acceptable}
+use Rattle.model.specs.Demand3.{Call, CountOf, Detected, RunsOfDetected, detectedBy, NoRefusal, Returned, WhollyTaken, FileCalls, testsOf, TrueReport, NamesDetected, Acceptable}
+use Rattle.coverage.specs.TestCall.{testedOf, TestTrue}
+use Rattle.coverage.specs.declared.TestAnswer.{TestAnswer}
 use Rattle.store.specs.Answers.{totalsOf}
 use Rattle.store.specs.declared.TotalsAnswer.{TotalsAnswer}
 use Rattle.store.specs.declared.TotalsAnswer.the-variants as totals
@@ -25,24 +27,22 @@ use Rattle.report.specs.declared.WriteAnswer.the-variants as write
 use Rattle.report.specs.declared.AuditAnswer.{AuditAnswer}
 use Rattle.report.specs.declared.AuditAnswer.the-variants as audit
 
--- A test call that was made: what it was handed besides netlist and store, what it answered, and the store as it left it
+-- A test call that was made: what it was handed besides netlist and store, what it returned, and the store and the working memory as it left them
 pub record MadeCall : Type 0 where
   pub call : Call
-  pub answer : Answer FaultCounts
+  pub answer : TestAnswer
   pub left : List ℕ
+  pub workLeft : List ℕ
 
 -- Taken: the call was not refused
 pub record TakenCall (m : MadeCall) : Type 0 where
   pub returned : FaultCounts
-  pub is : m .answer ≡ value returned
+  pub is : testedOf (m .answer) ≡ value returned
 
 -- The promise of each call of a list: the first gets the store `ws`, each later one the store as the call before left it
 abbrev pub Promised : List ℕ → List ℕ → List MadeCall → Type 0
 Promised netlist ws [] = Unit {0}
-Promised netlist ws (m ∷ ms) =
-    (m .answer ≡ testAnswer netlist (m .call .rec) ws (m .call .work))
-    × (m .left ≡ testStore netlist (m .call .rec) ws (m .call .work))
-    × Promised netlist (m .left) ms
+Promised netlist ws (m ∷ ms) = TestTrue (m .answer) netlist (m .call .rec) ws (m .left) (m .call .work) (m .workLeft) × Promised netlist (m .left) ms
 
 -- the store after a list
 abbrev pub lastStore : List ℕ → List MadeCall → List ℕ
@@ -57,7 +57,7 @@ withTaken (value r) t ts = t ∷ ts
 -- the tests of the taken calls of a list, and the tests `before`
 abbrev pub takenTests : Netlist → List Test → List MadeCall → List Test
 takenTests N before [] = before
-takenTests N before (m ∷ ms) = takenTests N (withTaken (m .answer) (testOf N (m .call .rec)) before) ms
+takenTests N before (m ∷ ms) = takenTests N (withTaken (testedOf (m .answer)) (testOf N (m .call .rec)) before) ms
 
 -- What the totals call returned: for each edge the number of distinct faults that the tests detect
 pub record TotalsTrue (N : Netlist) (ts : List Test) (r : TotalsAnswer) : Type 0 where
@@ -79,12 +79,13 @@ pub record ListTrue (netlist : List ℕ) (N : Netlist) (ms : List MadeCall) : Ty
   pub takenExactly : (before : List MadeCall) (m : MadeCall) (rest : List MadeCall) → ms ≡ before ++ (m ∷ rest)
       → TakenCall m ↔ NoRefusal N (takenTests N [] before) (m .call)
   pub returnedTrue : (before : List MadeCall) (m : MadeCall) (rest : List MadeCall) → ms ≡ before ++ (m ∷ rest)
-      → (r : FaultCounts) → m .answer ≡ value r → (e : Edge) → Returned N (takenTests N [] before) (testOf N (m .call .rec)) e r
+      → (r : FaultCounts) → testedOf (m .answer) ≡ value r → (e : Edge) → Returned N (takenTests N [] before) (testOf N (m .call .rec)) e r
 
--- What the writer left and returned: the true report, and the bytes past it as they were
+-- What the writer left and returned: the true report, which names exactly the faults that the tests detect, and the bytes past it as they were
 pub record WrittenTrue (N : Netlist) (testFile found left : List ℕ) (r : WriteAnswer) : Type 0 where
   pub report : List ℕ
   pub isTrue : TrueReport N (testsOf N testFile) report
+  pub names : NamesDetected N (testsOf N testFile) report
   pub returned : r ≡ write.Written (length report)
   pub written : left ≡ report ++ drop (length report) found
 
@@ -100,3 +101,6 @@ pub record CallsTrue : Type 0 where
       → WrittenTrue N testFile found left r
   pub audits : (r : AuditAnswer) (netlist testFile report ws ws′ found left : List ℕ) → AuditTrue r netlist testFile report ws ws′ found left
       → (r ≡ audit.Accepted) ↔ Acceptable netlist testFile report ws found
+  -- and the report that it accepts names exactly the faults that the file's tests detect
+  pub acceptedNames : (r : AuditAnswer) (netlist testFile report ws ws′ found left : List ℕ) → AuditTrue r netlist testFile report ws ws′ found left
+      → r ≡ audit.Accepted → (N : Netlist) → readNetlist netlist ≡ value N → NamesDetected N (testsOf N testFile) report

@@ -1,0 +1,62 @@
+-- A test file in pieces of whole records: the test calls with one piece after the other are those with the records of the whole file.
+-- Assumes nothing.
+use mathlib.Core.Path.{_≡_, refl, ap, sym, _∙_}
+use mathlib.Core.List.{List, [], _∷_, _++_}
+use Prim.Native.Nat.{ℕ, zero, suc, _+_, _-_, _*_, _/_, _%_, _≤_, _<_}
+use native.Mathlib.Nat.{zero-add, suc-add, suc-mul, not-suc-le-zero, le-of-suc-le-suc, mul-add-div-right, mod-add-div, mul-comm}
+use native.Mathlib.Omega.{arith}
+use lib.ListN.{length, take, drop, length-append, length-drop}
+use Rattle.model.specs.Base.{Answer, refused, value, _>>=_}
+use Rattle.model.specs.Netlist.{Netlist}
+use Rattle.model.specs.Read.{recordLength}
+use Rattle.model.specs.Store.{storeOf}
+use Rattle.model.specs.Calls.{Tested, testStage}
+use Rattle.model.specs.Report.{records, fileRecords, testAll}
+
+take-within : (k : ℕ) (a b : List ℕ) → k ≤ length a → take k (a ++ b) ≡ take k a
+take-within zero a b h = refl
+take-within (suc k) [] b h = absurd (not-suc-le-zero h)
+take-within (suc k) (x ∷ a) b h = ap {B = List ℕ} (λ r. x ∷ r) (take-within k a b (le-of-suc-le-suc h))
+
+drop-within : (k : ℕ) (a b : List ℕ) → k ≤ length a → drop k (a ++ b) ≡ drop k a ++ b
+drop-within zero a b h = refl
+drop-within (suc k) [] b h = absurd (not-suc-le-zero h)
+drop-within (suc k) (x ∷ a) b h = drop-within k a b (le-of-suc-le-suc h)
+
+records-append : (len m n : ℕ) (a b : List ℕ) → length a ≡ m * len → records len (m + n) (a ++ b) ≡ records len m a ++ records len n b
+records-append len zero n [] b q = ap (λ (k : ℕ). records len k b) (zero-add n)
+records-append len zero n (x ∷ a) b q = absurd (omega (arith, q))
+records-append len (suc m) n a b q =
+    let l : length a ≡ m * len + len = q ∙ suc-mul m len in
+    let h : len ≤ length a = omega (arith, l) in
+    let d : length (drop len a) ≡ m * len = omega (arith, l, length-drop len a) in
+    ap (λ (k : ℕ). records len k (a ++ b)) (suc-add m n)
+    ∙ ap {B = List (List ℕ)} (λ (r : List ℕ). r ∷ records len (m + n) (drop len (a ++ b))) (take-within len a b h)
+    ∙ ap {B = List (List ℕ)} (λ (s : List ℕ). take len a ∷ records len (m + n) s) (drop-within len a b h)
+    ∙ ap {B = List (List ℕ)} (λ (rs : List (List ℕ)). take len a ∷ rs) (records-append len m n (drop len a) b d)
+
+-- one record, then the others
+record-first : (N : Netlist) (x : Answer Tested) (f g : List ℕ → Answer (List ℕ)) (h : List ℕ → Answer (List ℕ)) → ((ws : List ℕ) → f ws ≡ (g ws >>= h))
+    → (x >>= λ d. f (storeOf (d .runs))) ≡ ((x >>= λ d. g (storeOf (d .runs))) >>= h)
+record-first N (refused n) f g h q = refl
+record-first N (value d) f g h q = q (storeOf (d .runs))
+
+pub testAll-append : (N : Netlist) (rs qs : List (List ℕ)) (ws : List ℕ) → testAll N (rs ++ qs) ws ≡ (testAll N rs ws >>= λ left. testAll N qs left)
+unfolding testAll
+testAll-append N [] qs ws = refl
+testAll-append N (r ∷ rs) qs ws =
+    record-first N (testStage N r ws) (λ v. testAll N (rs ++ qs) v) (λ v. testAll N rs v) (λ left. testAll N qs left) (λ v. testAll-append N rs qs v)
+
+-- A piece of whole records, then the rest
+pub piece-first : (N : Netlist) (piece rest ws : List ℕ) → length piece % recordLength N ≡ 0
+    → testAll N (fileRecords N (piece ++ rest)) ws ≡ (testAll N (fileRecords N piece) ws >>= λ left. testAll N (fileRecords N rest) left)
+piece-first N piece rest ws h =
+    let len : ℕ = recordLength N in
+    let m : ℕ = length piece / len in
+    let pos : zero < len = omega arith in
+    let whole : length piece ≡ m * len = omega (arith, h, mod-add-div (length piece) len, mul-comm len m) in
+    let l : length (piece ++ rest) ≡ m * len + length rest = omega (arith, length-append piece rest, whole) in
+    let n : length (piece ++ rest) / len ≡ m + length rest / len = ap (λ (k : ℕ). k / len) l ∙ mul-add-div-right pos m (length rest) in
+    ap (λ (k : ℕ). testAll N (records len k (piece ++ rest)) ws) n
+    ∙ ap (λ (rs : List (List ℕ)). testAll N rs ws) (records-append len m (length rest / len) piece rest whole)
+    ∙ testAll-append N (records len m piece) (fileRecords N rest) ws
