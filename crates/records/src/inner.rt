@@ -1,12 +1,12 @@
-// Fields of bytes low byte first, marks, and the bits of packed vectors. Each caller proves what a function requires.
+// Fields of bytes low byte first, marks, and the spare bits of packed vectors. Each caller proves what a function requires.
 ghost use mathlib.Core.Path.{_≡_};
 ghost use mathlib.Core.Bool.{_&&_};
-ghost use Prim.Native.Nat.{_+_, _/_, _≤_, _<_};
+ghost use Prim.Native.Nat.{_+_, _≤_, _<_};
 ghost use lib.ListN.{length, take, drop};
 ghost use lib.Dec.{leb};
 ghost use lib.Seq.{sets};
 ghost use Rattle.model.specs.Base.{littleEndian, field};
-ghost use Rattle.model.specs.Read.{marked, inputBit, vectorBytes, spareZero};
+ghost use Rattle.model.specs.Read.{marked, vectorBytes, spareZero};
 ghost use Rattle.model.specs.Report.{sameBytes};
 
 // A byte as a number of full width.
@@ -45,14 +45,6 @@ pub fn begins_with(s: &[u8], least: usize, first: u8, second: u8) -> bool
         return false;
     }
     s[1] == second
-}
-
-// The bit of an input in a packed vector.
-pub fn input_bit(vector: &[u8], input: usize) -> bool
-    requires { ⌜ input / 8 < length (now vector) ⌝ }
-    ensures { λ r. ⌜ r ≡ inputBit (now (vector .entry)) input ⌝ }
-{
-    (vector[input >> 3] >> ((input & 7) as u8)) & 1 == 1
 }
 
 // Whether the spare bits of a packed vector are zero. Bytes after the vector are not looked at.
