@@ -14,8 +14,8 @@ use Rattle.model.specs.Path.{Edge, rising, falling}
 use Rattle.model.specs.Detect.{Test, detectsNumber, hasEdge, openPin, values}
 use Rattle.model.specs.Runs.{Run, Separated, separatedRuns, runsOf, inRuns, size, howMany}
 use Rattle.model.specs.Read.{testRules, testOf, vectorBytes, inputBit, v2Part}
-use Rattle.model.specs.Store.{ByEdge, byEdge, ofEdge, maxRuns, headWords, storeWords, runCount, storeRuns, runsByEdge, storeOf, storeRules, bothEdges}
-use Rattle.model.specs.Calls.{padded, workWords, workRules, stageRules, Tested, tested, testStage, runsThen}
+use Rattle.model.specs.Store.{ByEdge, ofEdge, maxRuns, headWords, storeWords, runCount, storeRuns, runsByEdge, storeRules, bothEdges}
+use Rattle.model.specs.Calls.{padded, workWords, workRules, stageRules, Tested, storeLeft, tested, testStage, runsThen}
 use Rattle.model.specs.Refusals.{refusalNumber}
 use Rattle.model.specs.declared.Refusal.{Refusal}
 use Rattle.model.specs.declared.Refusal.the-variants as why
@@ -185,7 +185,7 @@ module _ (N : Netlist) (t : Test) (ws work work′ : List ℕ) (few : pathTotal 
         where
           store-is : storeWith (madeOr u (runsInWords work′ (2 * maxRuns) n) (runsInWords (drop headWords ws) 0 (runCount ws rising)))
               (madeOr v (runsInWords work′ (3 * maxRuns) m) (runsInWords (drop headWords ws) maxRuns (runCount ws falling)))
-              ≡ storeOf (byEdge (runsThen N (runsByEdge ws) t))
+              ≡ storeLeft (tested N (runsByEdge ws) t)
           store-is =
               ap₂ (λ (r f : List Run). storeWith r f)
               (edge-is work′ (2 * maxRuns) n u (runsInWords (drop headWords ws) 0 (runCount ws rising)) (runsThen N (runsByEdge ws) t rising) rising-runs)

@@ -12,7 +12,7 @@ use borrow.Rule.Slice.PartMut.{putMid}
 use Rattle.model.specs.Base.{allOf}
 use Rattle.model.specs.Path.{Edge, rising, falling}
 use Rattle.model.specs.Runs.{Run}
-use Rattle.model.specs.Store.{maxRuns, lowsHighs, places, headWords, placeWords, storeWords, storeOf, runCount, wordsAfter, storeRules}
+use Rattle.model.specs.Store.{maxRuns, lowsHighs, places, headWords, placeWords, storeWords, countWord, storeOf, runCount, wordsAfter, storeRules}
 use Rattle.model.proofs.ListLaws.{allOf-head, allOf-tail}
 use Rattle.model.proofs.AnswerLaws.{AllPass}
 use Rattle.model.proofs.HoldingLaws.{at-edge}
@@ -208,11 +208,15 @@ module _ (words ps : List ℕ) (n : ℕ) (x : Bool) (m : ℕ) (y : Bool) (r f : 
       ∙ places-written ps R (madeOr y (runsInWords words (3 * maxRuns) m) (runsInWords ps maxRuns f)) (h .long) few-R
       (few-madeOr y words ps (3 * maxRuns) m maxRuns f cm (h .fewFalling))
 
+-- a store's words with the numbers of runs written to its head
+abbrev withCounts : List ℕ → ℕ → ℕ → List ℕ
+withCounts ws n m = set (set ws (countWord rising) n) (countWord falling) m
+
 -- the places after the head are as they were
-pub head-part : (ws : List ℕ) (a b : ℕ) → take (length (set (set ws 0 a) 1 b) - headWords) (drop headWords (set (set ws 0 a) 1 b)) ≡ drop headWords ws
+pub head-part : (ws : List ℕ) (a b : ℕ) → take (length (withCounts ws a b) - headWords) (drop headWords (withCounts ws a b)) ≡ drop headWords ws
 head-part ws a b =
-    take-all (length (set (set ws 0 a) 1 b) - headWords) (drop headWords (set (set ws 0 a) 1 b)) (omega (arith, length-drop headWords (set (set ws 0 a) 1 b)))
-    ∙ drop-set-lt headWords (set ws 0 a) 1 b (omega arith) ∙ drop-set-lt headWords ws 0 a (omega arith)
+    take-all (length (withCounts ws a b) - headWords) (drop headWords (withCounts ws a b)) (omega (arith, length-drop headWords (withCounts ws a b)))
+    ∙ drop-set-lt headWords (set ws (countWord rising) a) (countWord falling) b (omega arith) ∙ drop-set-lt headWords ws (countWord rising) a (omega arith)
 
 -- zeros after the runs of an edge, by rule 42
 all-zero : (xs : List ℕ) (i : ℕ) → T (allOf (λ w. eqb w 0) xs) → getD xs i 0 ≡ 0
@@ -246,26 +250,26 @@ places-hold n ws l p = record {
     after : (e : Edge) → T (allOf (λ w. eqb w 0) (wordsAfter ws e))
     after e = at-edge (λ d. allOf (λ w. eqb w 0) (wordsAfter ws d)) (p .1 .1 .0) e
 
-pub head-length : (ws : List ℕ) (a b : ℕ) → length (set (set ws 0 a) 1 b) ≡ length ws
-head-length ws a b = length-set (set ws 0 a) 1 b ∙ length-set ws 0 a
+pub head-length : (ws : List ℕ) (a b : ℕ) → length (withCounts ws a b) ≡ length ws
+head-length ws a b = length-set (set ws (countWord rising) a) (countWord falling) b ∙ length-set ws (countWord rising) a
 
 -- the numbers of runs at the head, and the places after it
 pub store-written : (ws ps : List ℕ) (n m : ℕ) (r f : List Run) → length ws ≡ storeWords → length r ≡ n → length f ≡ m → ps ≡ bothPlaces r f
-    → putMid 2 (length (set (set ws 0 n) 1 m) - 2) (set (set ws 0 n) 1 m) ps ≡ storeWith r f
+    → putMid headWords (length (withCounts ws n m) - headWords) (withCounts ws n m) ps ≡ storeWith r f
 unfolding bothPlaces storeOf
 store-written [] ps n m r f l a b e = absurd (omega arith)
 store-written (x ∷ []) ps n m r f l a b e = absurd (omega arith)
 store-written (x ∷ y ∷ ws) ps n m r f l a b e =
-    let z : suc (suc (length ws)) - 2 ≡ length ws = omega arith in
+    let z : suc (suc (length ws)) - headWords ≡ length ws = omega arith in
     let d : drop (length ws) ws ≡ [] = drop-of-length-le ws {i = length ws} (omega arith) in
-    ap₂ (λ (j k : ℕ). j ∷ k ∷ (ps ++ drop (suc (suc (length ws)) - 2) ws)) (sym a) (sym b)
+    ap₂ (λ (j k : ℕ). j ∷ k ∷ (ps ++ drop (suc (suc (length ws)) - headWords) ws)) (sym a) (sym b)
     ∙ ap (λ (q : List ℕ). length r ∷ length f ∷ q) (ap₂ (λ (u v : List ℕ). u ++ v) e (ap (λ k. drop k ws) z ∙ d) ∙ append-nil (places r ++ places f))
 
 -- the head and the places, with the runs that are made over those that the store held
 pub store-made : (words : List ℕ) (n : ℕ) (x : Bool) (m : ℕ) (y : Bool) (ws : List ℕ) (r f : ℕ) → StoreReady words n x m y ws r f → (ps : List ℕ)
-    → ps ≡ bothPlaces (madeOr x (runsInWords words (2 * maxRuns) n) (runsInWords (take (length (set (set ws 0 n) 1 m) - headWords) (drop headWords (set (set ws 0 n) 1 m))) 0 r))
-    (madeOr y (runsInWords words (3 * maxRuns) m) (runsInWords (take (length (set (set ws 0 n) 1 m) - headWords) (drop headWords (set (set ws 0 n) 1 m))) maxRuns f))
-    → putMid 2 (length (set (set ws 0 n) 1 m) - 2) (set (set ws 0 n) 1 m) ps
+    → ps ≡ bothPlaces (madeOr x (runsInWords words (2 * maxRuns) n) (runsInWords (take (length (withCounts ws n m) - headWords) (drop headWords (withCounts ws n m))) 0 r))
+    (madeOr y (runsInWords words (3 * maxRuns) m) (runsInWords (take (length (withCounts ws n m) - headWords) (drop headWords (withCounts ws n m))) maxRuns f))
+    → putMid headWords (length (withCounts ws n m) - headWords) (withCounts ws n m) ps
     ≡ storeWith (madeOr x (runsInWords words (2 * maxRuns) n) (runsInWords (drop headWords ws) 0 r)) (madeOr y (runsInWords words (3 * maxRuns) m) (runsInWords (drop headWords ws) maxRuns f))
 store-made words n x m y ws r f h ps e =
     store-written ws ps n m (madeOr x (runsInWords words (2 * maxRuns) n) (runsInWords (drop headWords ws) 0 r))

@@ -14,8 +14,8 @@ use Rattle.model.specs.Detect.{Test, detectsNumber}
 use Rattle.model.specs.Runs.{Run, Separated, separatedRuns, runsOf, inRuns, size, howMany}
 use Rattle.model.specs.Netlist.{Netlist, pathTotal, nets}
 use Rattle.model.specs.Read.{readNetlist, testRules, testOf}
-use Rattle.model.specs.Store.{ByEdge, byEdge, ofEdge, maxRuns, storeWords, storeRules, storeOf, runCount, storeRuns, runsByEdge}
-use Rattle.model.specs.Calls.{workWords, storeRule, workRule, beforeTest, stageRules, workRules, Tested, tested, heldThen, newThen, runsThen, testStage, testCall, testAnswer, testStore, WorkAfter}
+use Rattle.model.specs.Store.{ByEdge, byEdge, ofEdge, maxRuns, storeWords, storeRules, runCount, storeRuns, runsByEdge}
+use Rattle.model.specs.Calls.{workWords, storeRule, workRule, beforeTest, stageRules, workRules, Tested, storeLeft, tested, heldThen, newThen, runsThen, testStage, testCall, testAnswer, testStore, WorkAfter}
 use Rattle.model.specs.Refusals.{refusalNumber}
 use Rattle.model.specs.declared.Refusal.{Refusal}
 use Rattle.model.specs.declared.Refusal.the-variants as why
@@ -121,15 +121,14 @@ module _ (netlist positions pathCounts : List ℕ) (inputs netCount outputs : �
           let p = taken-by (testStage N rec ws) (s .answer) in
           p .is ∙ ap (λ (t : Tested). value t) (sym (stage-result N rec ws (p .got) (p .is)))
 
-      left-is : ws′ ≡ storeOf (byEdge (runsThen N (runsByEdge ws) (testOf N rec)))
-      unfolding storeAfter tested
-      left-is = s .store ∙ ap (λ (a : Answer Tested). after a ws (λ t. storeOf (t .runs))) taken-is
+      left-is : ws′ ≡ storeLeft (tested N (runsByEdge ws) (testOf N rec))
+      unfolding storeAfter
+      left-is = s .store ∙ ap (λ (a : Answer Tested). after a ws storeLeft) taken-is
 
       sound-after : SoundWords (2 ^ 62) ws′
-      unfolding tested
       sound-after =
           subst (λ (x : List ℕ). SoundWords (2 ^ 62) x) (sym left-is)
-          (words-sound (storeOf (byEdge (runsThen N (runsByEdge ws) (testOf N rec))))
+          (words-sound (storeLeft (tested N (runsByEdge ws) (testOf N rec)))
           (stage-length N ws (memory-of N c .storeLength) rules-pass rec (tested N (runsByEdge ws) (testOf N rec)) taken-is)
           (stage-sound N ws (memory-of N c .storeLength) rules-pass rec (tested N (runsByEdge ws) (testOf N rec)) taken-is))
 
@@ -143,6 +142,7 @@ module _ (netlist positions pathCounts : List ℕ) (inputs netCount outputs : �
           (at-edge (λ d. leb (length (runsThen N (runsByEdge ws) (testOf N rec) d)) maxRuns) (p .1 .0) e))
 
       size-after : (e : Edge) → size (storeRuns ws′ e) ≡ size (runsThen N (runsByEdge ws) (testOf N rec) e)
+      unfolding tested
       size-after e =
           ap (λ (x : List ℕ). size (storeRuns x e)) left-is
           ∙ ap size (runs-store (byEdge (runsThen N (runsByEdge ws) (testOf N rec))) few-then e ∙ ofEdge-byEdge (runsThen N (runsByEdge ws) (testOf N rec)) e)

@@ -10,8 +10,8 @@ use Rattle.model.specs.Netlist as model
 use Rattle.model.specs.Path.{rising, falling}
 use Rattle.model.specs.Detect.{Test, hasEdge, openPin}
 use Rattle.model.specs.Read.{readNetlist, testRules}
-use Rattle.model.specs.Store.{storeWords, storeOf, storeRules, runsByEdge}
-use Rattle.model.specs.Calls.{padded, workWords, workRules, Tested, tested, testStage}
+use Rattle.model.specs.Store.{storeWords, storeRules, runsByEdge}
+use Rattle.model.specs.Calls.{padded, workWords, workRules, Tested, storeLeft, tested, testStage}
 use Rattle.model.specs.Refusals.{refusalNumber}
 use Rattle.netlist.specs.Places as places
 use Rattle.coverage.specs.declared.inner.StageAnswer.{StageAnswer}
@@ -62,7 +62,7 @@ stageOf (stage.Refused why) = refused (refusalNumber why)
 
 -- the store that a stage leaves
 unfoldable pub storeAfter : Answer Tested → List ℕ → List ℕ
-storeAfter x ws = after x ws (λ t. storeOf (t .runs))
+storeAfter x ws = after x ws storeLeft
 
 -- the place Work alone, for a test whose record and store no rule refuses
 unfoldable pub workStage : Netlist → Test → List ℕ → Answer Tested

@@ -10,6 +10,8 @@ use crate::edges::RISING_UNION;
 use model::HEAD_WORDS;
 use model::MAX_RUNS;
 use runs::inner;
+use store::inner::FALLING_COUNT;
+use store::inner::RISING_COUNT;
 
 // Clears the run places from..to, none where they end before they begin.
 fn clear(places: &mut [u64], from: usize, to: usize)
@@ -94,8 +96,8 @@ pub(crate) fn write_store(
     requires { ⌜ StoreReady (now words) rising «rising_made» falling «falling_made» (now store) «rising_held» «falling_held» ⌝ }
     ensures { λ _. ⌜ now (store .exit) ≡ storeWith (madeOr «rising_made» (runsInWords (now (words .entry)) (2 * maxRuns) rising) (runsInWords (drop headWords (now (store .entry))) 0 «rising_held»)) (madeOr «falling_made» (runsInWords (now (words .entry)) (3 * maxRuns) falling) (runsInWords (drop headWords (now (store .entry))) maxRuns «falling_held»)) ⌝ }
 {
-    store[0] = rising as u64;
-    store[1] = falling as u64;
+    store[RISING_COUNT] = rising as u64;
+    store[FALLING_COUNT] = falling as u64;
     write_places(
         words,
         rising,

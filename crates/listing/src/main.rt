@@ -27,6 +27,7 @@ use store::inner::FALLING_COUNT;
 use store::inner::FALLING_WORD;
 use store::inner::RISING_COUNT;
 ghost use Prim.Native.Nat.{_≤_};
+ghost use Rattle.model.specs.Store.{maxRuns, storeWords};
 
 // A line of a word and a number.
 fn print_numbered(word: &[u8], number: u64) {
@@ -125,7 +126,7 @@ fn word_at(store: &[u64], at: usize) -> u64 {
 
 // The number of an edge's runs.
 fn run_count(store: &[u64], at: usize) -> usize
-    ensures { λ r. ⌜ r ≤ 1024 ⌝ }
+    ensures { λ r. ⌜ r ≤ maxRuns ⌝ }
 {
     let count = word_at(store, at);
     if count <= MAX_RUNS as u64 {
@@ -142,7 +143,7 @@ fn print_run(letter: &[u8], low: u64, high: u64) {
 
 // A line for each of an edge's runs, the first of which begins at the word given.
 fn print_runs(letter: &[u8], store: &[u64], runs: usize, first: usize)
-    requires { ⌜ (runs ≤ 1024) × (first ≤ 4098) ⌝ }
+    requires { ⌜ (runs ≤ maxRuns) × (first ≤ storeWords) ⌝ }
 {
     let mut i = 0;
     while i < runs {

@@ -13,8 +13,8 @@ use Rattle.model.specs.Path.{Edge, Fault, valid, numberOf, pathOf}
 use Rattle.model.specs.Detect.{Test}
 use Rattle.model.specs.Runs.{Run, runsOf, inRuns, size}
 use Rattle.model.specs.Read.{readNetlist, testRules, testOf}
-use Rattle.model.specs.Store.{byEdge, maxRuns, storeRuns, runsByEdge, storeOf, storeRules}
-use Rattle.model.specs.Calls.{Tested, tested, FaultCounts, testStage, testCall, testAnswer, testStore, totalsCall, storeRule, workRule, workWords}
+use Rattle.model.specs.Store.{byEdge, maxRuns, storeRuns, runsByEdge, storeRules}
+use Rattle.model.specs.Calls.{Tested, storeLeft, tested, FaultCounts, testStage, testCall, testAnswer, testStore, totalsCall, storeRule, workRule, workWords}
 use Rattle.model.specs.Demand3 as demand
 use Rattle.model.specs.Demand3.{CountOf, Detected, RunsOfDetected, detectedBy, Call, State, start, next, afterCalls, NoTestRefusal, NoRefusal, Taken, Returned, StoreTrue}
 use Rattle.model.proofs.WellFormed.{WellFormed}
@@ -77,7 +77,7 @@ module _ (N : Netlist) (w : WellFormed N) (ts : List Test) (ws : List ℕ) (x : 
         (n .fewWorking)
         (λ d. subst (λ rs. length rs ≤ maxRuns) (one-list N (testOf N rec ∷ ts) d (n .runs d) _ (n .wouldHold d) (runs-detected N w d (testOf N rec ∷ ts))) (n .room d)))
 
-    pub stage-holding : (r : Tested) → testStage N rec ws ≡ value r → Holding N (storeOf (r .runs)) (detectedAt N (testOf N rec ∷ ts))
+    pub stage-holding : (r : Tested) → testStage N rec ws ≡ value r → Holding N (storeLeft r) (detectedAt N (testOf N rec ∷ ts))
     unfolding detectedAt
     stage-holding r q = holding-next N rec ws (detectedAt N ts) x r q
 
@@ -130,7 +130,7 @@ module _ (netlist : List ℕ) (N : Netlist) (e : readNetlist netlist ≡ value N
 
     -- One more call keeps it
     step : (c : Call) (a : Answer Tested) → testCall netlist (c .rec) (s .store) (c .work) ≡ a
-        → Holding N (after a (s .store) (λ r. storeOf (r .runs))) (detectedAt N (demand.withTest a (testOf N (c .rec)) (s .taken)))
+        → Holding N (after a (s .store) storeLeft) (detectedAt N (demand.withTest a (testOf N (c .rec)) (s .taken)))
     step c (refused n) q = x
     step c (value r) q = stage-holding N w (s .taken) (s .store) x (c .rec) r (call-stage (c .rec) (s .store) (c .work) r q)
 

@@ -11,8 +11,8 @@ use Rattle.model.specs.Base.{value, allOf}
 use Rattle.model.specs.Netlist.{Netlist, pathTotal}
 use Rattle.model.specs.Detect.{Test, detectsNumber}
 use Rattle.model.specs.Read.{readNetlist, testOf}
-use Rattle.model.specs.Store.{storeWords, emptyStore, storeOf, storeRules}
-use Rattle.model.specs.Calls.{Tested, testStage, testCall, testStore, workWords}
+use Rattle.model.specs.Store.{storeWords, emptyStore, storeRules}
+use Rattle.model.specs.Calls.{Tested, storeLeft, testStage, testCall, testStore, workWords}
 use Rattle.model.specs.Report.{testAll, wholeRecords, fileRecords}
 use Rattle.model.specs.Demand3.{Call, State, start, next, afterCalls, AllTaken, WhollyTaken, FileCalls, leftBy, testsOf}
 use Rattle.model.proofs.WellFormed.{WellFormed}
@@ -38,11 +38,11 @@ pub all-holding : (N : Netlist) (recs : List (List ℕ)) (ws : List ℕ) (D : Se
 unfolding testAll detectedAt
 all-holding N [] ws D left x q = subst (λ s. Holding N s D) (value-inj q) x
 all-holding N (r ∷ rs) ws D left x q =
-    let s = steps (testStage N r ws) (λ t. testAll N rs (storeOf (t .runs))) q in
+    let s = steps (testStage N r ws) (λ t. testAll N rs (storeLeft t)) q in
     holding-same N left (λ d k. detectedAt N (map (testOf N) rs) d k || withTest N (testOf N r) D d k)
     (λ d k. detectedAt N (map (testOf N) (r ∷ rs)) d k || D d k)
     (λ d k. or-around (detectsNumber N (testOf N r) d k) (detectedAt N (map (testOf N) rs) d k) (D d k))
-    (all-holding N rs (storeOf (s .got .runs)) (withTest N (testOf N r) D) left (holding-next N r ws D x (s .got) (s .first)) (s .second))
+    (all-holding N rs (storeLeft (s .got)) (withTest N (testOf N r) D) left (holding-next N r ws D x (s .got) (s .first)) (s .second))
 
 -- From an empty store they leave one that holds exactly that, has its length and passes the rules
 module _ (N : Netlist) (recs : List (List ℕ)) (left : List ℕ) (q : testAll N recs emptyStore ≡ value left) where
@@ -65,7 +65,7 @@ module _ (N : Netlist) (w : WellFormed N) where
   unfolding testAll
   all→ [] ts ws x left q = tt
   all→ (r ∷ rs) ts ws x left q =
-      let s = steps (testStage N r ws) (λ t. testAll N rs (storeOf (t .runs))) q in
+      let s = steps (testStage N r ws) (λ t. testAll N rs (storeLeft t)) q in
       (stage→ N w ts ws x r (s .got) (s .first), all→ rs (testOf N r ∷ ts) _ (stage-holding N w ts ws x r (s .got) (s .first)) left (s .second))
 
   pub →all : (recs : List (List ℕ)) (ts : List Test) (ws : List ℕ) → Holding N ws (detectedAt N ts) → AllTaken N ts recs → Passed (testAll N recs ws)
@@ -83,7 +83,7 @@ abbrev longEnough : Call → Bool
 longEnough c = leb workWords (length (c .work))
 
 module _ (netlist : List ℕ) (N : Netlist) (e : readNetlist netlist ≡ value N) where
-  store-after : (s : State) (c : Call) (r : Tested) → testCall netlist (c .rec) (s .store) (c .work) ≡ value r → next netlist N s c .store ≡ storeOf (r .runs)
+  store-after : (s : State) (c : Call) (r : Tested) → testCall netlist (c .rec) (s .store) (c .work) ≡ value r → next netlist N s c .store ≡ storeLeft r
   unfolding testStore
   store-after s c r q = rw q refl
 
@@ -93,7 +93,7 @@ module _ (netlist : List ℕ) (N : Netlist) (e : readNetlist netlist ≡ value N
   unfolding testAll afterCalls
   calls-left [] s x l left q = value-inj q
   calls-left (c ∷ cs) s x l left q =
-      let p = steps (testStage N (c .rec) (s .store)) (λ t. testAll N (recordsOf cs) (storeOf (t .runs))) q in
+      let p = steps (testStage N (c .rec) (s .store)) (λ t. testAll N (recordsOf cs) (storeLeft t)) q in
       let a = stage-call netlist N e s x c (leb→le workWords (length (c .work)) (allOf-head longEnough c cs l)) (p .got) (p .first) in
       calls-left cs (next netlist N s c) (holds-next netlist N e s x c) (allOf-tail longEnough c cs l) left
       (subst (λ ws. testAll N (recordsOf cs) ws ≡ value left) (sym (store-after s c (p .got) a)) (p .second))

@@ -14,7 +14,7 @@ use Rattle.model.specs.Detect.{Test, detectsNumber}
 use Rattle.model.specs.Runs.{Run, runsOf, inRuns, howMany, workingRuns, size, separatedRuns}
 use Rattle.model.specs.Read.{testRules, testOf}
 use Rattle.model.specs.Store.{ByEdge, byEdge, ofEdge, storeWords, maxRuns, emptyStore, storeRuns, runsByEdge, storeOf, bothEdges, storeRules, runCount, firstWord}
-use Rattle.model.specs.Calls.{Tested, tested, testStage, stageRules, workRules, heldThen, newThen, runsThen}
+use Rattle.model.specs.Calls.{Tested, storeLeft, tested, testStage, stageRules, workRules, heldThen, newThen, runsThen}
 use Rattle.model.proofs.BoolLaws.{both, and-left, and-right}
 use Rattle.model.proofs.AnswerLaws.{AllPass, checks→, →checks, then-first, then-second, value-inj, pass-both}
 use Rattle.model.proofs.RunLaws.{runs-separated, runs-test, runs-same, howMany-same, runs-none, separated→, →separated, runs-size, runs-of-runs}
@@ -142,10 +142,10 @@ module _ (N : Netlist) (rec ws : List ℕ) (D : Sets) (x : Holding N ws D) where
       ))
 
   -- One test: the store then holds its numbers too
-  pub holding-next : (r : Tested) → testStage N rec ws ≡ value r → Holding N (storeOf (r .runs)) (withTest N (testOf N rec) D)
+  pub holding-next : (r : Tested) → testStage N rec ws ≡ value r → Holding N (storeLeft r) (withTest N (testOf N rec) D)
   unfolding tested
   holding-next r e = record {
-    is = ap (λ (q : Tested). storeOf (q .runs)) (sym (stage-result N rec ws r e))
+    is = ap storeLeft (sym (stage-result N rec ws r e))
         ∙ ap storeOf (λ i. record { onRising = runs-then N ws D x (testOf N rec) rising i; onFalling = runs-then N ws D x (testOf N rec) falling i });
     fits = work-room (stage-passes N rec ws r e);
   }
@@ -185,8 +185,8 @@ module _ (N : Netlist) (ws : List ℕ) (l : length ws ≡ storeWords) (p : AllPa
 
   -- A test leaves such a store
   module _ (rec : List ℕ) (r : Tested) (q : testStage N rec ws ≡ value r) where
-    pub stage-length : length (storeOf (r .runs)) ≡ storeWords
-    stage-length = holding-length N (storeOf (r .runs)) _ (holding-next N rec ws (λ e. inRuns (storeRuns ws e)) holding-own r q)
+    pub stage-length : length (storeLeft r) ≡ storeWords
+    stage-length = holding-length N (storeLeft r) _ (holding-next N rec ws (λ e. inRuns (storeRuns ws e)) holding-own r q)
 
-    pub stage-sound : AllPass (storeRules (pathTotal N) (storeOf (r .runs)))
-    stage-sound = holding-passes N (storeOf (r .runs)) _ (holding-next N rec ws (λ e. inRuns (storeRuns ws e)) holding-own r q)
+    pub stage-sound : AllPass (storeRules (pathTotal N) (storeLeft r))
+    stage-sound = holding-passes N (storeLeft r) _ (holding-next N rec ws (λ e. inRuns (storeRuns ws e)) holding-own r q)

@@ -6,7 +6,7 @@ use mathlib.Core.List.{List, [], _∷_}
 use Prim.Native.Nat.{ℕ, suc, _+_, _-_, _≤_, _<_}
 use native.Mathlib.Omega.{arith}
 use lib.Dec.{T, leb, eqb, eqb→eq, leb→le, le→leb}
-use lib.ListN.{length, getD, drop}
+use lib.ListN.{length, getD}
 use Rattle.model.specs.Base.{Answer, value, _>>_, checks}
 use Rattle.model.specs.Netlist.{Netlist, pathTotal, nets, pinNet, outputNet}
 use Rattle.model.specs.Path.{CircuitPath, valid, validAt, numberOf, pathOf}

@@ -1,6 +1,6 @@
 -- A test file in pieces of whole records: the test calls with one piece after the other are those with the records of the whole file.
 -- Assumes nothing.
-use mathlib.Core.Path.{_≡_, refl, ap, sym, _∙_}
+use mathlib.Core.Path.{_≡_, refl, ap, _∙_}
 use mathlib.Core.List.{List, [], _∷_, _++_}
 use Prim.Native.Nat.{ℕ, zero, suc, _+_, _-_, _*_, _/_, _%_, _≤_, _<_}
 use native.Mathlib.Nat.{zero-add, suc-add, suc-mul, not-suc-le-zero, le-of-suc-le-suc, mul-add-div-right, mod-add-div, mul-comm}
@@ -9,8 +9,7 @@ use lib.ListN.{length, take, drop, length-append, length-drop}
 use Rattle.model.specs.Base.{Answer, refused, value, _>>=_}
 use Rattle.model.specs.Netlist.{Netlist}
 use Rattle.model.specs.Read.{recordLength}
-use Rattle.model.specs.Store.{storeOf}
-use Rattle.model.specs.Calls.{Tested, testStage}
+use Rattle.model.specs.Calls.{Tested, storeLeft, testStage}
 use Rattle.model.specs.Report.{records, fileRecords, testAll}
 
 take-within : (k : ℕ) (a b : List ℕ) → k ≤ length a → take k (a ++ b) ≡ take k a
@@ -37,9 +36,9 @@ records-append len (suc m) n a b q =
 
 -- one record, then the others
 record-first : (N : Netlist) (x : Answer Tested) (f g : List ℕ → Answer (List ℕ)) (h : List ℕ → Answer (List ℕ)) → ((ws : List ℕ) → f ws ≡ (g ws >>= h))
-    → (x >>= λ d. f (storeOf (d .runs))) ≡ ((x >>= λ d. g (storeOf (d .runs))) >>= h)
+    → (x >>= λ d. f (storeLeft d)) ≡ ((x >>= λ d. g (storeLeft d)) >>= h)
 record-first N (refused n) f g h q = refl
-record-first N (value d) f g h q = q (storeOf (d .runs))
+record-first N (value d) f g h q = q (storeLeft d)
 
 pub testAll-append : (N : Netlist) (rs qs : List (List ℕ)) (ws : List ℕ) → testAll N (rs ++ qs) ws ≡ (testAll N rs ws >>= λ left. testAll N qs left)
 unfolding testAll

@@ -10,8 +10,8 @@ use lib.ListN.{length, getD, drop}
 use Rattle.model.specs.Base.{Answer, refused, value, _>>=_, _>>_, check, Rule, checks, allOf, field}
 use Rattle.model.specs.Netlist.{Netlist, Gate, netByNet, gateCount, outputCount, pathTotal}
 use Rattle.model.specs.Read.{readGates, readOutputs, readNetlist, gateRules, outputRules, headerRules, gateIn, countIn, inputsIn, gatesIn, outputsIn, inputCounts, testOf}
-use Rattle.model.specs.Store.{emptyStore, storeOf, runsByEdge}
-use Rattle.model.specs.Calls.{tested, storeRule, workRule, stageRules, testStage}
+use Rattle.model.specs.Store.{emptyStore, runsByEdge}
+use Rattle.model.specs.Calls.{storeLeft, tested, storeRule, workRule, stageRules, testStage}
 use Rattle.model.specs.Report.{wholeRecords, fileRecords, testAll, reportRecord, reportRules, auditCall, auditAfter, auditStore}
 use Rattle.model.proofs.BoolLaws.{and-left, and-right, le-true, lt-false}
 
@@ -91,7 +91,7 @@ pub all-over : (N : Netlist) (recs : List (List ℕ)) (ws : List ℕ) → Refuse
 unfolding testAll
 all-over N [] ws = tt
 all-over N (r ∷ rs) ws =
-    over-bind 2 (testStage N r ws) (λ d. testAll N rs (storeOf (d .runs))) (stage-over N r ws) (λ d. all-over N rs (storeOf (d .runs)))
+    over-bind 2 (testStage N r ws) (λ d. testAll N rs (storeLeft d)) (stage-over N r ws) (λ d. all-over N rs (storeLeft d))
 
 -- Report
 pub report-over : (report written : List ℕ) → RefusesOver 2 (checks (reportRules report written))

@@ -11,7 +11,7 @@ use lib.Seq.{getD-at, take-at, drop-at, drop-cons, length-take-le, take-add, dro
 use Rattle.model.specs.Base.{allOf}
 use Rattle.model.specs.Path.{Edge, rising, falling}
 use Rattle.model.specs.Runs.{Run, separatedRuns}
-use Rattle.model.specs.Store.{ByEdge, byEdge, ofEdge, storeWords, maxRuns, emptyStore, runsAt, runCount, storeRuns, runsByEdge, lowsHighs, places, storeOf, wordsAfter, bothEdges, storeRules, firstWord}
+use Rattle.model.specs.Store.{ByEdge, byEdge, ofEdge, storeWords, maxRuns, placeWords, emptyStore, runsAt, runCount, storeRuns, runsByEdge, lowsHighs, places, storeOf, wordsAfter, bothEdges, storeRules, firstWord}
 use Rattle.model.proofs.ListLaws.{allOf-head, allOf-tail}
 use Rattle.model.proofs.BoolLaws.{both, and-left, and-right}
 use Rattle.model.proofs.AnswerLaws.{AllPass}
@@ -20,7 +20,7 @@ length-lowsHighs : (rs : List Run) → length (lowsHighs rs) ≡ 2 * length rs
 length-lowsHighs [] = refl
 length-lowsHighs (r ∷ rs) = omega (arith, length-lowsHighs rs)
 
-pub length-places : (rs : List Run) → length rs ≤ maxRuns → length (places rs) ≡ 2048
+pub length-places : (rs : List Run) → length rs ≤ maxRuns → length (places rs) ≡ placeWords
 length-places rs h = simp (length-append, length-lowsHighs, length-replicate) (omega arith)
 
 -- runs read where they were written
@@ -39,14 +39,14 @@ runsAt-written (r ∷ rs) pre post n h =
 
 -- the words after the runs are zero
 after-written : (rs : List Run) (pre post : List ℕ) (n : ℕ) → length pre ≡ n
-    → take (2 * maxRuns - 2 * length rs) (drop (n + 2 * length rs) (pre ++ (places rs ++ post))) ≡ replicate (2 * maxRuns - 2 * length rs) 0
+    → take (placeWords - 2 * length rs) (drop (n + 2 * length rs) (pre ++ (places rs ++ post))) ≡ replicate (placeWords - 2 * length rs) 0
 after-written rs pre post n h =
-    let zs : List ℕ = replicate (2 * maxRuns - 2 * length rs) 0 in
+    let zs : List ℕ = replicate (placeWords - 2 * length rs) 0 in
     let e : (pre ++ lowsHighs rs) ++ (zs ++ post) ≡ pre ++ (places rs ++ post) =
     append-assoc pre (lowsHighs rs) (zs ++ post) ∙ ap (λ x. pre ++ x) (sym (append-assoc (lowsHighs rs) zs post)) in
-    ap (λ x. take (2 * maxRuns - 2 * length rs) (drop (n + 2 * length rs) x)) (sym e)
-    ∙ ap (take (2 * maxRuns - 2 * length rs)) (drop-at (pre ++ lowsHighs rs) (zs ++ post) (n + 2 * length rs) (simp (length-append, length-lowsHighs) (omega arith)))
-    ∙ take-at zs post (2 * maxRuns - 2 * length rs) (length-replicate {A = ℕ} (2 * maxRuns - 2 * length rs) 0)
+    ap (λ x. take (placeWords - 2 * length rs) (drop (n + 2 * length rs) x)) (sym e)
+    ∙ ap (take (placeWords - 2 * length rs)) (drop-at (pre ++ lowsHighs rs) (zs ++ post) (n + 2 * length rs) (simp (length-append, length-lowsHighs) (omega arith)))
+    ∙ take-at zs post (placeWords - 2 * length rs) (length-replicate {A = ℕ} (placeWords - 2 * length rs) 0)
 
 all-zero : (n : ℕ) → T (allOf (λ w. eqb w 0) (replicate n 0))
 all-zero zero = tt
@@ -85,10 +85,10 @@ module _ (s : ByEdge (List Run)) (fits : (e : Edge) → length (ofEdge s e) ≤ 
       ∙ ap (λ x. runsAt x (firstWord e) (length (ofEdge s e))) (parts e ∙ ap (λ x. countsBefore e ++ x) (append-assoc (lowsHighs (ofEdge s e)) _ (behind e)))
       ∙ runsAt-written (ofEdge s e) (countsBefore e) _ (firstWord e) (length-before e)
 
-  after-store : (e : Edge) → wordsAfter (storeOf s) e ≡ replicate (2 * maxRuns - 2 * length (ofEdge s e)) 0
+  after-store : (e : Edge) → wordsAfter (storeOf s) e ≡ replicate (placeWords - 2 * length (ofEdge s e)) 0
   after-store e =
-      ap (λ n. take (2 * maxRuns - 2 * n) (drop (firstWord e + 2 * n) (storeOf s))) (runCount-store e)
-      ∙ ap (λ x. take (2 * maxRuns - 2 * length (ofEdge s e)) (drop (firstWord e + 2 * length (ofEdge s e)) x)) (parts e)
+      ap (λ n. take (placeWords - 2 * n) (drop (firstWord e + 2 * n) (storeOf s))) (runCount-store e)
+      ∙ ap (λ x. take (placeWords - 2 * length (ofEdge s e)) (drop (firstWord e + 2 * length (ofEdge s e)) x)) (parts e)
       ∙ after-written (ofEdge s e) (countsBefore e) (behind e) (firstWord e) (length-before e)
 
   pub length-store : length (storeOf s) ≡ storeWords
@@ -101,7 +101,7 @@ module _ (s : ByEdge (List Run)) (fits : (e : Edge) → length (ofEdge s e) ≤ 
     at-both (λ e. leb (runCount (storeOf s) e) maxRuns) (λ e. le→leb (runCount (storeOf s) e) maxRuns (rw (runCount-store e) (fits e))),
     (
       at-both (λ e. separatedRuns n 1 (storeRuns (storeOf s) e)) (λ e. rw (runs-store e) (a e)),
-      (at-both (λ e. allOf (λ w. eqb w 0) (wordsAfter (storeOf s) e)) (λ e. rw (after-store e) (all-zero (2 * maxRuns - 2 * length (ofEdge s e)))), tt),
+      (at-both (λ e. allOf (λ w. eqb w 0) (wordsAfter (storeOf s) e)) (λ e. rw (after-store e) (all-zero (placeWords - 2 * length (ofEdge s e)))), tt),
     ),
   )
     where
@@ -126,16 +126,16 @@ zeros : (xs : List ℕ) → T (allOf (λ x. eqb x 0) xs) → xs ≡ replicate (l
 zeros [] t = refl
 zeros (x ∷ xs) t = ap₂ (λ a r. a ∷ r) (eqb→eq x 0 (allOf-head (λ x. eqb x 0) x xs t)) (zeros xs (allOf-tail (λ x. eqb x 0) x xs t))
 
--- an edge's 2,048 words
-places-read : (ws : List ℕ) (at n : ℕ) → n ≤ maxRuns → at + 2048 ≤ length ws
-    → T (allOf (λ w. eqb w 0) (take (2 * maxRuns - 2 * n) (drop (at + 2 * n) ws)))
-    → length (runsAt ws at n) ≡ n → places (runsAt ws at n) ≡ take 2048 (drop at ws)
+-- an edge's places
+places-read : (ws : List ℕ) (at n : ℕ) → n ≤ maxRuns → at + placeWords ≤ length ws
+    → T (allOf (λ w. eqb w 0) (take (placeWords - 2 * n) (drop (at + 2 * n) ws)))
+    → length (runsAt ws at n) ≡ n → places (runsAt ws at n) ≡ take placeWords (drop at ws)
 places-read ws at n h l z q =
-    let m = 2 * maxRuns - 2 * n in
+    let m = placeWords - 2 * n in
     let k : length (take m (drop (at + 2 * n) ws)) ≡ m = length-take-le m (drop (at + 2 * n) ws) (simp length-drop (omega arith)) in
     let b : take m (drop (at + 2 * n) ws) ≡ replicate m 0 = zeros _ z ∙ ap (λ j. replicate j 0) k in
-    let c : 2 * n + m ≡ 2048 = omega arith in
-    ap₂ (λ x y. x ++ y) (lowsHighs-read n ws at (omega arith)) (ap (λ j. replicate (2 * maxRuns - 2 * j) 0) q ∙ sym b ∙ ap (take m) (sym (drop-drop (2 * n) at ws)))
+    let c : 2 * n + m ≡ placeWords = omega arith in
+    ap₂ (λ x y. x ++ y) (lowsHighs-read n ws at (omega arith)) (ap (λ j. replicate (placeWords - 2 * j) 0) q ∙ sym b ∙ ap (take m) (sym (drop-drop (2 * n) at ws)))
     ∙ sym (take-add (2 * n) m (drop at ws)) ∙ rw c refl
 
 pub length-runsAt : (n : ℕ) (ws : List ℕ) (at : ℕ) → length (runsAt ws at n) ≡ n
@@ -152,10 +152,10 @@ store-runs n (x ∷ y ∷ zs) l p =
     let b : y ≤ maxRuns = leb→le y maxRuns (and-right (leb x maxRuns) (leb y maxRuns) (p .0)) in
     let zero? : ℕ → Bool = λ w. eqb w 0 in
     let z = p .1 .1 .0 in
-    let r : places (runsAt ws 2 x) ≡ take 2048 zs =
-    places-read ws 2 x a (omega arith) (and-left (allOf zero? (wordsAfter ws rising)) (allOf zero? (wordsAfter ws falling)) z) (length-runsAt x ws 2) in
-    let f : places (runsAt ws 2050 y) ≡ take 2048 (drop 2048 zs) =
-    places-read ws 2050 y b (omega arith) (and-right (allOf zero? (wordsAfter ws rising)) (allOf zero? (wordsAfter ws falling)) z) (length-runsAt y ws 2050) in
-    ap₂ {C = List ℕ} (λ j k. j ∷ k ∷ (places (runsAt ws 2 x) ++ places (runsAt ws 2050 y))) (length-runsAt x ws 2) (length-runsAt y ws 2050)
+    let r : places (runsAt ws (firstWord rising) x) ≡ take placeWords zs =
+    places-read ws (firstWord rising) x a (omega arith) (and-left (allOf zero? (wordsAfter ws rising)) (allOf zero? (wordsAfter ws falling)) z) (length-runsAt x ws (firstWord rising)) in
+    let f : places (runsAt ws (firstWord falling) y) ≡ take placeWords (drop placeWords zs) =
+    places-read ws (firstWord falling) y b (omega arith) (and-right (allOf zero? (wordsAfter ws rising)) (allOf zero? (wordsAfter ws falling)) z) (length-runsAt y ws (firstWord falling)) in
+    ap₂ {C = List ℕ} (λ j k. j ∷ k ∷ (places (runsAt ws (firstWord rising) x) ++ places (runsAt ws (firstWord falling) y))) (length-runsAt x ws (firstWord rising)) (length-runsAt y ws (firstWord falling))
     ∙ ap (λ k. x ∷ y ∷ k)
-    (ap₂ (λ u v. u ++ v) r (f ∙ take-all 2048 (drop 2048 zs) (omega (arith, length-drop 2048 zs))) ∙ take-append-drop 2048 zs)
+    (ap₂ (λ u v. u ++ v) r (f ∙ take-all placeWords (drop placeWords zs) (omega (arith, length-drop placeWords zs))) ∙ take-append-drop placeWords zs)

@@ -142,6 +142,10 @@ pub record Tested : Type 0 where
   pub returned : FaultCounts
   pub runs : ByEdge (List Run)
 
+-- The words of the store that a taken test leaves
+abbrev pub storeLeft : Tested → List ℕ
+storeLeft r = storeOf (r .runs)
+
 unfoldable pub tested : Netlist → ByEdge (List Run) → Test → Tested
 tested N s t = record {
   returned = record {
@@ -170,7 +174,7 @@ unfoldable pub testAnswer : List ℕ → List ℕ → List ℕ → List ℕ → 
 testAnswer netlist rec ws work = testCall netlist rec ws work >>= λ r. value (r .returned)
 
 unfoldable pub testStore : List ℕ → List ℕ → List ℕ → List ℕ → List ℕ
-testStore netlist rec ws work = after (testCall netlist rec ws work) ws (λ r. storeOf (r .runs))
+testStore netlist rec ws work = after (testCall netlist rec ws work) ws storeLeft
 
 -- Working memory after a test call or an audit: it may hold anything in its first 8,192 words if the test stage was reached, else it is as before
 pub record WorkAfter (netlist ws found left : List ℕ) : Type 0 where

@@ -11,7 +11,7 @@ use Rattle.model.specs.Path.{Edge, rising, falling, pathOf, faultNumber}
 use Rattle.model.specs.Detect.{Test, detectsNumber}
 use Rattle.model.specs.Runs.{workingRuns}
 use Rattle.model.specs.Read.{readNetlist, testRules, testOf}
-use Rattle.model.specs.Store.{emptyStore, firstWord}
+use Rattle.model.specs.Store.{headWords, emptyStore, firstWord}
 use Rattle.model.specs.Calls.{testCall, wordsOf, workWords}
 use Rattle.model.specs.Report.{auditCall}
 use Rattle.model.specs.Encode.{headerBytes, gateBytes, outputBytes, testBytes}
@@ -40,7 +40,7 @@ enoughWork = replicate workWords 0
 
 -- a store's numbers of runs, and the first run of each edge
 unfoldable pub firstRuns : List ℕ → List ℕ
-firstRuns ws = take 4 ws ++ take 2 (drop (firstWord falling) ws)
+firstRuns ws = take (headWords + 2) ws ++ take 2 (drop (firstWord falling) ws)
 
 unfoldable pub reply : List ℕ → Question → Answer (List ℕ)
 reply netlist netCounts = readNetlist netlist >>= λ N. value (counts N)

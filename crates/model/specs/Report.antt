@@ -11,8 +11,8 @@ use Rattle.model.specs.Netlist.{Netlist, pathTotal}
 use Rattle.model.specs.Path.{Edge, rising, falling}
 use Rattle.model.specs.Runs.{Run, size}
 use Rattle.model.specs.Read.{marked, readNetlist, recordLength}
-use Rattle.model.specs.Store.{ByEdge, emptyStore, storeOf, runsByEdge, storeRules}
-use Rattle.model.specs.Calls.{storeRule, testStage, beforeTest}
+use Rattle.model.specs.Store.{ByEdge, emptyStore, runsByEdge, storeRules}
+use Rattle.model.specs.Calls.{storeRule, storeLeft, testStage, beforeTest}
 
 -- bytes of a report buffer, at the least
 abbrev pub reportBufferBytes : ℕ
@@ -81,7 +81,7 @@ wholeRecords N testFile = eqb (length testFile % recordLength N) 0 && leb (lengt
 -- the test calls with the records in order; the store that they leave
 unfoldable pub testAll : Netlist → List (List ℕ) → List ℕ → Answer (List ℕ)
 testAll N [] ws = value ws
-testAll N (r ∷ rs) ws = testStage N r ws >>= λ d. testAll N rs (storeOf (d .runs))
+testAll N (r ∷ rs) ws = testStage N r ws >>= λ d. testAll N rs (storeLeft d)
 
 abbrev pub sameBytes : List ℕ → List ℕ → Bool
 sameBytes [] [] = true

@@ -13,8 +13,8 @@ use Rattle.model.specs.Base.{Answer, refused, value, _>>=_, checks, passes, aft
 use Rattle.model.specs.Netlist.{Netlist, pathTotal}
 use Rattle.model.specs.Read.{vectorBytes, recordLength}
 use Rattle.model.specs.Refusals.{refusalNumber}
-use Rattle.model.specs.Store.{storeWords, emptyStore, storeOf, storeRules}
-use Rattle.model.specs.Calls.{Tested, testStage, workWords}
+use Rattle.model.specs.Store.{storeWords, emptyStore, storeRules}
+use Rattle.model.specs.Calls.{Tested, storeLeft, testStage, workWords}
 use Rattle.model.specs.Report.{records, fileRecords, testAll}
 use Rattle.model.specs.declared.Refusal.{Refusal}
 use Rattle.model.proofs.AnswerLaws.{AllPass, Passed, checks→, →checks}
@@ -60,13 +60,13 @@ records-end len bs h = ap (λ (n : ℕ). records len n bs) (div-eq-of-lt {n = le
 module _ (N : Netlist) (testFile ws : List ℕ) (at : ℕ) where
   first-record : recordLength N ≤ length testFile - at
       → testAll N (fileRecords N (drop at testFile)) ws
-      ≡ (testStage N (take (recordLength N) (drop at testFile)) ws >>= λ t. testAll N (fileRecords N (drop (at + recordLength N) testFile)) (storeOf (t .runs)))
+      ≡ (testStage N (take (recordLength N) (drop at testFile)) ws >>= λ t. testAll N (fileRecords N (drop (at + recordLength N) testFile)) (storeLeft t))
   unfolding testAll
   first-record h =
       let len : ℕ = recordLength N in
       let l : len ≤ length (drop at testFile) = omega (arith, length-drop at testFile) in
       ap (λ (rs : List (List ℕ)). testAll N rs ws) (records-next len (drop at testFile) (omega arith) l)
-      ∙ ap (λ (x : List ℕ). testStage N (take len (drop at testFile)) ws >>= λ t. testAll N (records len (length x / len) x) (storeOf (t .runs))) (drop-drop len at testFile)
+      ∙ ap (λ (x : List ℕ). testStage N (take len (drop at testFile)) ws >>= λ t. testAll N (records len (length x / len) x) (storeLeft t)) (drop-drop len at testFile)
 
   no-record : length testFile - at < recordLength N → testAll N (fileRecords N (drop at testFile)) ws ≡ value ws
   unfolding testAll
@@ -116,20 +116,20 @@ module _ (netlist positions netCounts : List ℕ) (inputs netCount outputs : ℕ
 
       -- the record and those after it
       more : (N : Netlist) → CircuitTables N netlist positions netCounts inputs netCount outputs
-          → testAll N (fileRecords N testFile) ws₀ ≡ (testStage N rec ws >>= λ t. testAll N (fileRecords N (drop (at + bytes) testFile)) (storeOf (t .runs)))
+          → testAll N (fileRecords N testFile) ws₀ ≡ (testStage N rec ws >>= λ t. testAll N (fileRecords N (drop (at + bytes) testFile)) (storeLeft t))
       more N t =
           let b : recordLength N ≡ bytes = sym (length-is N t) in
           let p : at + bytes - at ≡ bytes = omega arith in
           sym (g .rest N t)
           ∙ first-record N testFile ws at (omega (arith, b))
-          ∙ ap (λ (k : ℕ). testStage N (take k (drop at testFile)) ws >>= λ t. testAll N (fileRecords N (drop (at + k) testFile)) (storeOf (t .runs))) b
+          ∙ ap (λ (k : ℕ). testStage N (take k (drop at testFile)) ws >>= λ t. testAll N (fileRecords N (drop (at + k) testFile)) (storeLeft t)) b
           ∙ rw p refl
 
       pub taking-refused : (w : Refusal) → r ≡ stage.Refused w → (ws″ : List ℕ) → ws″ ≡ replicate (length ws′) 0
           → FileTaken (file.Refused w) netlist positions netCounts inputs netCount outputs testFile ws₀ ws″ work₀ work′
       unfolding leftStore storeAfter C
       taking-refused w q ws″ z =
-          let k : ws′ ≡ ws = here .store ∙ ap (λ (a : Answer Tested). after a ws (λ t. storeOf (t .runs))) (stage-refuses C rec ws r (here .answer) w q) in
+          let k : ws′ ≡ ws = here .store ∙ ap (λ (a : Answer Tested). after a ws storeLeft) (stage-refuses C rec ws r (here .answer) w q) in
           let l : length ws′ ≡ storeWords = ap (length {A = ℕ}) k ∙ g .ready .memory .storeLength in
           let x : (N : Netlist) → CircuitTables N netlist positions netCounts inputs netCount outputs → testAll N (fileRecords N testFile) ws₀ ≡ refused (refusalNumber w) =
           λ N t. more N t ∙ rw (stage-refuses N rec ws r (s N t .answer) w q) refl in
@@ -143,9 +143,9 @@ module _ (netlist positions netCounts : List ℕ) (inputs netCount outputs : ℕ
         took : Passed (testStage C rec ws)
         took = stage-took C rec ws r (here .answer) q
 
-        left-is : ws′ ≡ storeOf (took .got .runs)
+        left-is : ws′ ≡ storeLeft (took .got)
         unfolding storeAfter
-        left-is = here .store ∙ ap (λ (m : Answer Tested). after m ws (λ t. storeOf (t .runs))) (took .is)
+        left-is = here .store ∙ ap (λ (m : Answer Tested). after m ws storeLeft) (took .is)
 
         passed : AllPass (storeRules (pathTotal C) ws)
         unfolding C
@@ -164,13 +164,13 @@ module _ (netlist positions netCounts : List ℕ) (inputs netCount outputs : ℕ
                 memory = record {
                   storeLength = subst (λ (x : List ℕ). length x ≡ storeWords) (sym left-is) l;
                   sound = subst (λ (x : List ℕ). checks (storeRules (pathTotal C) x) ≡ value tt) (sym left-is)
-                      (→checks (storeRules (pathTotal C) (storeOf (took .got .runs))) p);
+                      (→checks (storeRules (pathTotal C) (storeLeft (took .got))) p);
                   workLength = omega (arith, here .sameLength, g .ready .memory .workLength);
                 };
               };
               rest = λ N t.
                   let m = stage-took N rec ws r (s N t .answer) q in
-                  let w : ws′ ≡ storeOf (m .got .runs) = s N t .store ∙ ap (λ (x : Answer Tested). after x ws (λ y. storeOf (y .runs))) (m .is) in
+                  let w : ws′ ≡ storeLeft (m .got) = s N t .store ∙ ap (λ (x : Answer Tested). after x ws storeLeft) (m .is) in
                   sym (more N t ∙ rw (m .is) (ap (λ (x : List ℕ). testAll N (fileRecords N (drop (at + bytes) testFile)) x) (sym w)));
               sameLength = here .sameLength ∙ g .sameLength;
               pastWork = here .pastWork ∙ g .pastWork;

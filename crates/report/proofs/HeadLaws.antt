@@ -7,11 +7,12 @@ use Prim.Native.Nat.{ℕ, _+_, _*_, _≤_}
 use native.Mathlib.Omega.{arith}
 use borrow.Author.Needs.{needs}
 use borrow.Author.Tests.{not-true, not-false}
-use lib.ListN.{length, getD, take, drop, length-append}
+use lib.ListN.{length, take, drop, length-append}
 use lib.Seq.{sets}
 use Rattle.model.specs.Base.{littleEndian}
+use Rattle.model.specs.Path.{rising, falling}
 use Rattle.model.specs.Runs.{size}
-use Rattle.model.specs.Store.{runsAt, storeRuns, runsByEdge}
+use Rattle.model.specs.Store.{firstWord, runsAt, runCount, storeRuns, runsByEdge}
 use Rattle.model.specs.Report.{sameBytes, runBytes, reportHead, reportRecord}
 use Rattle.model.proofs.StoreLaws.{length-runsAt}
 use Rattle.model.proofs.ReportLaws.{length-runBytes}
@@ -102,29 +103,29 @@ pub ruleset head-cases = (head-mark, head-tests, head-paths, head-rising, head-f
 -- A store's report, from its words
 module _ (tests paths : ℕ) (ws : List ℕ) where
   abbrev pub risingBytes : List ℕ
-  risingBytes = runBytes (runsAt ws 2 (getD ws 0 0))
+  risingBytes = runBytes (runsAt ws (firstWord rising) (runCount ws rising))
 
   abbrev pub fallingBytes : List ℕ
-  fallingBytes = runBytes (runsAt ws 2050 (getD ws 1 0))
+  fallingBytes = runBytes (runsAt ws (firstWord falling) (runCount ws falling))
 
   abbrev pub headOf : List ℕ
-  headOf = headBytes tests paths (getD ws 0 0) (getD ws 1 0) (size (runsAt ws 2 (getD ws 0 0))) (size (runsAt ws 2050 (getD ws 1 0)))
+  headOf = headBytes tests paths (runCount ws rising) (runCount ws falling) (size (runsAt ws (firstWord rising) (runCount ws rising))) (size (runsAt ws (firstWord falling) (runCount ws falling)))
 
-  pub length-rising : length risingBytes ≡ 16 * getD ws 0 0
-  length-rising = length-runBytes (runsAt ws 2 (getD ws 0 0)) ∙ ap (λ (k : ℕ). 16 * k) (length-runsAt (getD ws 0 0) ws 2)
+  pub length-rising : length risingBytes ≡ 16 * runCount ws rising
+  length-rising = length-runBytes (runsAt ws (firstWord rising) (runCount ws rising)) ∙ ap (λ (k : ℕ). 16 * k) (length-runsAt (runCount ws rising) ws (firstWord rising))
 
-  pub length-falling : length fallingBytes ≡ 16 * getD ws 1 0
-  length-falling = length-runBytes (runsAt ws 2050 (getD ws 1 0)) ∙ ap (λ (k : ℕ). 16 * k) (length-runsAt (getD ws 1 0) ws 2050)
+  pub length-falling : length fallingBytes ≡ 16 * runCount ws falling
+  length-falling = length-runBytes (runsAt ws (firstWord falling) (runCount ws falling)) ∙ ap (λ (k : ℕ). 16 * k) (length-runsAt (runCount ws falling) ws (firstWord falling))
 
   pub report-parts : reportRecord tests paths (runsByEdge ws) ≡ headOf ++ (risingBytes ++ fallingBytes)
   unfolding reportRecord reportHead storeRuns headBytes
-  report-parts = rw (length-runsAt (getD ws 0 0) ws 2, length-runsAt (getD ws 1 0) ws 2050) refl
+  report-parts = rw (length-runsAt (runCount ws rising) ws (firstWord rising), length-runsAt (runCount ws falling) ws (firstWord falling)) refl
 
   pub length-head : length headOf ≡ 34
   unfolding headBytes
   length-head = refl
 
-  pub length-whole : length (reportRecord tests paths (runsByEdge ws)) ≡ 34 + 16 * getD ws 0 0 + 16 * getD ws 1 0
+  pub length-whole : length (reportRecord tests paths (runsByEdge ws)) ≡ 34 + 16 * runCount ws rising + 16 * runCount ws falling
   length-whole =
       let a : length (reportRecord tests paths (runsByEdge ws)) ≡ length (headOf ++ (risingBytes ++ fallingBytes)) = ap (length {A = ℕ}) report-parts in
       omega (arith, a, length-append headOf (risingBytes ++ fallingBytes), length-append risingBytes fallingBytes, length-head, length-rising, length-falling)

@@ -8,11 +8,12 @@ use native.Mathlib.Omega.{arith}
 use borrow.Author.Needs.{needs}
 use borrow.Author.Tests.{not-true, not-false, eq-eqb, ne-eqb}
 use lib.Dec.{leb, eqb, leb→le}
-use lib.ListN.{length, getD, take, drop, length-drop}
+use lib.ListN.{length, take, drop, length-drop}
 use lib.Seq.{take-all}
 use Rattle.model.specs.Base.{refused, value, checks, field}
+use Rattle.model.specs.Path.{rising, falling}
 use Rattle.model.specs.Read.{marked}
-use Rattle.model.specs.Store.{ByEdge, runsAt, storeRuns, runsByEdge}
+use Rattle.model.specs.Store.{ByEdge, firstWord, runsAt, runCount, storeRuns, runsByEdge}
 use Rattle.model.specs.Report.{sameBytes, runBytes, reportRecord, reportRules}
 use Rattle.model.proofs.BoolLaws.{and-left, true→T}
 use Rattle.records.proofs.ByteLaws.{part-yes, part-no, same-length}
@@ -23,20 +24,20 @@ use Rattle.report.proofs.HeadLaws.{risingBytes, fallingBytes, headOf, r
 
 -- the store's head, with its totals as they were summed
 pub head-totals : (tests paths : ℕ) (ws : List ℕ) (t : StoreTotals) → totalsIn t ≡ totalsBoth ws
-    → headBytes tests paths (getD ws 0 0) (getD ws 1 0) (t .rising) (t .falling) ≡ headOf tests paths ws
+    → headBytes tests paths (runCount ws rising) (runCount ws falling) (t .rising) (t .falling) ≡ headOf tests paths ws
 unfolding storeRuns
 head-totals tests paths ws t q =
-    ap₂ (λ x y. headBytes tests paths (getD ws 0 0) (getD ws 1 0) x y) (ap (λ (b : ByEdge ℕ). b .onRising) q) (ap (λ (b : ByEdge ℕ). b .onFalling) q)
+    ap₂ (λ x y. headBytes tests paths (runCount ws rising) (runCount ws falling) x y) (ap (λ (b : ByEdge ℕ). b .onRising) q) (ap (λ (b : ByEdge ℕ). b .onFalling) q)
 
 module _ (report ws : List ℕ) (tests paths : ℕ) where
   abbrev whole : Bool
   whole = sameBytes report (reportRecord tests paths (runsByEdge ws))
 
-  pub other-length : (length report ≡ 34 + 16 * getD ws 0 0 + 16 * getD ws 1 0 → ⊥) → false ≡ whole
+  pub other-length : (length report ≡ 34 + 16 * runCount ws rising + 16 * runCount ws falling → ⊥) → false ≡ whole
   other-length d = sym (same-length report (reportRecord tests paths (runsByEdge ws)) (λ e. d (e ∙ length-whole tests paths ws)))
 
-  module _ (l : length report ≡ 34 + 16 * getD ws 0 0 + 16 * getD ws 1 0) (t : StoreTotals) (q : totalsIn t ≡ totalsBoth ws)
-      (b : Bool) (h : SameHead b report tests paths (getD ws 0 0) (getD ws 1 0) (t .rising) (t .falling)) where
+  module _ (l : length report ≡ 34 + 16 * runCount ws rising + 16 * runCount ws falling) (t : StoreTotals) (q : totalsIn t ≡ totalsBoth ws)
+      (b : Bool) (h : SameHead b report tests paths (runCount ws rising) (runCount ws falling) (t .rising) (t .falling)) where
     by-head : whole ≡ (b && sameBytes (drop 34 report) (risingBytes tests paths ws ++ fallingBytes tests paths ws))
     by-head =
         let R : List ℕ = risingBytes tests paths ws ++ fallingBytes tests paths ws in
@@ -45,23 +46,23 @@ module _ (report ws : List ℕ) (tests paths : ℕ) where
     pub other-head : not b ≡ true → false ≡ whole
     other-head n = sym (by-head ∙ rw (not-true b n) refl)
 
-    module _ (n : not b ≡ false) (u : Bool) (e : u ≡ sameBytes (take (16 * getD ws 0 0) (drop 34 report)) (runBytes (runsAt ws 2 (getD ws 0 0)))) where
+    module _ (n : not b ≡ false) (u : Bool) (e : u ≡ sameBytes (take (16 * runCount ws rising) (drop 34 report)) (runBytes (runsAt ws (firstWord rising) (runCount ws rising)))) where
       after-head : whole ≡ sameBytes (drop 34 report) (risingBytes tests paths ws ++ fallingBytes tests paths ws)
       after-head = by-head ∙ rw (not-false b n) refl
 
       pub other-rising : not u ≡ true → false ≡ whole
       other-rising m =
-          sym (after-head ∙ part-no report 34 (16 * getD ws 0 0) (risingBytes tests paths ws) (fallingBytes tests paths ws) (length-rising tests paths ws) (omega arith)
+          sym (after-head ∙ part-no report 34 (16 * runCount ws rising) (risingBytes tests paths ws) (fallingBytes tests paths ws) (length-rising tests paths ws) (omega arith)
           (sym e ∙ not-true u m))
 
       pub falling-decides : not u ≡ false
-          → (v : Bool) → v ≡ sameBytes (take (16 * getD ws 1 0) (drop (34 + 16 * getD ws 0 0) report)) (runBytes (runsAt ws 2050 (getD ws 1 0))) → v ≡ whole
+          → (v : Bool) → v ≡ sameBytes (take (16 * runCount ws falling) (drop (34 + 16 * runCount ws rising) report)) (runBytes (runsAt ws (firstWord falling) (runCount ws falling))) → v ≡ whole
       falling-decides m v f =
-          let k : take (16 * getD ws 1 0) (drop (34 + 16 * getD ws 0 0) report) ≡ drop (34 + 16 * getD ws 0 0) report =
-          take-all (16 * getD ws 1 0) (drop (34 + 16 * getD ws 0 0) report) (simp length-drop (omega arith)) in
+          let k : take (16 * runCount ws falling) (drop (34 + 16 * runCount ws rising) report) ≡ drop (34 + 16 * runCount ws rising) report =
+          take-all (16 * runCount ws falling) (drop (34 + 16 * runCount ws rising) report) (simp length-drop (omega arith)) in
           f
           ∙ ap (λ (z : List ℕ). sameBytes z (fallingBytes tests paths ws)) k
-          ∙ sym (after-head ∙ part-yes report 34 (16 * getD ws 0 0) (risingBytes tests paths ws) (fallingBytes tests paths ws) (length-rising tests paths ws) (omega arith)
+          ∙ sym (after-head ∙ part-yes report 34 (16 * runCount ws rising) (risingBytes tests paths ws) (fallingBytes tests paths ws) (length-rising tests paths ws) (omega arith)
           (sym e ∙ not-false u m))
 
 pub ruleset report-cases = (other-length, other-head, other-rising, falling-decides, needs)

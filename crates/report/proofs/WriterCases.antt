@@ -6,13 +6,14 @@ use Prim.Native.Nat.{ℕ, _+_, _*_, _^_, _≤_, _<_}
 use native.Mathlib.Omega.{arith}
 use borrow.Author.Needs.{needs}
 use borrow.Author.Tests.{le-leb, lt-leb, eq-eqb, ne-eqb}
-use lib.ListN.{length, getD, drop, length-append}
+use lib.ListN.{length, drop, length-append}
 use lib.Seq.{sets, sets-eq}
 use Rattle.model.specs.Base.{refused, value, checks}
 use Rattle.model.specs.Netlist.{pathTotal}
+use Rattle.model.specs.Path.{rising, falling}
 use Rattle.model.specs.Refusals.{refusalNumber}
 use Rattle.model.specs.Runs.{size}
-use Rattle.model.specs.Store.{runsAt, runsByEdge, storeWords, storeRules}
+use Rattle.model.specs.Store.{firstWord, runsAt, runCount, runsByEdge, storeWords, storeRules}
 use Rattle.model.specs.Report.{runBytes, reportRecord, reportBufferBytes, writerCall, writerAnswer, writerBuffer}
 use Rattle.model.specs.declared.Refusal.{Refusal}
 use Rattle.model.specs.declared.Refusal.the-variants as why
@@ -35,18 +36,18 @@ use Rattle.report.proofs.ReportCases.{head-totals}
 
 -- the head, then the runs of both edges
 pub report-put : (tests paths : ℕ) (ws : List ℕ) (t : StoreTotals) → totalsIn t ≡ totalsBoth ws → (b b₁ b₂ b₃ : List ℕ)
-    → b₁ ≡ sets b 0 (headBytes tests paths (getD ws 0 0) (getD ws 1 0) (t .rising) (t .falling))
-    → b₂ ≡ sets b₁ 34 (runBytes (runsAt ws 2 (getD ws 0 0)))
-    → b₃ ≡ sets b₂ (34 + 16 * getD ws 0 0) (runBytes (runsAt ws 2050 (getD ws 1 0)))
-    → ReportPut (34 + 16 * getD ws 0 0 + 16 * getD ws 1 0) tests paths ws b b₃
+    → b₁ ≡ sets b 0 (headBytes tests paths (runCount ws rising) (runCount ws falling) (t .rising) (t .falling))
+    → b₂ ≡ sets b₁ 34 (runBytes (runsAt ws (firstWord rising) (runCount ws rising)))
+    → b₃ ≡ sets b₂ (34 + 16 * runCount ws rising) (runBytes (runsAt ws (firstWord falling) (runCount ws falling)))
+    → ReportPut (34 + 16 * runCount ws rising + 16 * runCount ws falling) tests paths ws b b₃
 report-put tests paths ws t q b b₁ b₂ b₃ p₁ p₂ p₃ =
     let H : List ℕ = headOf tests paths ws in
     let R : List ℕ = risingBytes tests paths ws in
     let F : List ℕ = fallingBytes tests paths ws in
     let h : b₁ ≡ sets b 0 H = p₁ ∙ ap (λ (z : List ℕ). sets b 0 z) (head-totals tests paths ws t q) in
     let r : b₂ ≡ sets b 0 (H ++ R) = next-put b b₁ b₂ H R 34 h p₂ (sym (length-head tests paths ws)) in
-    let j : 34 + 16 * getD ws 0 0 ≡ length (H ++ R) = omega (arith, length-append H R, length-head tests paths ws, length-rising tests paths ws) in
-    let f : b₃ ≡ sets b 0 ((H ++ R) ++ F) = next-put b b₂ b₃ (H ++ R) F (34 + 16 * getD ws 0 0) r p₃ j in
+    let j : 34 + 16 * runCount ws rising ≡ length (H ++ R) = omega (arith, length-append H R, length-head tests paths ws, length-rising tests paths ws) in
+    let f : b₃ ≡ sets b 0 ((H ++ R) ++ F) = next-put b b₂ b₃ (H ++ R) F (34 + 16 * runCount ws rising) r p₃ j in
     record {
       bytes = f ∙ ap (λ (z : List ℕ). sets b 0 z) (append-assoc H R F ∙ sym (report-parts tests paths ws));
       size = sym (length-whole tests paths ws);

@@ -2,13 +2,14 @@
 -- Assumes nothing.
 use Prim.Native.Nat.{_≤_, _-_}
 use borrow.Author.Needs.{needs}
+use Rattle.model.specs.Store.{maxRuns, storeWords}
 use Rattle.listing.proofs.print_runs.Statement.{statement}
 use Rattle.listing.proofs.print_runs.Tie as tie
 use Rattle.listing.proofs.print_run.Reads as print-run-reads
 use Rattle.listing.proofs.word_at.Reads as word-at-reads
 
 abbrev Inv-loop : tie.InvT-loop
-Inv-loop letter store runs first i₀ i = (i ≤ runs) × (runs ≤ 1024) × (first ≤ 4098)
+Inv-loop letter store runs first i₀ i = (i ≤ runs) × (runs ≤ maxRuns) × (first ≤ storeWords)
 
 abbrev μ-loop : tie.MeasureT-loop
 μ-loop letter store runs first i₀ i = runs - i
