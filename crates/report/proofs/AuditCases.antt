@@ -36,8 +36,8 @@ use Rattle.report.specs.declared.AuditAnswer.{AuditAnswer}
 use Rattle.report.specs.declared.AuditAnswer.the-variants as audit
 use Rattle.report.specs.declared.inner.Comparison.{Comparison}
 use Rattle.report.specs.declared.inner.Comparison.the-variants as comparison
-use Rattle.report.specs.declared.test_file.FileAnswer.{FileAnswer}
-use Rattle.report.specs.declared.test_file.FileAnswer.the-variants as file
+use Rattle.report.specs.declared.inner.test_file.TakenRecords.{TakenRecords}
+use Rattle.report.specs.declared.inner.test_file.FileAnswer.the-variants as file
 use Rattle.report.proofs.FileSteps.{emptied, few-inputs, length-records}
 
 module _ (netlist : List ℕ) (loaded : Loaded) (ws work : List ℕ) (ready : AuditReady netlist loaded ws work) where
@@ -99,7 +99,7 @@ module _ (netlist : List ℕ) (loaded : Loaded) (ws work : List ℕ) (ready : Au
           let f : leb (length testFile / recordLength (ready .circuit)) 4294967295 ≡ false = rw (← bytes-are) (lt-leb (length testFile / bytes) 4294967295 d) in
           file-refused why.TestFileLength ws work (rw (e, f) refl) (ready .empty) refl refl
 
-      module _ (m : length testFile / bytes ≤ 4294967295) (r : FileAnswer) (ws′ work′ : List ℕ)
+      module _ (m : length testFile / bytes ≤ 4294967295) (r : TakenRecords) (ws′ work′ : List ℕ)
           (t : FileTaken r netlist (loaded .positions) (loaded .survey .counts) (loaded .survey .inputs) (loaded .survey .inputs + loaded .survey .gates)
           (loaded .survey .outputs) testFile ws ws′ work work′) where
         abbrev taken : Answer (List ℕ)
@@ -118,14 +118,14 @@ module _ (netlist : List ℕ) (loaded : Loaded) (ws work : List ℕ) (ready : Au
         from-empty : testAll (ready .circuit) (fileRecords (ready .circuit) testFile) ws ≡ taken
         from-empty = ap (testAll (ready .circuit) (fileRecords (ready .circuit) testFile)) (ready .empty)
 
-        pub file-record : (w : Refusal) → r ≡ file.Refused w → FileAudited (audit.Refused w) netlist testFile report ws′ work work′
+        pub file-record : (w : Refusal) → r .answer ≡ file.Refused w → FileAudited (audit.Refused w) netlist testFile report ws′ work work′
         unfolding leftStore
         file-record w q =
             let x = t .ofCircuit (ready .circuit) (ready .tables) in
             let e : taken ≡ refused (refusalNumber w) = sym (rw q at (x .answer) ∙ from-empty) in
             file-refused w ws′ work′ (whole ∙ rw e refl) (x .store ∙ ap leftStore (from-empty ∙ e)) (t .sameLength) (t .pastWork)
 
-        module _ (q : r ≡ file.Taken) where
+        module _ (q : r .answer ≡ file.Taken) where
           left : taken ≡ value ws′
           left = let x = t .ofCircuit (ready .circuit) (ready .tables) in sym (rw q at (x .answer) ∙ from-empty)
 

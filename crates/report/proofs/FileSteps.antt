@@ -23,10 +23,10 @@ use Rattle.model.proofs.HoldingLaws.{stage-length, stage-sound}
 pub use Rattle.model.proofs.ReportLaws.{length-records}
 use Rattle.coverage.specs.Stage.{CircuitTables, StageReady, StageTrue, stageOf, storeAfter}
 use Rattle.coverage.proofs.TestCallLaws.{refused-by, taken-by}
-use Rattle.report.specs.TestFile.{leftStore, FileTaken}
+use Rattle.report.specs.TestFile.{leftStore, oneMore, takenOf, FileTaken}
 use Rattle.coverage.specs.declared.inner.StageAnswer.{StageAnswer}
 use Rattle.coverage.specs.declared.inner.StageAnswer.the-variants as stage
-use Rattle.report.specs.declared.test_file.FileAnswer.the-variants as file
+use Rattle.report.specs.declared.inner.test_file.FileAnswer.the-variants as file
 
 -- all words zero, of a store's length
 pub emptied : (ws : List ℕ) (k : ℕ) → ws ≡ replicate k 0 → k ≡ storeWords → ws ≡ emptyStore
@@ -57,47 +57,59 @@ records-next len bs p h =
 records-end : (len : ℕ) (bs : List ℕ) → length bs < len → records len (length bs / len) bs ≡ []
 records-end len bs h = ap (λ (n : ℕ). records len n bs) (div-eq-of-lt {n = length bs} {m = len} h)
 
-module _ (N : Netlist) (testFile ws : List ℕ) (at : ℕ) where
+module _ (N : Netlist) (testFile : List ℕ) (at : ℕ) where
   first-record : recordLength N ≤ length testFile - at
-      → testAll N (fileRecords N (drop at testFile)) ws
-      ≡ (testStage N (take (recordLength N) (drop at testFile)) ws >>= λ t. testAll N (fileRecords N (drop (at + recordLength N) testFile)) (storeLeft t))
-  unfolding testAll
+      → fileRecords N (drop at testFile) ≡ take (recordLength N) (drop at testFile) ∷ fileRecords N (drop (at + recordLength N) testFile)
   first-record h =
       let len : ℕ = recordLength N in
       let l : len ≤ length (drop at testFile) = omega (arith, length-drop at testFile) in
-      ap (λ (rs : List (List ℕ)). testAll N rs ws) (records-next len (drop at testFile) (omega arith) l)
-      ∙ ap (λ (x : List ℕ). testStage N (take len (drop at testFile)) ws >>= λ t. testAll N (records len (length x / len) x) (storeLeft t)) (drop-drop len at testFile)
+      records-next len (drop at testFile) (omega arith) l
+      ∙ ap {B = List (List ℕ)} (λ (x : List ℕ). take len (drop at testFile) ∷ records len (length x / len) x) (drop-drop len at testFile)
 
-  no-record : length testFile - at < recordLength N → testAll N (fileRecords N (drop at testFile)) ws ≡ value ws
-  unfolding testAll
-  no-record h =
-      let l : length (drop at testFile) < recordLength N = omega (arith, length-drop at testFile) in
-      ap (λ (rs : List (List ℕ)). testAll N rs ws) (records-end (recordLength N) (drop at testFile) l)
+  no-record : length testFile - at < recordLength N → fileRecords N (drop at testFile) ≡ []
+  no-record h = records-end (recordLength N) (drop at testFile) (omega (arith, length-drop at testFile))
 
 module _ (netlist positions netCounts : List ℕ) (inputs netCount outputs : ℕ) (testFile ws₀ work₀ : List ℕ) where
-  -- The records before byte `at` are taken: the rest from here gives the whole, and the store passes its rules
-  pub record Taking (ws work : List ℕ) (at : ℕ) : Type 0 where
+  -- The records before byte `at` are taken, as many as `taken`: the rest from here gives the whole, and the store passes its rules
+  pub record Taking (ws work : List ℕ) (at taken : ℕ) : Type 0 where
     pub within : at ≤ length testFile
+    pub few : taken ≤ at
     pub ready : StageReady netlist positions netCounts inputs netCount outputs ws work
     pub rest : (N : Netlist) → CircuitTables N netlist positions netCounts inputs netCount outputs
         → testAll N (fileRecords N (drop at testFile)) ws ≡ testAll N (fileRecords N testFile) ws₀
+    pub counted : (N : Netlist) → CircuitTables N netlist positions netCounts inputs netCount outputs
+        → taken + takenOf N (fileRecords N (drop at testFile)) ws ≡ takenOf N (fileRecords N testFile) ws₀
     pub sameLength : length work ≡ length work₀
     pub pastWork : drop workWords work ≡ drop workWords work₀
 
-  pub taking-start : StageReady netlist positions netCounts inputs netCount outputs ws₀ work₀ → Taking ws₀ work₀ 0
-  taking-start s = record { within = omega arith; ready = s; rest = λ N t. refl; sameLength = refl; pastWork = refl }
+  pub taking-start : StageReady netlist positions netCounts inputs netCount outputs ws₀ work₀ → Taking ws₀ work₀ 0 0
+  taking-start s = record {
+    within = omega arith;
+    few = omega arith;
+    ready = s;
+    rest = λ N t. refl;
+    counted = λ N t. omega arith;
+    sameLength = refl;
+    pastWork = refl;
+  }
 
-  module _ (bytes : ℕ) (eb : bytes ≡ 2 + 2 * vectorBytes inputs) (ws work : List ℕ) (at : ℕ) (g : Taking ws work at) where
+  module _ (bytes : ℕ) (eb : bytes ≡ 2 + 2 * vectorBytes inputs) (ws work : List ℕ) (at taken : ℕ) (g : Taking ws work at taken) where
     length-is : (N : Netlist) → CircuitTables N netlist positions netCounts inputs netCount outputs → bytes ≡ recordLength N
     length-is N t = eb ∙ ap (λ (i : ℕ). 2 + 2 * vectorBytes i) (t .inputsAre)
 
-    pub taking-end : length testFile - at < bytes → FileTaken file.Taken netlist positions netCounts inputs netCount outputs testFile ws₀ ws work₀ work
-    unfolding leftStore
+    pub taking-end : length testFile - at < bytes
+        → FileTaken (record { taken = taken; answer = file.Taken }) netlist positions netCounts inputs netCount outputs testFile ws₀ ws work₀ work
+    unfolding leftStore testAll takenOf
     taking-end h =
+        let none : (N : Netlist) → CircuitTables N netlist positions netCounts inputs netCount outputs → [] ≡ fileRecords N (drop at testFile) =
+        λ N t. sym (no-record N testFile at (omega (arith, length-is N t))) in
         let left : (N : Netlist) → CircuitTables N netlist positions netCounts inputs netCount outputs → value ws ≡ testAll N (fileRecords N testFile) ws₀ =
-        λ N t. sym (no-record N testFile ws at (omega (arith, length-is N t))) ∙ g .rest N t in
+        λ N t. ap (λ (rs : List (List ℕ)). testAll N rs ws) (none N t) ∙ g .rest N t in
+        let all : (N : Netlist) → CircuitTables N netlist positions netCounts inputs netCount outputs → taken + 0 ≡ takenOf N (fileRecords N testFile) ws₀ =
+        λ N t. ap (λ (rs : List (List ℕ)). taken + takenOf N rs ws) (none N t) ∙ g .counted N t in
         record {
-          ofCircuit = λ N t. record { answer = left N t; store = ap leftStore (left N t) };
+          ofCircuit = λ N t. record { answer = left N t; store = ap leftStore (left N t); taken = omega (arith, all N t) };
+          few = omega (arith, g .few, g .within);
           sameLength = g .sameLength;
           pastWork = g .pastWork;
         }
@@ -115,26 +127,42 @@ module _ (netlist positions netCounts : List ℕ) (inputs netCount outputs : ℕ
       here = s C (g .ready .tables)
 
       -- the record and those after it
+      this-record : (N : Netlist) → CircuitTables N netlist positions netCounts inputs netCount outputs
+          → fileRecords N (drop at testFile) ≡ rec ∷ fileRecords N (drop (at + bytes) testFile)
+      this-record N t =
+          let b : recordLength N ≡ bytes = sym (length-is N t) in
+          let p : bytes ≡ at + bytes - at = omega arith in
+          first-record N testFile at (omega (arith, b))
+          ∙ ap {B = List (List ℕ)} (λ (k : ℕ). take k (drop at testFile) ∷ fileRecords N (drop (at + k) testFile)) b
+          ∙ ap {B = List (List ℕ)} (λ (k : ℕ). take k (drop at testFile) ∷ fileRecords N (drop (at + bytes) testFile)) p
+
       more : (N : Netlist) → CircuitTables N netlist positions netCounts inputs netCount outputs
           → testAll N (fileRecords N testFile) ws₀ ≡ (testStage N rec ws >>= λ t. testAll N (fileRecords N (drop (at + bytes) testFile)) (storeLeft t))
-      more N t =
-          let b : recordLength N ≡ bytes = sym (length-is N t) in
-          let p : at + bytes - at ≡ bytes = omega arith in
-          sym (g .rest N t)
-          ∙ first-record N testFile ws at (omega (arith, b))
-          ∙ ap (λ (k : ℕ). testStage N (take k (drop at testFile)) ws >>= λ t. testAll N (fileRecords N (drop (at + k) testFile)) (storeLeft t)) b
-          ∙ rw p refl
+      unfolding testAll
+      more N t = sym (g .rest N t) ∙ ap (λ (rs : List (List ℕ)). testAll N rs ws) (this-record N t)
+
+      more-taken : (N : Netlist) → CircuitTables N netlist positions netCounts inputs netCount outputs
+          → takenOf N (fileRecords N testFile) ws₀ ≡ taken + oneMore (testStage N rec ws) (λ t. takenOf N (fileRecords N (drop (at + bytes) testFile)) (storeLeft t))
+      unfolding takenOf
+      more-taken N t = sym (g .counted N t) ∙ ap (λ (rs : List (List ℕ)). taken + takenOf N rs ws) (this-record N t)
 
       pub taking-refused : (w : Refusal) → r ≡ stage.Refused w → (ws″ : List ℕ) → ws″ ≡ replicate (length ws′) 0
-          → FileTaken (file.Refused w) netlist positions netCounts inputs netCount outputs testFile ws₀ ws″ work₀ work′
+          → FileTaken (record { taken = taken; answer = file.Refused w }) netlist positions netCounts inputs netCount outputs testFile ws₀ ws″ work₀ work′
       unfolding leftStore storeAfter C
       taking-refused w q ws″ z =
           let k : ws′ ≡ ws = here .store ∙ ap (λ (a : Answer Tested). after a ws storeLeft) (stage-refuses C rec ws r (here .answer) w q) in
           let l : length ws′ ≡ storeWords = ap (length {A = ℕ}) k ∙ g .ready .memory .storeLength in
           let x : (N : Netlist) → CircuitTables N netlist positions netCounts inputs netCount outputs → testAll N (fileRecords N testFile) ws₀ ≡ refused (refusalNumber w) =
           λ N t. more N t ∙ rw (stage-refuses N rec ws r (s N t .answer) w q) refl in
+          let all : (N : Netlist) → CircuitTables N netlist positions netCounts inputs netCount outputs → takenOf N (fileRecords N testFile) ws₀ ≡ taken + 0 =
+          λ N t. more-taken N t ∙ rw (stage-refuses N rec ws r (s N t .answer) w q) refl in
           record {
-            ofCircuit = λ N t. record { answer = sym (x N t); store = emptied ws″ (length ws′) z l ∙ sym (ap leftStore (x N t)) };
+            ofCircuit = λ N t. record {
+              answer = sym (x N t);
+              store = emptied ws″ (length ws′) z l ∙ sym (ap leftStore (x N t));
+              taken = omega (arith, all N t);
+            };
+            few = omega (arith, g .few, g .within);
             sameLength = here .sameLength ∙ g .sameLength;
             pastWork = here .pastWork ∙ g .pastWork;
           }
@@ -151,13 +179,14 @@ module _ (netlist positions netCounts : List ℕ) (inputs netCount outputs : ℕ
         unfolding C
         passed = checks→ (storeRules (pathTotal C) ws) (record { got = tt; is = g .ready .memory .sound })
 
-        pub taking-next : Taking ws′ work′ (at + bytes)
+        pub taking-next : Taking ws′ work′ (at + bytes) (taken + 1)
         unfolding storeAfter C
         taking-next =
             let l = stage-length C ws (g .ready .memory .storeLength) passed rec (took .got) (took .is) in
             let p = stage-sound C ws (g .ready .memory .storeLength) passed rec (took .got) (took .is) in
             record {
               within = omega (arith, g .within);
+              few = omega (arith, g .few, eb);
               ready = record {
                 circuit = C;
                 tables = g .ready .tables;
@@ -172,6 +201,13 @@ module _ (netlist positions netCounts : List ℕ) (inputs netCount outputs : ℕ
                   let m = stage-took N rec ws r (s N t .answer) q in
                   let w : ws′ ≡ storeLeft (m .got) = s N t .store ∙ ap (λ (x : Answer Tested). after x ws storeLeft) (m .is) in
                   sym (more N t ∙ rw (m .is) (ap (λ (x : List ℕ). testAll N (fileRecords N (drop (at + bytes) testFile)) x) (sym w)));
+              counted = λ N t.
+                  let m = stage-took N rec ws r (s N t .answer) q in
+                  let w : ws′ ≡ storeLeft (m .got) = s N t .store ∙ ap (λ (x : Answer Tested). after x ws storeLeft) (m .is) in
+                  let others : List (List ℕ) = fileRecords N (drop (at + bytes) testFile) in
+                  let all : takenOf N (fileRecords N testFile) ws₀ ≡ taken + (1 + takenOf N others ws′) =
+                  more-taken N t ∙ rw (m .is) (ap (λ (x : List ℕ). taken + (1 + takenOf N others x)) (sym w)) in
+                  omega (arith, all);
               sameLength = here .sameLength ∙ g .sameLength;
               pastWork = here .pastWork ∙ g .pastWork;
             }

@@ -9,11 +9,12 @@ use Rattle.model.specs.Netlist.{Netlist, pathTotal}
 use Rattle.model.specs.Read.{readNetlist}
 use Rattle.model.specs.Refusals.{refusalNumber}
 use Rattle.model.specs.Store.{emptyStore, runsByEdge}
-use Rattle.model.specs.Calls.{workWords}
+use Rattle.model.specs.Calls.{Tested, storeLeft, testStage, workWords}
 use Rattle.model.specs.Report.{fileRecords, wholeRecords, testAll, reportRecord, reportRules}
 use Rattle.netlist.specs.declared.inner.Loaded.{Loaded}
-use Rattle.report.specs.declared.test_file.FileAnswer.{FileAnswer}
-use Rattle.report.specs.declared.test_file.FileAnswer.the-variants as file
+use Rattle.report.specs.declared.inner.test_file.FileAnswer.{FileAnswer}
+use Rattle.report.specs.declared.inner.test_file.FileAnswer.the-variants as file
+use Rattle.report.specs.declared.inner.test_file.TakenRecords.{TakenRecords}
 use Rattle.report.specs.declared.AuditAnswer.{AuditAnswer}
 use Rattle.coverage.specs.Stage.{CircuitTables}
 use Rattle.report.specs.Answers.{auditedOf}
@@ -28,14 +29,26 @@ unfoldable pub leftStore : Answer (List ℕ) → List ℕ
 leftStore (refused n) = emptyStore
 leftStore (value left) = left
 
--- the test calls with the records of a file, made in file order: their answer, and the store afterwards
-pub record FileTrue (r : FileAnswer) (N : Netlist) (testFile ws ws′ : List ℕ) : Type 0 where
-  pub answer : fileOf r ws′ ≡ testAll N (fileRecords N testFile) ws
+-- one record more if a test call is taken, and none once it is refused
+abbrev pub oneMore : Answer Tested → (Tested → ℕ) → ℕ
+oneMore (refused n) others = 0
+oneMore (value d) others = 1 + others d
+
+-- how many of the records the test calls take, made in order, before the first that is refused; all if none is
+unfoldable pub takenOf : Netlist → List (List ℕ) → List ℕ → ℕ
+takenOf N [] ws = 0
+takenOf N (r ∷ rs) ws = oneMore (testStage N r ws) (λ d. takenOf N rs (storeLeft d))
+
+-- the test calls with the records of a file, made in file order: their answer, the store afterwards, and how many were taken
+pub record FileTrue (r : TakenRecords) (N : Netlist) (testFile ws ws′ : List ℕ) : Type 0 where
+  pub answer : fileOf (r .answer) ws′ ≡ testAll N (fileRecords N testFile) ws
   pub store : ws′ ≡ leftStore (testAll N (fileRecords N testFile) ws)
+  pub taken : r .taken ≡ takenOf N (fileRecords N testFile) ws
 
 -- the same of the netlist whose tables are handed over, and what holds of the working memory
-pub record FileTaken (r : FileAnswer) (netlist positions netCounts : List ℕ) (inputs netCount outputs : ℕ) (testFile ws ws′ work work′ : List ℕ) : Type 0 where
+pub record FileTaken (r : TakenRecords) (netlist positions netCounts : List ℕ) (inputs netCount outputs : ℕ) (testFile ws ws′ work work′ : List ℕ) : Type 0 where
   pub ofCircuit : (N : Netlist) → CircuitTables N netlist positions netCounts inputs netCount outputs → FileTrue r N testFile ws ws′
+  pub few : r .taken ≤ length testFile
   pub sameLength : length work′ ≡ length work
   pub pastWork : drop workWords work′ ≡ drop workWords work
 

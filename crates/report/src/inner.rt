@@ -1,4 +1,6 @@
-// A report compared with a store's words in place, for our own crates.
+// The records of a test file, and a report compared with a store's words in place, for our own crates.
+pub mod test_file;
+
 ghost use mathlib.Core.Path.{_≡_};
 ghost use Prim.Native.Nat.{_+_, _*_, _^_, _≤_};
 ghost use lib.ListN.{length, take, drop};

@@ -2,7 +2,6 @@
 pub mod inner;
 mod judging;
 pub mod layout;
-mod test_file;
 mod writing;
 
 pub use judging::judge;
@@ -10,9 +9,9 @@ ghost use Rattle.report.specs.Answers.{WriteTrue, AuditTrue};
 ghost use Rattle.report.specs.TestFile.{AuditReady, FileAudited};
 use crate::inner::Comparison;
 use crate::inner::compare;
-use crate::test_file::FileAnswer;
-use crate::test_file::record_length;
-use crate::test_file::take_records;
+use crate::inner::test_file::FileAnswer;
+use crate::inner::test_file::record_length;
+use crate::inner::test_file::take_records;
 use crate::writing::put_report;
 use model::REPORT_BYTES;
 use model::Refusal;
@@ -129,7 +128,8 @@ fn audit_file(
         store,
         work,
     );
-    match taken {
+    let answer = taken.answer;
+    match answer {
         FileAnswer::Refused(why) => AuditAnswer::Refused(why),
         FileAnswer::Taken => {
             let compared = compare(report, store, count as u64, survey.total);

@@ -29,8 +29,8 @@ returns-2 c = search audit-file-cases
 take-records-requires : tie.Need-take-records-requires
 take-records-requires c κs = search audit-file-cases
 
-enum-known-taken : tie.Need-enum-known-taken
-enum-known-taken c = search needs
+enum-known-answer : tie.Need-enum-known-answer
+enum-known-answer c = search needs
 
 enum-told : tie.Need-enum-told
 enum-told c = search needs
@@ -85,7 +85,7 @@ audit-file-spec =
     div-count
     returns-2
     take-records-requires
-    enum-known-taken
+    enum-known-answer
     enum-told
     compare-requires
     enum-told-2

@@ -1,4 +1,4 @@
-// The records of a test file, one after the other.
+// The records of a test file, one after the other, for our own crates.
 ghost use mathlib.Core.Path.{_≡_};
 ghost use Prim.Native.Nat.{_+_, _*_, _≤_, _<_};
 ghost use Rattle.model.specs.Read.{vectorBytes};
@@ -16,8 +16,14 @@ pub enum FileAnswer {
     Refused(Refusal),
 }
 
+// The number of records taken before the first that was refused, all of them if none was, and what they answer.
+pub struct TakenRecords {
+    pub taken: usize,
+    pub answer: FileAnswer,
+}
+
 // The bytes of a test record.
-pub(crate) fn record_length(inputs: usize) -> usize
+pub fn record_length(inputs: usize) -> usize
     requires { ⌜ inputs ≤ 64 ⌝ }
     ensures { λ r. ⌜ (r ≡ 2 + 2 * vectorBytes inputs) × (2 ≤ r) × (r ≤ 18) ⌝ }
 {
@@ -25,7 +31,7 @@ pub(crate) fn record_length(inputs: usize) -> usize
 }
 
 // The test stage with the records of a file in order. A refused record ends them and empties the store.
-pub(crate) fn take_records(
+pub fn take_records(
     netlist: &[u8],
     positions: &[u16; 512],
     counts: &[u64; 512],
@@ -35,14 +41,15 @@ pub(crate) fn take_records(
     tests: &[u8],
     store: &mut [u64],
     work: &mut [u64],
-) -> FileAnswer
+) -> TakenRecords
     requires { ⌜ StageReady (now netlist) (now positions) (now counts) inputs nets outputs (now store) (now work) ⌝ }
     ensures { λ r. ⌜ FileTaken r (now (netlist .entry)) (now (positions .entry)) (now (counts .entry)) inputs nets outputs (now (tests .entry)) (now (store .entry)) (now (store .exit)) (now (work .entry)) (now (work .exit)) ⌝ }
 {
     let bytes = record_length(inputs);
     let mut at = 0;
+    let mut taken = 0;
     while bytes <= tests.len() - at {
-        let taken = take_test(
+        let stage = take_test(
             netlist,
             positions,
             counts,
@@ -53,15 +60,22 @@ pub(crate) fn take_records(
             store,
             work,
         );
-        match taken {
+        match stage {
             StageAnswer::Refused(why) => {
                 clear(store);
-                return FileAnswer::Refused(why);
+                return TakenRecords {
+                    taken,
+                    answer: FileAnswer::Refused(why),
+                };
             }
             StageAnswer::Taken => {
                 at += bytes;
+                taken += 1;
             }
         }
     }
-    FileAnswer::Taken
+    TakenRecords {
+        taken,
+        answer: FileAnswer::Taken,
+    }
 }

@@ -1,18 +1,18 @@
--- `report::test_file::take_records` meets its contract. The invariant, `Taking`: the records that are left, from the store so far, give the whole.
+-- `report::inner::test_file::take_records` meets its contract. The invariant, `Taking`: the records that are left, from the store so far, give the whole.
 -- Assumes nothing.
 use borrow.Author.Needs.{needs}
 use Prim.Native.Nat.{_-_}
 use lib.ListN.{length}
 use Rattle.report.proofs.FileSteps.{Taking, file-cases}
-use Rattle.report.proofs.test_file.take_records.Statement.{statement}
-use Rattle.report.proofs.test_file.take_records.Tie as tie
+use Rattle.report.proofs.inner.test_file.take_records.Statement.{statement}
+use Rattle.report.proofs.inner.test_file.take_records.Tie as tie
 
 abbrev Inv-loop : tie.InvT-loop
-Inv-loop netlist positions counts inputs nets outputs tests store₀ work₀ bytes at₀ store work at =
-    Taking netlist positions counts inputs nets outputs tests store₀ work₀ store work at
+Inv-loop netlist positions counts inputs nets outputs tests store₀ work₀ bytes at₀ taken₀ store work at taken =
+    Taking netlist positions counts inputs nets outputs tests store₀ work₀ store work at taken
 
 abbrev μ-loop : tie.MeasureT-loop
-μ-loop netlist positions counts inputs nets outputs tests store₀ work₀ bytes at₀ store work at = length tests - at
+μ-loop netlist positions counts inputs nets outputs tests store₀ work₀ bytes at₀ taken₀ store work at taken = length tests - at
 
 record-length-requires : tie.Need-record-length-requires Inv-loop μ-loop
 record-length-requires c κs = search file-cases
@@ -38,8 +38,8 @@ part-take-test-end c = search needs
 take-test-requires : tie.Need-take-test-requires Inv-loop μ-loop
 take-test-requires c κs = search file-cases
 
-enum-known-taken : tie.Need-enum-known-taken Inv-loop μ-loop
-enum-known-taken c = search needs
+enum-known-stage : tie.Need-enum-known-stage Inv-loop μ-loop
+enum-known-stage c = search needs
 
 clear-requires : tie.Need-clear-requires Inv-loop μ-loop
 clear-requires c κs = search needs
@@ -58,6 +58,9 @@ enum-told c = search needs
 
 add-at : tie.Need-add-at Inv-loop μ-loop
 add-at c = search needs
+
+add-taken : tie.Need-add-taken Inv-loop μ-loop
+add-taken c = search needs
 
 loop-less : tie.Need-loop-less Inv-loop μ-loop
 loop-less c = search needs
@@ -88,13 +91,14 @@ take-records-spec =
     part-take-test-start
     part-take-test-end
     take-test-requires
-    enum-known-taken
+    enum-known-stage
     clear-requires
     same-length
     same-length-2
     returns
     enum-told
     add-at
+    add-taken
     loop-less
     loop-again
     same-length-3
