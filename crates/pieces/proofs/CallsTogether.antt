@@ -1,0 +1,210 @@
+-- The public calls together are the audit of the whole file: what a caller keeps after each piece is the state of the test calls so far, and the
+-- store passes its rules.
+-- Assumes nothing.
+use mathlib.Core.Path.{_≡_, refl, ap, ap₂, sym, _∙_, subst}
+use mathlib.Core.Bool.{Bool, true, false}
+use mathlib.Core.List.{List, [], _∷_}
+use Prim.Native.Nat.{ℕ, zero, suc, _+_, _<_}
+use native.Mathlib.Omega.{arith}
+use borrow.Author.Tests.{eq-eqb, ne-eqb}
+use lib.Dec.{eqb}
+use lib.ListN.{length, drop}
+use Rattle.model.specs.Base.{Answer, refused, value, _>>=_, _>>_, checks, passes}
+use Rattle.model.specs.Netlist.{Netlist, pathTotal}
+use Rattle.model.specs.Read.{readNetlist}
+use Rattle.model.specs.Refusals.{refusalNumber}
+use Rattle.model.specs.Store.{storeWords, emptyStore, storeRules}
+use Rattle.model.specs.Calls.{workWords, storeRule}
+use Rattle.model.specs.Report.{fileRecords, testAll}
+use Rattle.model.specs.declared.Refusal.{Refusal}
+use Rattle.model.proofs.AnswerLaws.{not-refused, value-inj}
+use Rattle.model.proofs.RefusalLaws.{refused-over, all-over}
+use Rattle.coverage.specs.Stage.{MemoryReady}
+use Rattle.coverage.proofs.TestCallLaws.{refused-by, taken-by}
+use Rattle.report.specs.TestFile.{leftStore, takenOf}
+use Rattle.pieces.specs.declared.BeginAnswer.the-variants as beginning
+use Rattle.pieces.specs.declared.PieceAnswer.{PieceAnswer}
+use Rattle.pieces.specs.declared.PieceAnswer.the-variants as piece
+use Rattle.pieces.specs.declared.EndAnswer.{EndAnswer}
+use Rattle.pieces.specs.Steps.{lentRules, withPiece, takenWith, endOf}
+use Rattle.pieces.specs.Calls.{RecordsSaid, pieceOf, recordsSaid, storeChecked, pieceAnswer, pieceCall, pieceLeft, PieceTrue}
+use Rattle.pieces.specs.Calls.{soFar, endLegal, endStage, endCall, endAnswer, endStore, EndTrue}
+use Rattle.pieces.specs.Together.{joined, withPieces, MadeCall, callBytes, firstOf, takenIn, HandedOver, lastFirst, lastTaken, lastStore, lastMemory}
+use Rattle.pieces.specs.Together.{OnlyByRecords, PiecesMade, WholeAudit}
+use Rattle.pieces.proofs.StepCases.{lent-passed, left-memory}
+use Rattle.pieces.proofs.TogetherHolds.{pieces-joined, end-answer, end-store, end-work, begun-lent, begun-empty, begun-memory}
+use Rattle.pieces.proofs.TakenLaws.{takenWiths, taken-whole}
+
+-- One call on a legal netlist and a store that no rule refuses
+module _ (netlist : List ℕ) (N : Netlist) (e : readNetlist netlist ≡ value N) (bytes ws ws′ work work′ : List ℕ) (m : MemoryReady N ws work)
+    (r : PieceAnswer) (t : PieceTrue r netlist bytes ws ws′ work work′) where
+  abbrev tests : Answer (List ℕ)
+  tests = testAll N (fileRecords N bytes) ws
+
+  lent : lentRules ws work ≡ value tt
+  lent = lent-passed ws work (m .storeLength) (m .workLength)
+
+  said : pieceOf r ≡ value (recordsSaid N bytes ws)
+  unfolding pieceAnswer
+  said = t .answer ∙ rw (lent, e) (rw (m .sound) refl)
+
+  left-is : ws′ ≡ leftStore tests
+  unfolding pieceLeft pieceCall
+  left-is = t .store ∙ rw (lent, e) (rw (m .sound) refl)
+
+  pub memory-then : MemoryReady N ws′ work′
+  memory-then = subst (λ (s : List ℕ). MemoryReady N s work′) (sym left-is) (left-memory N ws work work′ m (t .memory .sameLength) (fileRecords N bytes))
+
+  -- it is not refused before its records
+  pub not-before : (w : Refusal) → r ≡ piece.Refused w → ⊥
+  not-before w q = not-refused (sym (ap pieceOf q) ∙ said)
+
+  state-by : (a : PieceAnswer) → pieceOf a ≡ value (recordsSaid N bytes ws) → soFar (firstOf a) ws′ ≡ tests
+  unfolding recordsSaid soFar leftStore
+  state-by (piece.Taken k) q =
+      let p : value tt ≡ passes tests = ap (λ (x : RecordsSaid). x .said) (value-inj q) in
+      let g = taken-by tests p in
+      ap (λ (s : List ℕ). value s) (left-is ∙ ap leftStore (g .is)) ∙ sym (g .is)
+  state-by (piece.RecordRefused k w) q =
+      let p : refused (refusalNumber w) ≡ passes tests = ap (λ (x : RecordsSaid). x .said) (value-inj q) in
+      let g : tests ≡ refused (refusalNumber w) = refused-by tests (refusalNumber w) p in
+      let o : 2 < refusalNumber w = refused-over 2 (refusalNumber w) tests (all-over N (fileRecords N bytes) ws) g in
+      let z : eqb (refusalNumber w) 0 ≡ false = ne-eqb (refusalNumber w) 0 (λ h. absurd (omega (arith, o, h))) in
+      rw (z, soFar) (sym g)
+  state-by (piece.Refused w) q = absurd (not-refused q)
+
+  pub state-then : soFar (firstOf r) ws′ ≡ withPiece N bytes (value ws)
+  unfolding withPiece
+  state-then = state-by r said
+
+  taken-by-answer : (a : PieceAnswer) → pieceOf a ≡ value (recordsSaid N bytes ws) → takenIn a ≡ takenOf N (fileRecords N bytes) ws
+  unfolding recordsSaid
+  taken-by-answer (piece.Taken k) q = ap (λ (x : RecordsSaid). x .taken) (value-inj q)
+  taken-by-answer (piece.RecordRefused k w) q = ap (λ (x : RecordsSaid). x .taken) (value-inj q)
+  taken-by-answer (piece.Refused w) q = absurd (not-refused q)
+
+  pub taken-then : takenIn r ≡ takenOf N (fileRecords N bytes) ws
+  taken-then = taken-by-answer r said
+
+-- What holds after a list of calls
+record AfterCalls (N : Netlist) (first : ℕ) (ws work : List ℕ) (ms : List MadeCall) : Type 0 where
+  pub state : soFar (lastFirst first ms) (lastStore ws ms) ≡ withPieces N (callBytes ms) (soFar first ws)
+  pub memory : MemoryReady N (lastStore ws ms) (lastMemory work ms)
+  pub sameLength : length (lastMemory work ms) ≡ length work
+  pub pastWork : drop workWords (lastMemory work ms) ≡ drop workWords work
+  pub taken : (k : ℕ) → lastTaken first k ms ≡ takenWiths N (callBytes ms) (soFar first ws) k
+  pub byRecords : OnlyByRecords first ms
+
+-- once there is a refusal, nothing changes
+module _ (N : Netlist) (n : ℕ) where
+  refused-so-far : (ws : List ℕ) → soFar (suc n) ws ≡ refused (suc n)
+  unfolding soFar
+  refused-so-far ws = rw (ne-eqb (suc n) 0 (λ h. absurd (omega (arith, h))), soFar) refl
+
+  kept-state : (bytes ws left : List ℕ) → soFar (suc n) left ≡ withPiece N bytes (soFar (suc n) ws)
+  unfolding withPiece
+  kept-state bytes ws left = refused-so-far left ∙ sym (ap (withPiece N bytes) (refused-so-far ws))
+
+  kept-taken : (bytes ws : List ℕ) (k : ℕ) → k ≡ takenWith N bytes (soFar (suc n) ws) k
+  unfolding takenWith
+  kept-taken bytes ws k = sym (ap (λ (x : Answer (List ℕ)). takenWith N bytes x k) (refused-so-far ws))
+
+after-calls : (netlist : List ℕ) (N : Netlist) → readNetlist netlist ≡ value N → (ms : List MadeCall) (first : ℕ) (ws work : List ℕ)
+    → MemoryReady N ws work → HandedOver netlist first ws work ms → AfterCalls N first ws work ms
+unfolding withPieces withPiece takenWith soFar
+after-calls netlist N e [] zero ws work m p = record { state = refl; memory = m; sameLength = refl; pastWork = refl; taken = λ k. refl; byRecords = tt }
+after-calls netlist N e [] (suc n) ws work m p = record { state = refl; memory = m; sameLength = refl; pastWork = refl; taken = λ k. refl; byRecords = tt }
+after-calls netlist N e (c ∷ cs) zero ws work m p =
+    let t = p .0 in
+    let s = state-then netlist N e (c .bytes) ws (c .left) work (c .workLeft) m (c .answer) t in
+    let m′ = memory-then netlist N e (c .bytes) ws (c .left) work (c .workLeft) m (c .answer) t in
+    let i = after-calls netlist N e cs (firstOf (c .answer)) (c .left) (c .workLeft) m′ (p .1) in
+    record {
+      state = i .state ∙ ap (withPieces N (callBytes cs)) s;
+      memory = i .memory;
+      sameLength = i .sameLength ∙ t .memory .sameLength;
+      pastWork = i .pastWork ∙ t .memory .pastWork;
+      taken = λ k. i .taken (k + takenIn (c .answer))
+          ∙ ap₂ (λ x j. takenWiths N (callBytes cs) x (k + j)) s (taken-then netlist N e (c .bytes) ws (c .left) work (c .workLeft) m (c .answer) t);
+      byRecords = (not-before netlist N e (c .bytes) ws (c .left) work (c .workLeft) m (c .answer) t, i .byRecords);
+    }
+after-calls netlist N e (c ∷ cs) (suc n) ws work m p =
+    let m′ = subst (λ (s : List ℕ). MemoryReady N s (c .workLeft)) (sym (p .0)) (subst (λ (w : List ℕ). MemoryReady N ws w) (sym (p .1)) m) in
+    let i = after-calls netlist N e cs (suc n) (c .left) (c .workLeft) m′ (p .2) in
+    record {
+      state = i .state ∙ ap (withPieces N (callBytes cs)) (kept-state N n (c .bytes) ws (c .left));
+      memory = i .memory;
+      sameLength = i .sameLength ∙ ap (length {A = ℕ}) (p .1);
+      pastWork = i .pastWork ∙ ap (λ (w : List ℕ). drop workWords w) (p .1);
+      taken = λ k. i .taken k ∙ ap₂ (λ x j. takenWiths N (callBytes cs) x j) (kept-state N n (c .bytes) ws (c .left)) (kept-taken N n (c .bytes) ws k);
+      byRecords = i .byRecords;
+    }
+
+-- a store that no rule refuses is taken as it is
+checked-state : (b : Bool) (paths first : ℕ) (ws : List ℕ) → checks (storeRules paths ws) ≡ value tt
+    → (elim b [ true ↦ value ws | false ↦ refused first ] >>= λ left. storeChecked paths left) ≡ elim b [ true ↦ value ws | false ↦ refused first ]
+checked-state true paths first ws s = rw s refl
+checked-state false paths first ws s = refl
+
+-- The end of such calls
+module _ (netlist : List ℕ) (N : Netlist) (e : readNetlist netlist ≡ value N) (total first : ℕ) (report ws work : List ℕ) (m : MemoryReady N ws work) where
+  pub end-is : endCall netlist total first report ws ≡ endOf N total report (soFar first ws)
+  unfolding endCall endStage endLegal soFar
+  end-is =
+      let l : checks (storeRule ws ∷ []) ≡ value tt = rw (eq-eqb (length ws) storeWords (m .storeLength)) refl in
+      rw (l, e) (ap (λ (x : Answer (List ℕ)). endOf N total report x) (checked-state (eqb first 0) (pathTotal N) first ws (m .sound)))
+
+  pub end-left-is : endStore netlist total first report ws ≡ leftStore (endOf N total report (soFar first ws))
+  unfolding endStore
+  end-left-is =
+      let l : checks (storeRule ws ∷ []) ≡ value tt = rw (eq-eqb (length ws) storeWords (m .storeLength)) refl in
+      rw l (ap leftStore end-is)
+
+-- The pieces that were made
+module _ (netlist : List ℕ) (ms : List MadeCall) (ws work : List ℕ) (p : PiecesMade netlist ms ws work) where
+  lent-then : lentRules ws work ≡ value tt
+  lent-then = begun-lent netlist ws (p .emptied) work beginning.Ready (p .begins .answer) refl
+
+  empty-then : p .emptied ≡ emptyStore
+  empty-then = begun-empty netlist ws (p .emptied) work beginning.Ready (p .begins .answer) refl (p .begins .store)
+
+  done : AfterCalls (p .circuit) 0 (p .emptied) work ms
+  done = after-calls netlist (p .circuit) (p .legal) ms 0 (p .emptied) work
+      (begun-memory netlist ws (p .emptied) work beginning.Ready (p .begins .answer) refl (p .circuit) (p .begins .store)) (p .takes)
+
+  pub never-for-store : OnlyByRecords 0 ms
+  never-for-store = done .byRecords
+
+  pub call-places : lastTaken 0 0 ms ≡ takenOf (p .circuit) (fileRecords (p .circuit) (joined (callBytes ms))) emptyStore
+  unfolding soFar
+  call-places =
+      done .taken 0
+      ∙ ap (λ (s : List ℕ). takenWiths (p .circuit) (callBytes ms) (value s) 0) empty-then
+      ∙ taken-whole (p .circuit) (callBytes ms) (p .whole) emptyStore
+
+  state-last : soFar (lastFirst 0 ms) (lastStore (p .emptied) ms) ≡ withPiece (p .circuit) (joined (callBytes ms)) (value emptyStore)
+  unfolding soFar
+  state-last =
+      done .state
+      ∙ pieces-joined (p .circuit) (callBytes ms) (p .whole) (value (p .emptied))
+      ∙ ap (λ (s : List ℕ). withPiece (p .circuit) (joined (callBytes ms)) (value s)) empty-then
+
+  -- and the end
+  module _ (report ws′ : List ℕ) (r : EndAnswer)
+      (t : EndTrue r netlist (length (joined (callBytes ms))) (lastFirst 0 ms) report (lastStore (p .emptied) ms) ws′) where
+    pub calls-made : WholeAudit r netlist (joined (callBytes ms)) report ws ws′ work (lastMemory work ms)
+    unfolding endAnswer
+    calls-made =
+        let N : Netlist = p .circuit in
+        let testFile : List ℕ = joined (callBytes ms) in
+        let total : ℕ = length testFile in
+        let left : List ℕ = lastStore (p .emptied) ms in
+        let is = end-is netlist N (p .legal) total (lastFirst 0 ms) report left (lastMemory work ms) (done .memory) in
+        let left-is = end-left-is netlist N (p .legal) total (lastFirst 0 ms) report left (lastMemory work ms) (done .memory) in
+        record {
+          answer = t .answer ∙ ap (λ (x : Answer (List ℕ)). passes x) (is ∙ ap (λ (x : Answer (List ℕ)). endOf N total report x) state-last)
+              ∙ end-answer netlist testFile report ws work N (p .legal) lent-then;
+          store = t .store ∙ left-is ∙ ap (λ (x : Answer (List ℕ)). leftStore (endOf N total report x)) state-last
+              ∙ end-store netlist testFile report ws work N (p .legal) lent-then;
+          work = end-work netlist testFile report ws work N (p .legal) lent-then (lastMemory work ms) (done .sameLength) (done .pastWork);
+        }

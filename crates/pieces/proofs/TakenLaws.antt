@@ -1,0 +1,117 @@
+-- The number of records taken: piece after piece it is that of the whole file.
+-- Assumes nothing.
+use mathlib.Core.Path.{_≡_, refl, ap, ap₂, sym, _∙_}
+use mathlib.Core.List.{List, [], _∷_, _++_, append-nil}
+use Prim.Native.Nat.{ℕ, zero, suc, _+_, _*_, _/_, _%_, _≤_, _<_}
+use native.Mathlib.Nat.{zero-add, suc-add, suc-mul, mul-add-div-right, mod-add-div, mul-comm, div-eq-of-lt}
+use native.Mathlib.Omega.{arith}
+use lib.ListN.{length, take, drop, length-append, length-drop}
+use lib.Seq.{take-append-le, drop-append-le}
+use Rattle.model.specs.Base.{Answer, refused, value, _>>=_}
+use Rattle.model.specs.Netlist.{Netlist}
+use Rattle.model.specs.Read.{readNetlist, recordLength}
+use Rattle.model.specs.Store.{storeOf}
+use Rattle.model.specs.Calls.{Tested, testStage}
+use Rattle.model.specs.Report.{records, fileRecords, testAll}
+use Rattle.netlist.specs.declared.inner.Loaded.{Loaded}
+use Rattle.report.specs.TestFile.{fileOf, oneMore, takenOf}
+use Rattle.report.specs.declared.inner.test_file.TakenRecords.{TakenRecords}
+use Rattle.pieces.specs.Steps.{withPiece, takenWith}
+use Rattle.pieces.specs.Together.{joined, WholeButLast, MadePiece, bytesOf, Promised, lastAnswer}
+
+-- the records of a piece, then those of the rest
+records-append : (len m n : ℕ) (a b : List ℕ) → length a ≡ m * len → records len (m + n) (a ++ b) ≡ records len m a ++ records len n b
+records-append len zero n [] b q = ap (λ (k : ℕ). records len k b) (zero-add n)
+records-append len zero n (x ∷ a) b q = absurd (omega (arith, q))
+records-append len (suc m) n a b q =
+    let l : length a ≡ m * len + len = q ∙ suc-mul m len in
+    let h : len ≤ length a = omega (arith, l) in
+    let d : length (drop len a) ≡ m * len = omega (arith, l, length-drop len a) in
+    ap (λ (k : ℕ). records len k (a ++ b)) (suc-add m n)
+    ∙ ap₂ {C = List (List ℕ)} (λ (r s : List ℕ). r ∷ records len (m + n) s) (take-append-le len a b h) (drop-append-le len a b h)
+    ∙ ap {B = List (List ℕ)} (λ (rs : List (List ℕ)). take len a ∷ rs) (records-append len m n (drop len a) b d)
+
+file-append : (N : Netlist) (piece rest : List ℕ) → length piece % recordLength N ≡ 0 → fileRecords N (piece ++ rest) ≡ fileRecords N piece ++ fileRecords N rest
+file-append N piece rest h =
+    let len : ℕ = recordLength N in
+    let m : ℕ = length piece / len in
+    let pos : zero < len = omega arith in
+    let whole : length piece ≡ m * len = omega (arith, h, mod-add-div (length piece) len, mul-comm len m) in
+    let l : length (piece ++ rest) ≡ m * len + length rest = omega (arith, length-append piece rest, whole) in
+    let n : length (piece ++ rest) / len ≡ m + length rest / len = ap (λ (k : ℕ). k / len) l ∙ mul-add-div-right pos m (length rest) in
+    ap (λ (k : ℕ). records len k (piece ++ rest)) n ∙ records-append len m (length rest / len) piece rest whole
+
+-- the records `qs` after those that answered `x`
+abbrev takenThen : Netlist → List (List ℕ) → Answer (List ℕ) → ℕ → ℕ
+takenThen N qs (refused n) k = k
+takenThen N qs (value left) k = k + takenOf N qs left
+
+then-more : (N : Netlist) (qs : List (List ℕ)) (x : Answer (List ℕ)) (j k : ℕ) → j + takenThen N qs x k ≡ takenThen N qs x (j + k)
+then-more N qs (refused n) j k = refl
+then-more N qs (value left) j k = omega arith
+
+-- one record, then the others
+taken-one : (N : Netlist) (qs : List (List ℕ)) (x : Answer Tested) (f g : List ℕ → ℕ) (h : List ℕ → Answer (List ℕ))
+    → ((ws : List ℕ) → f ws ≡ takenThen N qs (h ws) (g ws))
+    → oneMore x (λ d. f (storeOf (d .runs))) ≡ takenThen N qs (x >>= λ d. h (storeOf (d .runs))) (oneMore x (λ d. g (storeOf (d .runs))))
+taken-one N qs (refused n) f g h q = refl
+taken-one N qs (value d) f g h q =
+    let ws : List ℕ = storeOf (d .runs) in
+    ap (λ (k : ℕ). 1 + k) (q ws) ∙ then-more N qs (h ws) 1 (g ws)
+
+taken-append : (N : Netlist) (rs qs : List (List ℕ)) (ws : List ℕ) → takenOf N (rs ++ qs) ws ≡ takenThen N qs (testAll N rs ws) (takenOf N rs ws)
+unfolding takenOf testAll
+taken-append N [] qs ws = sym (zero-add (takenOf N qs ws))
+taken-append N (r ∷ rs) qs ws =
+    taken-one N qs (testStage N r ws) (λ v. takenOf N (rs ++ qs) v) (λ v. takenOf N rs v) (λ v. testAll N rs v) (λ v. taken-append N rs qs v)
+
+as-then : (N : Netlist) (piece : List ℕ) (x : Answer (List ℕ)) (k : ℕ) → takenWith N piece x k ≡ takenThen N (fileRecords N piece) x k
+unfolding takenWith
+as-then N piece (refused n) k = refl
+as-then N piece (value left) k = refl
+
+-- a piece of whole records, then another
+taken-both : (N : Netlist) (piece rest : List ℕ) (x : Answer (List ℕ)) (k : ℕ) → length piece % recordLength N ≡ 0
+    → takenWith N rest (withPiece N piece x) (takenWith N piece x k) ≡ takenWith N (piece ++ rest) x k
+unfolding withPiece takenWith
+taken-both N piece rest (refused n) k h = refl
+taken-both N piece rest (value ws) k h =
+    let x : Answer (List ℕ) = testAll N (fileRecords N piece) ws in
+    let qs : List (List ℕ) = fileRecords N rest in
+    as-then N rest x (k + takenOf N (fileRecords N piece) ws)
+    ∙ sym (then-more N qs x k (takenOf N (fileRecords N piece) ws))
+    ∙ ap (λ (j : ℕ). k + j) (sym (taken-append N (fileRecords N piece) qs ws))
+    ∙ ap (λ (rs : List (List ℕ)). k + takenOf N rs ws) (sym (file-append N piece rest h))
+
+-- no piece
+taken-none : (N : Netlist) (x : Answer (List ℕ)) (k : ℕ) → k ≡ takenWith N [] x k
+unfolding takenWith takenOf
+taken-none N (refused n) k = refl
+taken-none N (value ws) k =
+    let d : 0 / recordLength N ≡ 0 = div-eq-of-lt {n = 0} {m = recordLength N} (omega arith) in
+    let z : takenOf N (fileRecords N []) ws ≡ 0 = ap (λ (i : ℕ). takenOf N (records (recordLength N) i []) ws) d in
+    omega (arith, z)
+
+-- the pieces in order
+abbrev pub takenWiths : Netlist → List (List ℕ) → Answer (List ℕ) → ℕ → ℕ
+takenWiths N [] x k = k
+takenWiths N (p ∷ ps) x k = takenWiths N ps (withPiece N p x) (takenWith N p x k)
+
+taken-joined : (N : Netlist) (ps : List (List ℕ)) → WholeButLast N ps → (x : Answer (List ℕ)) (k : ℕ) → takenWiths N ps x k ≡ takenWith N (joined ps) x k
+taken-joined N [] h x k = taken-none N x k
+taken-joined N (p ∷ []) h x k = ap (λ (b : List ℕ). takenWith N b x k) (sym (append-nil p))
+taken-joined N (p ∷ q ∷ ps) h x k = taken-joined N (q ∷ ps) (h .1) (withPiece N p x) (takenWith N p x k) ∙ taken-both N p (joined (q ∷ ps)) x k (h .0)
+
+-- from a store, and none taken before
+pub taken-whole : (N : Netlist) (ps : List (List ℕ)) → WholeButLast N ps → (ws : List ℕ) → takenWiths N ps (value ws) 0 ≡ takenOf N (fileRecords N (joined ps)) ws
+unfolding takenWith
+taken-whole N ps h ws = taken-joined N ps h (value ws) 0 ∙ zero-add (takenOf N (fileRecords N (joined ps)) ws)
+
+-- of the values that the pieces return
+pub last-taken : (netlist : List ℕ) (loaded : Loaded) (N : Netlist) → readNetlist netlist ≡ value N
+    → (before : TakenRecords) (ws work : List ℕ) (ms : List MadePiece) → Promised netlist loaded before ws work ms
+    → lastAnswer before ms .taken ≡ takenWiths N (bytesOf ms) (fileOf (before .answer) ws) (before .taken)
+last-taken netlist loaded N e before ws work [] p = refl
+last-taken netlist loaded N e before ws work (m ∷ ms) p =
+    last-taken netlist loaded N e (m .answer) (m .left) (m .workLeft) ms (p .1)
+    ∙ ap₂ (λ x k. takenWiths N (bytesOf ms) x k) (p .0 .answer N e) (p .0 .taken N e)

@@ -1,0 +1,219 @@
+-- The steps together are the audit of the whole file: the state after each piece is that of the test calls with all records so far.
+-- Assumes nothing.
+use mathlib.Core.Path.{_≡_, refl, ap, ap₂, sym, _∙_, subst}
+use mathlib.Core.List.{List, [], _∷_, _++_, append-nil}
+use Prim.Native.Nat.{ℕ, _+_, _/_, _%_}
+use native.Mathlib.Nat.{div-eq-of-lt}
+use native.Mathlib.Omega.{arith}
+use lib.Dec.{leb→le}
+use lib.ListN.{length, drop}
+use Rattle.model.specs.Base.{Answer, refused, value, _>>=_, _>>_, checks, passes}
+use Rattle.model.specs.Netlist.{Netlist}
+use Rattle.model.specs.Read.{readNetlist, recordLength}
+use Rattle.model.specs.Refusals.{refusalNumber}
+use Rattle.model.specs.Store.{emptyStore}
+use Rattle.model.specs.Calls.{workWords, storeRule, workRule, beforeTest, WorkAfter}
+use Rattle.model.specs.Report.{records, testAll, auditCall, auditAnswer, auditStore}
+use Rattle.model.proofs.AnswerLaws.{checks→, then-first, not-refused}
+use Rattle.model.proofs.RefusalLaws.{audit-found, audit-emptied, audit-kept}
+use Rattle.model.proofs.PieceLaws.{piece-first}
+use Rattle.netlist.specs.Places.{positionsOf}
+use Rattle.netlist.specs.declared.SurveyAnswer.{SurveyAnswer}
+use Rattle.netlist.specs.declared.SurveyAnswer.the-variants as survey
+use Rattle.netlist.specs.declared.inner.Loaded.{Loaded}
+use Rattle.netlist.proofs.LoadLaws.{loaded-legal, loaded-refused}
+use Rattle.coverage.specs.Stage.{MemoryReady}
+use Rattle.report.specs.Answers.{AuditTrue}
+use Rattle.report.specs.TestFile.{fileOf, leftStore, auditFile}
+use Rattle.report.specs.declared.AuditAnswer.{AuditAnswer}
+use Rattle.report.specs.declared.inner.test_file.TakenRecords.{TakenRecords}
+use Rattle.report.proofs.FileSteps.{length-records}
+use Rattle.pieces.specs.declared.BeginAnswer.{BeginAnswer}
+use Rattle.pieces.specs.declared.BeginAnswer.the-variants as beginning
+use Rattle.pieces.specs.declared.inner.Begun.{Begun}
+use Rattle.pieces.specs.Steps.{BeginTrue, begunOf, lentRules, beginAnswer, beginStore, Ready, withPiece, endBy, endOf}
+use Rattle.pieces.specs.Together.{joined, WholeButLast, withPieces, piecesCall, MadePiece, bytesOf, noRecords, Promised, lastAnswer, lastLeft, lastWork, StepsMade}
+use Rattle.pieces.proofs.StepCases.{empty-memory}
+
+-- no piece changes nothing
+pub no-bytes : (N : Netlist) (x : Answer (List ℕ)) → withPiece N [] x ≡ x
+unfolding withPiece testAll
+no-bytes N (refused n) = refl
+no-bytes N (value ws) =
+    let d : 0 / recordLength N ≡ 0 = div-eq-of-lt {n = 0} {m = recordLength N} (omega arith) in
+    ap (λ (k : ℕ). testAll N (records (recordLength N) k []) ws) d
+
+-- a piece of whole records, then another
+pub piece-then : (N : Netlist) (piece rest : List ℕ) (x : Answer (List ℕ)) → length piece % recordLength N ≡ 0
+    → withPiece N rest (withPiece N piece x) ≡ withPiece N (piece ++ rest) x
+unfolding withPiece
+piece-then N piece rest (refused n) h = refl
+piece-then N piece rest (value ws) h = sym (piece-first N piece rest ws h)
+
+-- The pieces of a file, one after the other, are the file
+pub pieces-joined : (N : Netlist) (ps : List (List ℕ)) → WholeButLast N ps → (x : Answer (List ℕ)) → withPieces N ps x ≡ withPiece N (joined ps) x
+unfolding withPieces
+pieces-joined N [] h x = sym (no-bytes N x)
+pieces-joined N (p ∷ []) h x = ap (λ (b : List ℕ). withPiece N b x) (sym (append-nil p))
+pieces-joined N (p ∷ q ∷ ps) h x = pieces-joined N (q ∷ ps) (h .1) (withPiece N p x) ∙ piece-then N p (joined (q ∷ ps)) x (h .0)
+
+-- The end of a file that was taken whole is the audit from 33 on
+pub end-file : (N : Netlist) (testFile report : List ℕ) → endOf N (length testFile) report (withPiece N testFile (value emptyStore)) ≡ auditFile N testFile report
+unfolding endBy withPiece auditFile
+end-file N testFile report =
+    rw (length-records (recordLength N) (length testFile / recordLength N) testFile) refl
+
+-- The definitions
+pub calls-joined : (netlist : List ℕ) (N : Netlist) → readNetlist netlist ≡ value N → (pieces : List (List ℕ)) → WholeButLast N pieces
+    → (report ws work : List ℕ) → piecesCall netlist pieces report ws work ≡ auditCall netlist (joined pieces) report ws work
+unfolding piecesCall auditCall auditFile
+calls-joined netlist N e pieces h report ws work =
+    let a : endOf N (length (joined pieces)) report (withPieces N pieces (value emptyStore)) ≡ auditFile N (joined pieces) report =
+    ap (λ (x : Answer (List ℕ)). endOf N (length (joined pieces)) report x) (pieces-joined N pieces h (value emptyStore)) ∙ end-file N (joined pieces) report in
+    go (checks (storeRule ws ∷ workRule work ∷ [])) a
+  where
+    go : (lent : Answer (Unit {0})) → endOf N (length (joined pieces)) report (withPieces N pieces (value emptyStore)) ≡ auditFile N (joined pieces) report
+        → (lent >> readNetlist netlist >>= λ M. endOf M (length (joined pieces)) report (withPieces M pieces (value emptyStore)))
+        ≡ (lent >> readNetlist netlist >>= λ M. auditFile M (joined pieces) report)
+    go (refused n) a = refl
+    go (value u) a = rw e a
+
+-- The values that the pieces return: the state after them, and the working memory
+module _ (netlist : List ℕ) (loaded : Loaded) (N : Netlist) (e : readNetlist netlist ≡ value N) where
+  pub last-state : (before : TakenRecords) (ws work : List ℕ) (ms : List MadePiece) → Promised netlist loaded before ws work ms
+      → fileOf (lastAnswer before ms .answer) (lastLeft ws ms) ≡ withPieces N (bytesOf ms) (fileOf (before .answer) ws)
+  unfolding withPieces
+  last-state before ws work [] p = refl
+  last-state before ws work (m ∷ ms) p =
+      last-state (m .answer) (m .left) (m .workLeft) ms (p .1) ∙ ap (withPieces N (bytesOf ms)) (p .0 .answer N e)
+
+  pub last-length : (before : TakenRecords) (ws work : List ℕ) (ms : List MadePiece) → Promised netlist loaded before ws work ms
+      → length (lastWork work ms) ≡ length work
+  last-length before ws work [] p = refl
+  last-length before ws work (m ∷ ms) p = last-length (m .answer) (m .left) (m .workLeft) ms (p .1) ∙ p .0 .sameLength
+
+  pub last-past : (before : TakenRecords) (ws work : List ℕ) (ms : List MadePiece) → Promised netlist loaded before ws work ms
+      → drop workWords (lastWork work ms) ≡ drop workWords work
+  last-past before ws work [] p = refl
+  last-past before ws work (m ∷ ms) p = last-past (m .answer) (m .left) (m .workLeft) ms (p .1) ∙ p .0 .pastWork
+
+-- An audit whose beginning passed, by its end
+module _ (netlist testFile report ws work : List ℕ) (N : Netlist) (e : readNetlist netlist ≡ value N) (l : lentRules ws work ≡ value tt) where
+  abbrev atEnd : Answer (List ℕ)
+  atEnd = endOf N (length testFile) report (withPiece N testFile (value emptyStore))
+
+  is-file : auditCall netlist testFile report ws work ≡ auditFile N testFile report
+  unfolding auditCall auditFile
+  is-file = rw (l, e) refl
+
+  left-store : (x : Answer (List ℕ)) → auditCall netlist testFile report ws work ≡ x → leftStore x ≡ auditStore netlist testFile report ws work
+  unfolding leftStore
+  left-store (refused n) q = sym (audit-emptied netlist testFile report ws work n l q)
+  left-store (value w) q = sym (audit-kept netlist testFile report ws work w q)
+
+  pub end-answer : passes atEnd ≡ auditAnswer netlist testFile report ws work
+  unfolding auditAnswer
+  end-answer = ap (λ (x : Answer (List ℕ)). passes x) (end-file N testFile report ∙ sym is-file)
+
+  pub end-store : leftStore atEnd ≡ auditStore netlist testFile report ws work
+  end-store = ap leftStore (end-file N testFile report) ∙ left-store (auditFile N testFile report) is-file
+
+  pub end-work : (work′ : List ℕ) → length work′ ≡ length work → drop workWords work′ ≡ drop workWords work → WorkAfter netlist ws work work′
+  end-work work′ k p =
+      let before : beforeTest netlist ws work ≡ value N = rw (l, e) refl in
+      record { sameLength = k; pastWork = p; notReached = λ n q. absurd (not-refused (sym q ∙ before)) }
+
+-- a beginning that passed
+module _ (netlist ws ws₀ work : List ℕ) (b : BeginAnswer) (a : begunOf b ≡ beginAnswer netlist ws work) (q : b ≡ beginning.Ready) where
+  pub begun-lent : lentRules ws work ≡ value tt
+  unfolding beginAnswer
+  begun-lent =
+      let p : value tt ≡ passes (beforeTest netlist ws work) = sym (ap begunOf q) ∙ a in
+      let f = then-first (lentRules ws work >> readNetlist netlist) (value tt) (sym p) in
+      then-first (lentRules ws work) (readNetlist netlist) (f .is) .is
+
+  pub begun-empty : ws₀ ≡ beginStore ws work → ws₀ ≡ emptyStore
+  unfolding beginStore
+  begun-empty s = s ∙ rw begun-lent refl
+
+  pub begun-memory : (N : Netlist) → ws₀ ≡ beginStore ws work → MemoryReady N ws₀ work
+  begun-memory N s =
+      let p = checks→ (storeRule ws ∷ workRule work ∷ []) (record { got = tt; is = begun-lent }) in
+      subst (λ (x : List ℕ). MemoryReady N x work) (sym (begun-empty s)) (empty-memory N work (leb→le workWords (length work) (p .1 .0)))
+
+-- The steps that were made
+pub pieces-made : (netlist : List ℕ) (ms : List MadePiece) (report ws ws′ work : List ℕ) (r : AuditAnswer) → StepsMade netlist ms report ws ws′ work r
+    → AuditTrue r netlist (joined (bytesOf ms)) report ws ws′ work (lastWork work ms)
+pieces-made netlist ms report ws ws′ work r m =
+    let N : Netlist = m .circuit in
+    let testFile : List ℕ = joined (bytesOf ms) in
+    let ws₀ : List ℕ = m .emptied in
+    let loaded : Loaded = m .begun .loaded in
+    let lent = begun-lent netlist ws ws₀ work (m .begun .answer) (m .begins .answer) (m .isReady) in
+    let empty = begun-empty netlist ws ws₀ work (m .begun .answer) (m .begins .answer) (m .isReady) (m .begins .store) in
+    let s : fileOf (lastAnswer noRecords ms .answer) (lastLeft ws₀ ms) ≡ withPiece N testFile (value emptyStore) =
+    last-state netlist loaded N (m .legal) noRecords ws₀ work ms (m .takes)
+    ∙ pieces-joined N (bytesOf ms) (m .whole) (value ws₀)
+    ∙ ap (λ (x : List ℕ). withPiece N testFile (value x)) empty in
+    record {
+      answer = m .ends .answer N (m .legal) ∙ ap (λ (x : Answer (List ℕ)). passes (endOf N (length testFile) report x)) s
+          ∙ end-answer netlist testFile report ws work N (m .legal) lent;
+      store = m .ends .store N (m .legal) ∙ ap (λ (x : Answer (List ℕ)). leftStore (endOf N (length testFile) report x)) s
+          ∙ end-store netlist testFile report ws work N (m .legal) lent;
+      work = end-work netlist testFile report ws work N (m .legal) lent (lastWork work ms)
+          (last-length netlist loaded N (m .legal) noRecords ws₀ work ms (m .takes)) (last-past netlist loaded N (m .legal) noRecords ws₀ work ms (m .takes));
+    }
+
+-- The other steps can then be made
+pub begun-ready : (netlist ws ws₀ work : List ℕ) (b : Begun) → BeginTrue b netlist ws ws₀ work → b .answer ≡ beginning.Ready
+    → Ready netlist (b .loaded) ws₀ work
+unfolding beginAnswer
+begun-ready netlist ws ws₀ work b t q = go (b .loaded .answer) refl
+  where
+    go : (x : SurveyAnswer) → b .loaded .answer ≡ x → Ready netlist (b .loaded) ws₀ work
+    go (survey.Refused w) e =
+        let l = begun-lent netlist ws ws₀ work (b .answer) (t .answer) q in
+        let a : value tt ≡ refused (refusalNumber w) =
+        sym (ap begunOf q) ∙ t .answer ∙ rw (l, loaded-refused (b .loaded) netlist (t .tables) w e) refl in
+        absurd (not-refused (sym a))
+    go survey.Legal e =
+        let d = loaded-legal (b .loaded) netlist (t .tables) e in
+        record {
+          circuit = d .netlist;
+          tables = record {
+            legal = d .isRead;
+            positionsAre = t .tables .positions ∙ ap (positionsOf netlist) (d .isRead);
+            countsAre = d .countsAre;
+            inputsAre = d .inputsAre;
+            netsAre = ap₂ (λ i g. i + g) (d .inputsAre) (d .gatesAre);
+            outputsAre = d .outputsAre;
+          };
+          totalIs = d .totalIs;
+          memory = begun-memory netlist ws ws₀ work (b .answer) (t .answer) q (d .netlist) (t .store);
+        }
+
+-- a beginning that was refused, with the number `n`
+module _ (netlist testFile report ws ws₀ work : List ℕ) (n : ℕ) (a : refused n ≡ beginAnswer netlist ws work) (s : ws₀ ≡ beginStore ws work) where
+  pub untouched : WorkAfter netlist ws work work
+  untouched = record { sameLength = refl; pastWork = refl; notReached = λ n e. refl }
+
+  -- answer and store of the audit
+  abbrev Refuses : Type 0
+  Refuses = (refused n ≡ auditAnswer netlist testFile report ws work) × (ws₀ ≡ auditStore netlist testFile report ws work)
+
+  at-netlist : (y : Answer Netlist) → lentRules ws work ≡ value tt → readNetlist netlist ≡ y → Refuses
+  unfolding auditAnswer auditCall beginAnswer beginStore
+  at-netlist (refused k) l e =
+      let c : auditCall netlist testFile report ws work ≡ refused k = rw (l, e) refl in
+      (a ∙ rw (l, e) refl, s ∙ rw l refl ∙ sym (audit-emptied netlist testFile report ws work k l c))
+  at-netlist (value N) l e =
+      let c : refused n ≡ value tt = a ∙ rw (l, e) refl in
+      absurd (not-refused c)
+
+  at-lent : (x : Answer (Unit {0})) → lentRules ws work ≡ x → Refuses
+  unfolding auditAnswer auditCall beginAnswer beginStore
+  at-lent (refused k) l = (a ∙ rw l refl, s ∙ rw l refl ∙ sym (audit-found netlist testFile report ws work k l))
+  at-lent (value u) l = at-netlist (readNetlist netlist) l refl
+
+  pub begun-refused : Refuses
+  begun-refused = at-lent (lentRules ws work) refl

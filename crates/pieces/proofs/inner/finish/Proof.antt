@@ -1,0 +1,87 @@
+-- `pieces::inner::finish` meets its contract: each return is one case of the end.
+-- Assumes nothing.
+use Rattle.pieces.proofs.StepCases.{end-cases}
+use borrow.Author.Needs.{needs}
+use Rattle.pieces.proofs.inner.finish.Statement.{statement}
+use Rattle.pieces.proofs.inner.finish.Tie as tie
+
+record-length-requires : tie.Need-record-length-requires
+record-length-requires c κs = search end-cases
+
+whole-length-requires : tie.Need-whole-length-requires
+whole-length-requires c κs = search needs
+
+clear-requires : tie.Need-clear-requires
+clear-requires c κs = search needs
+
+same-length : tie.Need-same-length
+same-length c = search needs
+
+returns : tie.Need-returns
+returns c = search end-cases
+
+enum-known-taken : tie.Need-enum-known-taken
+enum-known-taken c = search needs
+
+clear-requires-2 : tie.Need-clear-requires-2
+clear-requires-2 c κs = search needs
+
+enum-told : tie.Need-enum-told
+enum-told c = search needs
+
+div-compare : tie.Need-div-compare
+div-compare c = search needs
+
+compare-requires : tie.Need-compare-requires
+compare-requires c κs = search end-cases
+
+enum-told-2 : tie.Need-enum-told-2
+enum-told-2 c = search needs
+
+enum-known-compared : tie.Need-enum-known-compared
+enum-known-compared c = search needs
+
+clear-requires-3 : tie.Need-clear-requires-3
+clear-requires-3 c κs = search needs
+
+same-length-2 : tie.Need-same-length-2
+same-length-2 c = search needs
+
+returns-2 : tie.Need-returns-2
+returns-2 c = search end-cases
+
+same-length-3 : tie.Need-same-length-3
+same-length-3 c = search needs
+
+returns-3 : tie.Need-returns-3
+returns-3 c = search end-cases
+
+same-length-4 : tie.Need-same-length-4
+same-length-4 c = search needs
+
+returns-4 : tie.Need-returns-4
+returns-4 c = search end-cases
+
+pub finish-spec : {M : Type 1} → statement M
+finish-spec =
+    tie.close
+    (tie.spec
+    record-length-requires
+    whole-length-requires
+    clear-requires
+    same-length
+    returns
+    enum-known-taken
+    clear-requires-2
+    enum-told
+    div-compare
+    compare-requires
+    enum-told-2
+    enum-known-compared
+    clear-requires-3
+    same-length-2
+    returns-2
+    same-length-3
+    returns-3
+    same-length-4
+    returns-4)

@@ -1,0 +1,117 @@
+-- The public calls of an audit in pieces, each as a function of what it is handed: its answer, and the lent memory afterwards.
+-- Names: piece is the bytes of a piece, total the number of bytes of the whole file, first the number of the first refusal or 0.
+-- Assumes nothing.
+use mathlib.Core.Path.{_≡_}
+use mathlib.Core.Bool.{true, false}
+use mathlib.Core.List.{List, [], _∷_}
+use Prim.Native.Nat.{ℕ, _+_, _≤_}
+use lib.Dec.{eqb}
+use lib.ListN.{length, drop}
+use Rattle.model.specs.Base.{Answer, refused, value, _>>=_, _>>_, checks, passes, after}
+use Rattle.model.specs.Netlist.{Netlist, pathTotal}
+use Rattle.model.specs.Read.{readNetlist, recordLength}
+use Rattle.model.specs.Refusals.{refusalNumber}
+use Rattle.model.specs.Store.{storeWords, storeRules}
+use Rattle.model.specs.Calls.{workWords, storeRule, beforeTest}
+use Rattle.model.specs.Report.{fileRecords, testAll}
+use Rattle.netlist.specs.declared.inner.Loaded.{Loaded}
+use Rattle.coverage.specs.Stage.{CircuitTables}
+use Rattle.report.specs.TestFile.{leftStore, takenOf}
+use Rattle.pieces.specs.declared.BeginAnswer.{BeginAnswer}
+use Rattle.pieces.specs.declared.PieceAnswer.{PieceAnswer}
+use Rattle.pieces.specs.declared.PieceAnswer.the-variants as piece
+use Rattle.pieces.specs.declared.EndAnswer.{EndAnswer}
+use Rattle.pieces.specs.declared.EndAnswer.the-variants as ending
+use Rattle.pieces.specs.Steps.{begunOf, lentRules, beginAnswer, beginStore, endBy}
+
+-- The beginning: its answer, and the store afterwards
+pub record BegunTrue (r : BeginAnswer) (netlist ws ws′ work : List ℕ) : Type 0 where
+  pub answer : begunOf r ≡ beginAnswer netlist ws work
+  pub store : ws′ ≡ beginStore ws work
+
+-- what the records of a piece answer: how many were taken before the first that was refused, all if none was, and the number of that refusal
+pub record RecordsSaid : Type 0 where
+  pub taken : ℕ
+  pub said : Answer (Unit {0})
+
+-- a piece: the number of a refusal before its records, or what these answer
+abbrev pub pieceOf : PieceAnswer → Answer RecordsSaid
+pieceOf (piece.Taken k) = value (record { taken = k; said = value tt })
+pieceOf (piece.RecordRefused k w) = value (record { taken = k; said = refused (refusalNumber w) })
+pieceOf (piece.Refused w) = refused (refusalNumber w)
+
+-- the records of a piece, in order, on a netlist and from a store: what they answer
+unfoldable pub recordsSaid : Netlist → List ℕ → List ℕ → RecordsSaid
+recordsSaid N bytes ws = record { taken = takenOf N (fileRecords N bytes) ws; said = passes (testAll N (fileRecords N bytes) ws) }
+
+-- the store is checked before the first record
+abbrev pub storeChecked : ℕ → List ℕ → Answer (List ℕ)
+storeChecked paths ws = checks (storeRules paths ws) >> value ws
+
+-- A piece: 1, 2, the netlist, 40 to 42, then the records. Its answer, and the store that the test calls leave
+unfoldable pub pieceAnswer : List ℕ → List ℕ → List ℕ → List ℕ → Answer RecordsSaid
+pieceAnswer netlist bytes ws work = beforeTest netlist ws work >>= λ N. storeChecked (pathTotal N) ws >>= λ sound. value (recordsSaid N bytes sound)
+
+unfoldable pub pieceCall : List ℕ → List ℕ → List ℕ → List ℕ → Answer (List ℕ)
+pieceCall netlist bytes ws work = beforeTest netlist ws work >>= λ N. storeChecked (pathTotal N) ws >>= λ sound. testAll N (fileRecords N bytes) sound
+
+-- the store afterwards: refused with 1 or 2 it is as found, with any other number all zeros
+unfoldable pub pieceLeft : List ℕ → List ℕ → List ℕ → List ℕ → List ℕ
+pieceLeft netlist bytes ws work = after (lentRules ws work) ws (λ u. leftStore (pieceCall netlist bytes ws work))
+
+-- working memory afterwards: it may hold anything in its first 8,192 words if the records were reached, else it is as before
+pub record PieceWork (netlist ws found left : List ℕ) : Type 0 where
+  pub sameLength : length left ≡ length found
+  pub pastWork : drop workWords left ≡ drop workWords found
+  pub notReached : (n : ℕ) → (beforeTest netlist ws found >>= λ N. storeChecked (pathTotal N) ws) ≡ refused n → left ≡ found
+
+pub record PieceTrue (r : PieceAnswer) (netlist bytes ws ws′ work work′ : List ℕ) : Type 0 where
+  pub answer : pieceOf r ≡ pieceAnswer netlist bytes ws work
+  pub store : ws′ ≡ pieceLeft netlist bytes ws work
+  pub memory : PieceWork netlist ws work work′
+
+-- once lent memory and netlist are taken: what is handed on, and what then holds
+pub record PieceReady (netlist : List ℕ) (loaded : Loaded) (ws work : List ℕ) : Type 0 where
+  pub circuit : Netlist
+  pub tables : CircuitTables circuit netlist (loaded .positions) (loaded .survey .counts) (loaded .survey .inputs)
+      (loaded .survey .inputs + loaded .survey .gates) (loaded .survey .outputs)
+  pub totalIs : loaded .survey .total ≡ pathTotal circuit
+  pub storeLength : length ws ≡ storeWords
+  pub workLength : workWords ≤ length work
+
+pub record PieceStaged (r : PieceAnswer) (netlist bytes ws ws′ work work′ : List ℕ) : Type 0 where
+  pub answer : (N : Netlist) → readNetlist netlist ≡ value N → pieceOf r ≡ (storeChecked (pathTotal N) ws >>= λ sound. value (recordsSaid N bytes sound))
+  pub store : (N : Netlist) → readNetlist netlist ≡ value N → ws′ ≡ leftStore (storeChecked (pathTotal N) ws >>= λ sound. testAll N (fileRecords N bytes) sound)
+  pub sameLength : length work′ ≡ length work
+  pub pastWork : drop workWords work′ ≡ drop workWords work
+  pub notReached : (N : Netlist) → readNetlist netlist ≡ value N → (n : ℕ) → storeChecked (pathTotal N) ws ≡ refused n → work′ ≡ work
+
+-- The end: that it accepts, or the number of the refusal
+abbrev pub endedOf : EndAnswer → Answer (Unit {0})
+endedOf ending.Accepted = value tt
+endedOf (ending.Refused n) = refused n
+
+-- what the pieces answered, as their caller keeps it: 0 says that every record was taken, any other number is that of the first refusal
+unfoldable pub soFar : ℕ → List ℕ → Answer (List ℕ)
+soFar first ws = elim (eqb first 0) [ true ↦ value ws | false ↦ refused first ]
+
+-- 1, the netlist, 33 by the length of the whole file, the first refusal, 40 to 42, then the report
+unfoldable pub endLegal : ℕ → ℕ → ℕ → ℕ → List ℕ → List ℕ → Answer (List ℕ)
+endLegal each paths total first report ws = endBy each paths total report (soFar first ws >>= λ left. storeChecked paths left)
+
+unfoldable pub endStage : List ℕ → ℕ → ℕ → List ℕ → List ℕ → Answer (List ℕ)
+endStage netlist total first report ws = readNetlist netlist >>= λ N. endLegal (recordLength N) (pathTotal N) total first report ws
+
+unfoldable pub endCall : List ℕ → ℕ → ℕ → List ℕ → List ℕ → Answer (List ℕ)
+endCall netlist total first report ws = checks (storeRule ws ∷ []) >> endStage netlist total first report ws
+
+unfoldable pub endAnswer : List ℕ → ℕ → ℕ → List ℕ → List ℕ → Answer (Unit {0})
+endAnswer netlist total first report ws = passes (endCall netlist total first report ws)
+
+-- the store afterwards: refused with 1 it is as found, with any other number all zeros
+unfoldable pub endStore : List ℕ → ℕ → ℕ → List ℕ → List ℕ → List ℕ
+endStore netlist total first report ws = after (checks (storeRule ws ∷ [])) ws (λ u. leftStore (endCall netlist total first report ws))
+
+pub record EndTrue (r : EndAnswer) (netlist : List ℕ) (total first : ℕ) (report ws ws′ : List ℕ) : Type 0 where
+  pub answer : endedOf r ≡ endAnswer netlist total first report ws
+  pub store : ws′ ≡ endStore netlist total first report ws

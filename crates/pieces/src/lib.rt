@@ -1,0 +1,188 @@
+// The audit with its test file in pieces, so that a file of any length is judged: a beginning, a call for each piece in file order, an end.
+// Each piece but the last is a whole number of records. A caller keeps the number of bytes so far and the number of the first refusal; once a
+// piece is refused, no other is handed over.
+pub mod inner;
+
+ghost use mathlib.Core.Path.{_≡_};
+ghost use Prim.Native.Nat.{_+_, _*_, _^_, _≤_};
+ghost use lib.ListN.{length};
+ghost use Rattle.model.specs.Base.{passes};
+ghost use Rattle.model.specs.Read.{vectorBytes};
+ghost use Rattle.model.specs.Store.{storeWords};
+ghost use Rattle.pieces.specs.Calls.{BegunTrue, PieceReady, PieceStaged, PieceTrue, EndTrue, endedOf, endStage, endLegal};
+use crate::inner::begin;
+use crate::inner::take_piece;
+use crate::inner::whole_length;
+use model::Refusal;
+use model::STORE_WORDS;
+use model::WORK_WORDS;
+use model::refusal_number;
+use netlist::SurveyAnswer;
+use netlist::inner::Loaded;
+use netlist::inner::load;
+use netlist::survey;
+use report::inner::Comparison;
+use report::inner::compare;
+use report::inner::test_file::FileAnswer;
+use report::inner::test_file::TakenRecords;
+use report::inner::test_file::record_length;
+use store::inner::StoreCheck;
+use store::inner::check_words;
+use store::inner::clear;
+
+// What the places before the test file answer.
+pub enum BeginAnswer {
+    Ready,
+    Refused(Refusal),
+}
+
+// What a piece answers: the number of its records, all taken; the number of those taken before the first that was refused, and why; or why no
+// record was tried.
+pub enum PieceAnswer {
+    Taken(usize),
+    RecordRefused(usize, Refusal),
+    Refused(Refusal),
+}
+
+// What the whole audit answers: that it accepts, or the number of the refusal.
+pub enum EndAnswer {
+    Accepted,
+    Refused(u32),
+}
+
+// The beginning: lent memory and netlist. The store is emptied unread, unless the lent memory is refused.
+pub fn audit_begin(netlist: &[u8], store: &mut [u64], work: &[u64]) -> BeginAnswer
+    ensures { λ r. ⌜ BegunTrue r (now (netlist .entry)) (now (store .entry)) (now (store .exit)) (now (work .entry)) ⌝ }
+{
+    let begun = begin(netlist, store, work);
+    begun.answer
+}
+
+// A piece: lent memory, netlist, store, then the test stage with its whole records in order. Refused with a number over 2 it leaves the store empty.
+pub fn audit_piece(netlist: &[u8], piece: &[u8], store: &mut [u64], work: &mut [u64]) -> PieceAnswer
+    ensures { λ r. ⌜ PieceTrue r (now (netlist .entry)) (now (piece .entry)) (now (store .entry)) (now (store .exit)) (now (work .entry)) (now (work .exit)) ⌝ }
+{
+    if store.len() != STORE_WORDS {
+        return PieceAnswer::Refused(Refusal::StoreLength);
+    }
+    if work.len() < WORK_WORDS {
+        return PieceAnswer::Refused(Refusal::WorkLength);
+    }
+    let loaded = load(netlist);
+    let answer = loaded.answer;
+    match answer {
+        SurveyAnswer::Refused(why) => {
+            clear(store);
+            PieceAnswer::Refused(why)
+        }
+        SurveyAnswer::Legal => piece_on(netlist, loaded, piece, store, work),
+    }
+}
+
+// A piece on a legal netlist and a store that is not checked yet.
+fn piece_on(
+    netlist: &[u8],
+    loaded: Loaded,
+    piece: &[u8],
+    store: &mut [u64],
+    work: &mut [u64],
+) -> PieceAnswer
+    requires { ⌜ PieceReady (now netlist) loaded (now store) (now work) ⌝ }
+    ensures { λ r. ⌜ PieceStaged r (now (netlist .entry)) (now (piece .entry)) (now (store .entry)) (now (store .exit)) (now (work .entry)) (now (work .exit)) ⌝ }
+{
+    let checked = check_words(store, loaded.survey.total);
+    match checked {
+        StoreCheck::Refused(why) => {
+            clear(store);
+            PieceAnswer::Refused(why)
+        }
+        StoreCheck::Sound => {
+            let none = TakenRecords {
+                taken: 0,
+                answer: FileAnswer::Taken,
+            };
+            let records = take_piece(netlist, loaded, none, piece, store, work);
+            let answer = records.answer;
+            match answer {
+                FileAnswer::Taken => PieceAnswer::Taken(records.taken),
+                FileAnswer::Refused(why) => PieceAnswer::RecordRefused(records.taken, why),
+            }
+        }
+    }
+}
+
+// The end, of a file of so many bytes whose first refusal has the number `first`, 0 if there is none. The order: the store's length, the netlist,
+// the file's length, the first refusal, the store, the report. Refused with any other number than the store's length it leaves the store empty.
+pub fn audit_end(
+    netlist: &[u8],
+    bytes: u64,
+    first: u32,
+    report: &[u8],
+    store: &mut [u64],
+) -> EndAnswer
+    ensures { λ r. ⌜ EndTrue r (now (netlist .entry)) bytes first (now (report .entry)) (now (store .entry)) (now (store .exit)) ⌝ }
+{
+    if store.len() != STORE_WORDS {
+        return EndAnswer::Refused(1);
+    }
+    let ended = end_on(netlist, bytes, first, report, store);
+    match ended {
+        EndAnswer::Accepted => EndAnswer::Accepted,
+        EndAnswer::Refused(number) => {
+            clear(store);
+            EndAnswer::Refused(number)
+        }
+    }
+}
+
+// What the end answers, with a store of the right length.
+fn end_on(netlist: &[u8], bytes: u64, first: u32, report: &[u8], store: &[u64]) -> EndAnswer
+    requires { ⌜ length (now store) ≡ storeWords ⌝ }
+    ensures { λ r. ⌜ endedOf r ≡ passes (endStage (now (netlist .entry)) bytes first (now (report .entry)) (now (store .entry))) ⌝ }
+{
+    let surveyed = survey(netlist);
+    let answer = surveyed.answer;
+    match answer {
+        SurveyAnswer::Refused(why) => EndAnswer::Refused(refusal_number(why)),
+        SurveyAnswer::Legal => end_legal(
+            surveyed.survey.inputs,
+            surveyed.survey.total,
+            bytes,
+            first,
+            report,
+            store,
+        ),
+    }
+}
+
+// The same on a legal netlist with so many inputs and paths.
+fn end_legal(
+    inputs: usize,
+    paths: u64,
+    bytes: u64,
+    first: u32,
+    report: &[u8],
+    store: &[u64],
+) -> EndAnswer
+    requires { ⌜ (inputs ≤ 64) × (paths ≤ 2 ^ 62) × (length (now store) ≡ storeWords) ⌝ }
+    ensures { λ r. ⌜ endedOf r ≡ passes (endLegal (2 + 2 * vectorBytes inputs) paths bytes first (now (report .entry)) (now (store .entry))) ⌝ }
+{
+    let each = record_length(inputs) as u64;
+    if !whole_length(bytes, each) {
+        return EndAnswer::Refused(33);
+    }
+    if first != 0 {
+        return EndAnswer::Refused(first);
+    }
+    let checked = check_words(store, paths);
+    match checked {
+        StoreCheck::Refused(why) => EndAnswer::Refused(refusal_number(why)),
+        StoreCheck::Sound => {
+            let compared = compare(report, store, bytes / each, paths);
+            match compared {
+                Comparison::Equal => EndAnswer::Accepted,
+                Comparison::Refused(why) => EndAnswer::Refused(refusal_number(why)),
+            }
+        }
+    }
+}
