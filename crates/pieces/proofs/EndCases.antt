@@ -17,6 +17,7 @@ use Rattle.model.specs.Store.{storeWords, runsByEdge, storeRules}
 use Rattle.model.specs.Calls.{storeRule}
 use Rattle.model.specs.Report.{reportRecord, reportRules}
 use Rattle.model.specs.declared.Refusal.{Refusal}
+use Rattle.model.specs.declared.Refusal.the-variants as why
 use Rattle.model.proofs.AnswerLaws.{not-refused, value-inj, steps, then-second}
 use Rattle.model.proofs.ReadLaws.{limits}
 use Rattle.netlist.specs.Answers.{SurveyTrue}
@@ -50,8 +51,9 @@ module _ (inputs paths total first : ℕ) (report ws : List ℕ) (each : ℕ) (e
   unfolding endLegal
   ends a q = ap (λ (x : Answer (List ℕ)). passes x) (sym q ∙ ap (λ (k : ℕ). endBy k paths total report state) ee)
 
-  pub legal-length : not b ≡ true → refused 33 ≡ passes (endLegal (2 + 2 * vectorBytes inputs) paths total first report ws)
-  legal-length n = ends (refused 33) (end-other-length each paths total report state b eb n)
+  pub legal-length : not b ≡ true → (m : ℕ) → m ≡ refusalNumber why.TestFileLength
+      → refused m ≡ passes (endLegal (2 + 2 * vectorBytes inputs) paths total first report ws)
+  legal-length n m q = ap (λ (i : ℕ). refused i) q ∙ ends (refused 33) (end-other-length each paths total report state b eb n)
 
   module _ (n : not b ≡ false) where
     pub legal-first : (first ≡ 0 → ⊥) → refused first ≡ passes (endLegal (2 + 2 * vectorBytes inputs) paths total first report ws)
@@ -133,9 +135,12 @@ state-left paths first ws left q =
 
 -- The end
 module _ (netlist : List ℕ) (total first : ℕ) (report ws : List ℕ) where
-  pub end-words : (length ws ≡ storeWords → ⊥) → EndTrue (ending.Refused 1) netlist total first report ws ws
+  pub end-words : (length ws ≡ storeWords → ⊥) → (m : ℕ) → m ≡ refusalNumber why.StoreLength → EndTrue (ending.Refused m) netlist total first report ws ws
   unfolding endAnswer endStore endCall
-  end-words d = record { answer = rw (ne-eqb (length ws) storeWords d) refl; store = rw (ne-eqb (length ws) storeWords d) refl }
+  end-words d m q = record {
+    answer = ap (λ (i : ℕ). refused i) q ∙ rw (ne-eqb (length ws) storeWords d) refl;
+    store = rw (ne-eqb (length ws) storeWords d) refl;
+  }
 
   module _ (l : length ws ≡ storeWords) (a : EndAnswer) (q : endedOf a ≡ passes (endStage netlist total first report ws)) where
     long : checks (storeRule ws ∷ []) ≡ value tt

@@ -123,7 +123,7 @@ pub fn audit_end(
     ensures { λ r. ⌜ EndTrue r (now (netlist .entry)) bytes first (now (report .entry)) (now (store .entry)) (now (store .exit)) ⌝ }
 {
     if store.len() != STORE_WORDS {
-        return EndAnswer::Refused(1);
+        return EndAnswer::Refused(refusal_number(Refusal::StoreLength));
     }
     let ended = end_on(netlist, bytes, first, report, store);
     match ended {
@@ -169,7 +169,7 @@ fn end_legal(
 {
     let each = record_length(inputs) as u64;
     if !whole_length(bytes, each) {
-        return EndAnswer::Refused(33);
+        return EndAnswer::Refused(refusal_number(Refusal::TestFileLength));
     }
     if first != 0 {
         return EndAnswer::Refused(first);

@@ -5,6 +5,9 @@ use borrow.Author.Needs.{needs}
 use Rattle.pieces.proofs.audit_end.Statement.{statement}
 use Rattle.pieces.proofs.audit_end.Tie as tie
 
+refusal-number-requires : tie.Need-refusal-number-requires
+refusal-number-requires c κs = search needs
+
 returns : tie.Need-returns
 returns c = search call-end-cases
 
@@ -36,6 +39,7 @@ pub audit-end-spec : {M : Type 1} → statement M
 audit-end-spec =
     tie.close
     (tie.spec
+    refusal-number-requires
     returns
     end-on-requires
     enum-told

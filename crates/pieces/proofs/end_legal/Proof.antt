@@ -11,6 +11,9 @@ record-length-requires c κs = search needs
 whole-length-requires : tie.Need-whole-length-requires
 whole-length-requires c κs = search needs
 
+refusal-number-requires : tie.Need-refusal-number-requires
+refusal-number-requires c κs = search needs
+
 returns : tie.Need-returns
 returns c = search legal-cases
 
@@ -23,8 +26,8 @@ check-words-requires c κs = search needs
 enum-known-checked : tie.Need-enum-known-checked
 enum-known-checked c = search needs
 
-refusal-number-requires : tie.Need-refusal-number-requires
-refusal-number-requires c κs = search needs
+refusal-number-requires-2 : tie.Need-refusal-number-requires-2
+refusal-number-requires-2 c κs = search needs
 
 enum-told : tie.Need-enum-told
 enum-told c = search needs
@@ -41,8 +44,8 @@ enum-told-2 c = search needs
 enum-known-compared : tie.Need-enum-known-compared
 enum-known-compared c = search needs
 
-refusal-number-requires-2 : tie.Need-refusal-number-requires-2
-refusal-number-requires-2 c κs = search needs
+refusal-number-requires-3 : tie.Need-refusal-number-requires-3
+refusal-number-requires-3 c κs = search needs
 
 returns-3 : tie.Need-returns-3
 returns-3 c = search legal-cases
@@ -59,17 +62,18 @@ end-legal-spec =
     (tie.spec
     record-length-requires
     whole-length-requires
+    refusal-number-requires
     returns
     returns-2
     check-words-requires
     enum-known-checked
-    refusal-number-requires
+    refusal-number-requires-2
     enum-told
     div-compare
     compare-requires
     enum-told-2
     enum-known-compared
-    refusal-number-requires-2
+    refusal-number-requires-3
     returns-3
     returns-4
     returns-5)
