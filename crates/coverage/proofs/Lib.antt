@@ -13,3 +13,4 @@ pub mod StoreWrite
 pub mod WorkRules
 pub mod StageLaws
 pub mod TestCallLaws
+pub mod CountCases

@@ -56,7 +56,7 @@ pub taken-by : {A : Type 0} (x : Answer A) → value tt ≡ passes x → Passed 
 taken-by (refused m) e = absurd (not-refused (sym e))
 taken-by (value a) e = record { got = a; is = refl }
 
-as-tested : (N : Netlist) (rec ws ws′ work work′ : List ℕ) (w : Refusal) → StageIs (testStage N rec ws) ws ws′ work work′ (stage.Refused w)
+pub as-tested : (N : Netlist) (rec ws ws′ work work′ : List ℕ) (w : Refusal) → StageIs (testStage N rec ws) ws ws′ work work′ (stage.Refused w)
     → TestedIs (testStage N rec ws) ws ws′ work work′ (Refused w)
 unfolding returnedBy
 as-tested N rec ws ws′ work work′ w s =

@@ -1,8 +1,12 @@
 // The places Test and Work for one record, on a netlist whose tables are at hand and a store that is sound. Each caller proves what a function
 // requires.
 ghost use Rattle.model.specs.Detect.{Test};
+ghost use Rattle.model.specs.Calls.{testStage};
 ghost use Rattle.model.specs.Netlist.{Netlist};
 ghost use Rattle.coverage.specs.Stage.{CircuitTables, PinsOf, StageReady, WorkReady, LegalReady, workStage, StageIs, StageTrue};
+ghost use Rattle.coverage.specs.TestCall.{TestedIs};
+use crate::TestAnswer;
+use crate::count_new;
 use crate::edges::BothAnswer;
 use crate::edges::cover_both;
 use crate::store_write::write_store;
@@ -130,6 +134,38 @@ pub fn take_test(
     match checked {
         RecordAnswer::Refused(why) => StageAnswer::Refused(why),
         RecordAnswer::Legal => take_legal(
+            netlist,
+            positions,
+            counts,
+            inputs,
+            nets,
+            outputs,
+            test,
+            store,
+            work,
+        ),
+    }
+}
+
+// One record: the places Test and Work, with the faults counted that are new to the store and those then held. The store is sound.
+pub fn count_test(
+    netlist: &[u8],
+    positions: &[u16; 512],
+    counts: &[u64; 512],
+    inputs: usize,
+    nets: usize,
+    outputs: usize,
+    test: &[u8],
+    store: &mut [u64],
+    work: &mut [u64],
+) -> TestAnswer
+    requires { ⌜ StageReady (now netlist) (now positions) (now counts) inputs nets outputs (now store) (now work) ⌝ }
+    ensures { λ r. ⌜ ((N : Netlist) → CircuitTables N (now (netlist .entry)) (now (positions .entry)) (now (counts .entry)) inputs nets outputs → TestedIs (testStage N (now (test .entry)) (now (store .entry))) (now (store .entry)) (now (store .exit)) (now (work .entry)) (now (work .exit)) r) ⌝ }
+{
+    let checked = check_record(test, inputs);
+    match checked {
+        RecordAnswer::Refused(why) => TestAnswer::Refused(why),
+        RecordAnswer::Legal => count_new(
             netlist,
             positions,
             counts,

@@ -33,7 +33,7 @@ pub enum TestAnswer {
 }
 
 // A legal record on a sound store: the stage, with the faults that the store holds counted before and after it.
-fn count_new(
+pub(crate) fn count_new(
     netlist: &[u8],
     positions: &[u16; 512],
     counts: &[u64; 512],
