@@ -10,8 +10,7 @@ use lib.Seq.{take-append-le, drop-append-le}
 use Rattle.model.specs.Base.{Answer, refused, value, _>>=_}
 use Rattle.model.specs.Netlist.{Netlist}
 use Rattle.model.specs.Read.{readNetlist, recordLength}
-use Rattle.model.specs.Store.{storeOf}
-use Rattle.model.specs.Calls.{Tested, testStage}
+use Rattle.model.specs.Calls.{Tested, testStage, storeLeft}
 use Rattle.model.specs.Report.{records, fileRecords, testAll}
 use Rattle.netlist.specs.declared.inner.Loaded.{Loaded}
 use Rattle.report.specs.TestFile.{fileOf, oneMore, takenOf}
@@ -53,10 +52,10 @@ then-more N qs (value left) j k = omega arith
 -- one record, then the others
 taken-one : (N : Netlist) (qs : List (List ℕ)) (x : Answer Tested) (f g : List ℕ → ℕ) (h : List ℕ → Answer (List ℕ))
     → ((ws : List ℕ) → f ws ≡ takenThen N qs (h ws) (g ws))
-    → oneMore x (λ d. f (storeOf (d .runs))) ≡ takenThen N qs (x >>= λ d. h (storeOf (d .runs))) (oneMore x (λ d. g (storeOf (d .runs))))
+    → oneMore x (λ d. f (storeLeft d)) ≡ takenThen N qs (x >>= λ d. h (storeLeft d)) (oneMore x (λ d. g (storeLeft d)))
 taken-one N qs (refused n) f g h q = refl
 taken-one N qs (value d) f g h q =
-    let ws : List ℕ = storeOf (d .runs) in
+    let ws : List ℕ = storeLeft d in
     ap (λ (k : ℕ). 1 + k) (q ws) ∙ then-more N qs (h ws) 1 (g ws)
 
 taken-append : (N : Netlist) (rs qs : List (List ℕ)) (ws : List ℕ) → takenOf N (rs ++ qs) ws ≡ takenThen N qs (testAll N rs ws) (takenOf N rs ws)

@@ -1,0 +1,7 @@
+-- Laws that the proofs of several functions, or of later crates, cite.
+pub mod PutLaws
+pub mod RunSteps
+pub mod CutLaws
+pub mod PieceSteps
+pub mod PiecesHold
+pub mod ExamplesHold

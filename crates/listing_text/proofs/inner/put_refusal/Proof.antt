@@ -1,0 +1,39 @@
+-- `listing_text::inner::put_refusal` meets its contract: the word `refused` and the number of the refusal.
+-- Assumes nothing.
+use Rattle.listing_text.proofs.PutLaws.{refusal-put}
+use borrow.Author.Needs.{needs}
+use Rattle.listing_text.proofs.inner.put_refusal.Statement.{statement}
+use Rattle.listing_text.proofs.inner.put_refusal.Tie as tie
+
+slice-aggregate-put-numbered : tie.Need-slice-aggregate-put-numbered
+slice-aggregate-put-numbered c = search needs
+
+refusal-number-requires : tie.Need-refusal-number-requires
+refusal-number-requires c κs = search needs
+
+cast-put-numbered : tie.Need-cast-put-numbered
+cast-put-numbered c = search needs
+
+put-numbered-requires : tie.Need-put-numbered-requires
+put-numbered-requires c κs = search needs
+
+same-length : tie.Need-same-length
+same-length c = search needs
+
+returns : tie.Need-returns
+returns c =
+    let a = c .before .before .before .before .before .before .before .args in
+    let p = c .before .before .put-numbered in
+    let n = c .before .before .before .refusal-number in
+    refusal-put (a .out .now) (p .last .0) (a .at) (p .result) (n .result) (a .why) (n .ensures) (p .ensures)
+
+pub put-refusal-spec : {M : Type 1} → statement M
+put-refusal-spec =
+    tie.close
+    (tie.spec
+    slice-aggregate-put-numbered
+    refusal-number-requires
+    cast-put-numbered
+    put-numbered-requires
+    same-length
+    returns)

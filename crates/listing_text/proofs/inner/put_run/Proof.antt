@@ -1,0 +1,27 @@
+-- `listing_text::inner::put_run` meets its contract: the letter of the edge, then two numbers.
+-- Assumes nothing.
+use native.Mathlib.Omega.{arith}
+use Rattle.listing_text.proofs.PutLaws.{put-made, put-then}
+use borrow.Author.Needs.{needs}
+use Rattle.listing_text.proofs.inner.put_run.Statement.{statement}
+use Rattle.listing_text.proofs.inner.put_run.Tie as tie
+
+put-text-requires : tie.Need-put-text-requires
+put-text-requires c κs = search needs
+
+put-pair-requires : tie.Need-put-pair-requires
+put-pair-requires c κs = search needs
+
+same-length : tie.Need-same-length
+same-length c = search needs
+
+returns : tie.Need-returns
+returns c =
+    let s = c .before .before .before .before .before .before .before .before .before .before in
+    let a = s .args in
+    let p1 = c .before .before .before .before .before .before .put-text in
+    let p2 = c .before .before .put-pair in
+    put-then (put-made (a .out .now) (p1 .last .0) (a .at) (a .letter .now) (p1 .result) (omega (arith, s .pre)) (p1 .ensures)) (p2 .ensures)
+
+pub put-run-spec : {M : Type 1} → statement M
+put-run-spec = tie.close (tie.spec put-text-requires put-pair-requires same-length returns)

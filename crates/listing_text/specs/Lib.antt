@@ -1,0 +1,4 @@
+pub mod Listing
+pub mod Answers
+pub mod Pieces
+pub mod Example

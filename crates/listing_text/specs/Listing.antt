@@ -1,0 +1,93 @@
+-- What the listing program prints, as bytes: document 01, "The listing program".
+-- Names: ws is the store, testFile the bytes of tests.tp, netlist those of circuit.nl; 32 is a space, 10 the end of a line.
+-- Assumes nothing.
+use mathlib.Core.List.{List, [], _∷_, _++_}
+use Prim.Native.Nat.{ℕ, zero, suc, _+_, _-_, _/_}
+use lib.ListN.{length}
+use Rattle.model.specs.Base.{Answer, refused, value}
+use Rattle.model.specs.Netlist.{Netlist, pathTotal}
+use Rattle.model.specs.Path.{rising, falling}
+use Rattle.model.specs.Read.{readNetlist, recordLength}
+use Rattle.model.specs.Runs.{Run, size}
+use Rattle.model.specs.Store.{ByEdge, emptyStore, storeRuns}
+use Rattle.model.specs.Calls.{FaultCounts, testStage}
+use Rattle.model.specs.Report.{records}
+use Rattle.coverage.specs.Stage.{storeAfter}
+use Rattle.coverage.specs.TestCall.{returnedBy}
+use Rattle.text.specs.Decimal.{decimalText, refusedText}
+
+-- the words `paths `, `rising ` and `falling `
+abbrev pub pathsWord : List ℕ
+pathsWord = 0x70 ∷ 0x61 ∷ 0x74 ∷ 0x68 ∷ 0x73 ∷ 0x20 ∷ []
+
+abbrev pub risingWord : List ℕ
+risingWord = 0x72 ∷ 0x69 ∷ 0x73 ∷ 0x69 ∷ 0x6E ∷ 0x67 ∷ 0x20 ∷ []
+
+abbrev pub fallingWord : List ℕ
+fallingWord = 0x66 ∷ 0x61 ∷ 0x6C ∷ 0x6C ∷ 0x69 ∷ 0x6E ∷ 0x67 ∷ 0x20 ∷ []
+
+-- the letters of the edges, `R ` and `F `
+abbrev pub risingLetter : List ℕ
+risingLetter = 0x52 ∷ 0x20 ∷ []
+
+abbrev pub fallingLetter : List ℕ
+fallingLetter = 0x46 ∷ 0x20 ∷ []
+
+-- a line of a word and a number
+abbrev pub numbered : List ℕ → ℕ → List ℕ
+numbered word n = word ++ decimalText n ++ 10 ∷ []
+
+-- `paths T`
+unfoldable pub pathsLine : ℕ → List ℕ
+pathsLine paths = numbered pathsWord paths
+
+-- A refused netlist prints `refused` and the number alone
+unfoldable pub refusedLine : ℕ → List ℕ
+refusedLine number = refusedText number ++ 10 ∷ []
+
+-- the line of a test record: its place and the new rising and falling faults, or its place, `refused` and the number
+unfoldable pub recordLine : ℕ → Answer FaultCounts → List ℕ
+recordLine place (refused number) = decimalText place ++ 32 ∷ refusedText number ++ 10 ∷ []
+recordLine place (value r) = decimalText place ++ 32 ∷ decimalText (r .newFaults .onRising) ++ 32 ∷ decimalText (r .newFaults .onFalling) ++ 10 ∷ []
+
+-- a line for each record in order, the first of which has the place given, each on the store that the one before left
+unfoldable pub recordLines : Netlist → ℕ → List (List ℕ) → List ℕ → List ℕ
+recordLines N place [] ws = []
+recordLines N place (r ∷ rs) ws = recordLine place (returnedBy (testStage N r ws)) ++ recordLines N (suc place) rs (storeAfter (testStage N r ws) ws)
+
+-- the store that the last of them leaves; a refused record leaves the store as it was
+unfoldable pub storeAfterAll : Netlist → List (List ℕ) → List ℕ → List ℕ
+storeAfterAll N [] ws = ws
+storeAfterAll N (r ∷ rs) ws = storeAfterAll N rs (storeAfter (testStage N r ws) ws)
+
+-- the records of `length` bytes in a file, cut from its first byte on: as many as begin in it, so that the last may be short
+abbrev pub listedCount : ℕ → List ℕ → ℕ
+listedCount bytes testFile = (length testFile + (bytes - 1)) / bytes
+
+unfoldable pub listedRecords : Netlist → List ℕ → List (List ℕ)
+listedRecords N testFile = records (recordLength N) (listedCount (recordLength N) testFile) testFile
+
+-- a line for each run: the letter of its edge, low and high
+unfoldable pub runLines : List ℕ → List Run → List ℕ
+runLines letter [] = []
+runLines letter (r ∷ rs) = letter ++ (decimalText (r .low) ++ 32 ∷ decimalText (r .high) ++ 10 ∷ []) ++ runLines letter rs
+
+-- the totals: the number of rising faults and of falling faults in the store
+unfoldable pub totalsLines : List ℕ → List ℕ
+totalsLines ws = numbered risingWord (size (storeRuns ws rising)) ++ numbered fallingWord (size (storeRuns ws falling))
+
+-- the lines after those of the records
+unfoldable pub storeLines : List ℕ → List ℕ
+storeLines ws = runLines risingLetter (storeRuns ws rising) ++ runLines fallingLetter (storeRuns ws falling) ++ totalsLines ws
+
+-- the listing of what reading a netlist answers
+unfoldable pub listingOf : Answer Netlist → List ℕ → List ℕ
+listingOf (refused number) testFile = refusedLine number
+listingOf (value N) testFile =
+    pathsLine (pathTotal N)
+    ++ recordLines N 1 (listedRecords N testFile) emptyStore
+    ++ storeLines (storeAfterAll N (listedRecords N testFile) emptyStore)
+
+-- What the listing program prints
+unfoldable pub listingText : List ℕ → List ℕ → List ℕ
+listingText netlist testFile = listingOf (readNetlist netlist) testFile

@@ -1,0 +1,212 @@
+// The parts of a listing, in their order: the paths, the lines of the records piece by piece, the runs of each edge, the totals. Each caller proves
+// what a function requires.
+ghost use mathlib.Core.Path.{_≡_};
+ghost use mathlib.Core.List.{[], _∷_, _++_};
+ghost use Prim.Native.Nat.{_+_, _*_, _^_, _≤_, _<_, min};
+ghost use lib.ListN.{length};
+ghost use Rattle.model.specs.Path as path;
+ghost use Rattle.model.specs.Refusals.{refusalNumber};
+ghost use Rattle.model.specs.Store.{runsAt, storeRuns};
+ghost use Rattle.model.specs.Read.{vectorBytes};
+ghost use Rattle.store.specs.Sound.{SoundWords};
+ghost use Rattle.coverage.specs.TestCall.{testedOf};
+ghost use Rattle.text.specs.Decimal.{decimalText};
+ghost use Rattle.listing_text.specs.Listing.{numbered, pathsLine, refusedLine, recordLine, runLines, risingLetter, fallingLetter, totalsLines};
+ghost use Rattle.listing_text.specs.Answers.{outBytes, Put, PieceReady, PieceLines};
+use coverage::TestAnswer;
+use coverage::inner::count_test;
+use model::HEAD_WORDS;
+use model::Refusal;
+use model::refusal_number;
+use netlist::inner::Loaded;
+use simulation::inner::test_record::vector_bytes;
+use store::inner::FALLING_COUNT;
+use store::inner::FALLING_WORD;
+use store::inner::RISING_COUNT;
+use store::inner::totals_of;
+use text::inner::put_number;
+use text::inner::put_text;
+
+// The most bytes of a piece of the test file. A record has at least 4 bytes and a line at most 63, so that the lines fit in OUT_BYTES.
+pub const PIECE_BYTES: usize = 4096;
+
+// The least bytes of the buffer that the text is written into.
+pub const OUT_BYTES: usize = 65536;
+
+// Of a piece's records: the place after the last, and the bytes of their lines.
+pub struct Listed {
+    pub place: u64,
+    pub bytes: usize,
+}
+
+// Two numbers and the end of their line.
+fn put_pair(out: &mut [u8], at: usize, first: u64, second: u64) -> usize
+    requires { ⌜ at + 42 ≤ length (now out) ⌝ }
+    ensures { λ r. ⌜ Put (now (out .entry)) (now (out .exit)) at (decimalText first ++ 32 ∷ decimalText second ++ 10 ∷ []) r ⌝ }
+{
+    let space = put_number(out, at, first);
+    let number = put_text(out, space, b" ");
+    let end = put_number(out, number, second);
+    put_text(out, end, b"\n")
+}
+
+// A line of a word and a number.
+fn put_numbered(out: &mut [u8], at: usize, word: &[u8], number: u64) -> usize
+    requires { ⌜ at + length (now word) + 21 ≤ length (now out) ⌝ }
+    ensures { λ r. ⌜ Put (now (out .entry)) (now (out .exit)) at (numbered (now (word .entry)) number) r ⌝ }
+{
+    let digits = put_text(out, at, word);
+    let end = put_number(out, digits, number);
+    put_text(out, end, b"\n")
+}
+
+// The line `refused` and the number of a refusal.
+pub fn put_refusal(out: &mut [u8], at: usize, why: Refusal) -> usize
+    requires { ⌜ at + 29 ≤ length (now out) ⌝ }
+    ensures { λ r. ⌜ Put (now (out .entry)) (now (out .exit)) at (refusedLine (refusalNumber why)) r ⌝ }
+{
+    put_numbered(out, at, b"refused ", refusal_number(why) as u64)
+}
+
+// The line `paths` and their number.
+pub fn put_paths(out: &mut [u8], paths: u64) -> usize
+    requires { ⌜ outBytes ≤ length (now out) ⌝ }
+    ensures { λ r. ⌜ Put (now (out .entry)) (now (out .exit)) 0 (pathsLine paths) r ⌝ }
+{
+    put_numbered(out, 0, b"paths ", paths)
+}
+
+// The line of a test record: its place with what it added, or with its refusal.
+fn put_record(out: &mut [u8], at: usize, place: u64, answer: TestAnswer) -> usize
+    requires { ⌜ at + 63 ≤ length (now out) ⌝ }
+    ensures { λ r. ⌜ Put (now (out .entry)) (now (out .exit)) at (recordLine place (testedOf answer)) r ⌝ }
+{
+    let space = put_number(out, at, place);
+    let rest = put_text(out, space, b" ");
+    match answer {
+        TestAnswer::Taken {
+            new_rising,
+            new_falling,
+            ..
+        } => put_pair(out, rest, new_rising, new_falling),
+        TestAnswer::Refused(why) => put_refusal(out, rest, why),
+    }
+}
+
+// Where the record that begins at a place of a file ends: the last may be short.
+fn record_end(at: usize, bytes: usize, length: usize) -> usize
+    requires { ⌜ at ≤ length ⌝ }
+    ensures { λ r. ⌜ r ≡ min (at + bytes) length ⌝ }
+{
+    if length - at < bytes {
+        return length;
+    }
+    at + bytes
+}
+
+// The bytes of a test record.
+pub fn record_length(inputs: usize) -> usize
+    requires { ⌜ inputs ≤ 64 ⌝ }
+    ensures { λ r. ⌜ (r ≡ 2 + 2 * vectorBytes inputs) × (r ≤ 18) ⌝ }
+{
+    2 + 2 * vector_bytes(inputs)
+}
+
+// The lines of a piece's records, the first of which has the place given, on a sound store; the store is left as they leave it.
+pub fn list_piece(
+    netlist: &[u8],
+    tables: Loaded,
+    first: u64,
+    piece: &[u8],
+    store: &mut [u64],
+    work: &mut [u64],
+    out: &mut [u8],
+) -> Listed
+    requires { ⌜ PieceReady (now netlist) tables first (now piece) (now store) (now work) (now out) ⌝ }
+    ensures { λ r. ⌜ PieceLines r (now (netlist .entry)) tables first (now (piece .entry)) (now (store .entry)) (now (store .exit)) (now (work .entry)) (now (work .exit)) (now (out .entry)) (now (out .exit)) ⌝ }
+{
+    let survey = tables.survey;
+    let positions = tables.positions;
+    let inputs = survey.inputs;
+    let nets = inputs + survey.gates;
+    let outputs = survey.outputs;
+    let bytes = record_length(inputs);
+    let mut place = first;
+    let mut at = 0;
+    let mut end = 0;
+    while at < piece.len() {
+        let next = record_end(at, bytes, piece.len());
+        let answer = count_test(
+            netlist,
+            &positions,
+            &survey.counts,
+            inputs,
+            nets,
+            outputs,
+            &piece[at..next],
+            store,
+            work,
+        );
+        end = put_record(out, end, place, answer);
+        place += 1;
+        at = next;
+    }
+    Listed { place, bytes: end }
+}
+
+// A line for one run, with the letter of its edge and a space in front.
+fn put_run(out: &mut [u8], at: usize, letter: &[u8], low: u64, high: u64) -> usize
+    requires { ⌜ at + length (now letter) + 42 ≤ length (now out) ⌝ }
+    ensures { λ r. ⌜ Put (now (out .entry)) (now (out .exit)) at (now (letter .entry) ++ (decimalText low ++ 32 ∷ decimalText high ++ 10 ∷ [])) r ⌝ }
+{
+    let numbers = put_text(out, at, letter);
+    put_pair(out, numbers, low, high)
+}
+
+// A line for each of the n runs from word `from` on.
+fn put_runs(out: &mut [u8], letter: &[u8], words: &[u64], from: usize, n: usize) -> usize
+    requires { ⌜ (length (now letter) ≡ 2) × (n ≤ 1024) × (from + 2 * n ≤ length (now words)) × (outBytes ≤ length (now out)) ⌝ }
+    ensures { λ r. ⌜ Put (now (out .entry)) (now (out .exit)) 0 (runLines (now (letter .entry)) (runsAt (now (words .entry)) from n)) r ⌝ }
+{
+    let mut at = 0;
+    let mut place = from;
+    let mut left = n;
+    while 0 < left {
+        at = put_run(out, at, letter, words[place], words[place + 1]);
+        place += 2;
+        left -= 1;
+    }
+    at
+}
+
+// The lines of the rising runs of a sound store. An edge has at most 1,024 runs and a line at most 44 bytes.
+pub fn put_rising(out: &mut [u8], words: &[u64]) -> usize
+    requires { ⌜ SoundWords (2 ^ 62) (now words) × (outBytes ≤ length (now out)) ⌝ }
+    ensures { λ r. ⌜ Put (now (out .entry)) (now (out .exit)) 0 (runLines risingLetter (storeRuns (now (words .entry)) path.rising)) r ⌝ }
+{
+    put_runs(out, b"R ", words, HEAD_WORDS, words[RISING_COUNT] as usize)
+}
+
+// The lines of the falling runs.
+pub fn put_falling(out: &mut [u8], words: &[u64]) -> usize
+    requires { ⌜ SoundWords (2 ^ 62) (now words) × (outBytes ≤ length (now out)) ⌝ }
+    ensures { λ r. ⌜ Put (now (out .entry)) (now (out .exit)) 0 (runLines fallingLetter (storeRuns (now (words .entry)) path.falling)) r ⌝ }
+{
+    put_runs(
+        out,
+        b"F ",
+        words,
+        FALLING_WORD,
+        words[FALLING_COUNT] as usize,
+    )
+}
+
+// The lines of the totals of a sound store.
+pub fn put_totals(out: &mut [u8], words: &[u64]) -> usize
+    requires { ⌜ SoundWords (2 ^ 62) (now words) × (outBytes ≤ length (now out)) ⌝ }
+    ensures { λ r. ⌜ Put (now (out .entry)) (now (out .exit)) 0 (totalsLines (now (words .entry))) r ⌝ }
+{
+    let held = totals_of(words);
+    let mid = put_numbered(out, 0, b"rising ", held.rising);
+    put_numbered(out, mid, b"falling ", held.falling)
+}
