@@ -1,194 +1,138 @@
 // The listing program: what each test record of tests.tp adds on the netlist circuit.nl, then the runs and the totals of the tested faults. Both
-// files are those of the current folder; a missing one counts as empty.
-use console::Line;
+// files are those of the current folder; a missing one counts as empty. What it writes is made by `listing_text`, each part with a promise.
 use console::NETLIST_BYTES;
-use console::PIECE_BYTES;
-use console::empty_line;
 use console::load_file;
-use console::next_record;
-use console::print_line;
 use console::read_piece;
-use console::record_length;
 use console::whole_records;
-use console::with_number;
-use console::with_refusal;
-use console::with_text;
-use coverage::TestAnswer;
-use coverage::apply_test;
 use libc::STDOUT_FILENO;
-use model::HEAD_WORDS;
-use model::MAX_RUNS;
+use listing_text::inner::PIECE_BYTES;
+use listing_text::inner::list_piece;
+use listing_text::inner::put_falling;
+use listing_text::inner::put_paths;
+use listing_text::inner::put_refusal;
+use listing_text::inner::put_rising;
+use listing_text::inner::put_totals;
+use listing_text::inner::record_length;
+use model::Refusal;
 use model::STORE_WORDS;
 use model::WORK_WORDS;
 use netlist::SurveyAnswer;
-use netlist::survey;
-use store::TotalsAnswer;
-use store::inner::FALLING_COUNT;
-use store::inner::FALLING_WORD;
-use store::inner::RISING_COUNT;
-ghost use Prim.Native.Nat.{_≤_};
-ghost use Rattle.model.specs.Store.{maxRuns, storeWords};
+use netlist::inner::Loaded;
+use netlist::inner::load;
+use store::inner::clear;
+ghost use mathlib.Core.Path.{_≡_};
+ghost use Prim.Native.Nat.{_^_, _≤_};
+ghost use lib.ListN.{length};
+ghost use Rattle.model.specs.Store.{storeWords};
+ghost use Rattle.model.specs.Calls.{workWords};
+ghost use Rattle.store.specs.Sound.{SoundWords};
+ghost use Rattle.listing_text.specs.Answers.{outBytes, LegalTables, ListReady};
 
-// A line of a word and a number.
-fn print_numbered(word: &[u8], number: u64) {
-    print_line(
-        STDOUT_FILENO,
-        with_number(with_text(empty_line(), word), number),
-    );
-}
+// No file has as many pieces: 1.5 times 2^63 bytes.
+const MOST_PIECES: u64 = 0x000C_0000_0000_0000;
 
-// The line with the faults that a test added, rising and falling.
-fn with_added(line: Line, rising: u64, falling: u64) -> Line {
-    with_number(with_text(with_number(line, rising), b" "), falling)
-}
-
-// Takes a record into the store and prints its place with what it added, or with its refusal.
-fn list_record(netlist: &[u8], place: u64, test: &[u8], store: &mut [u64], work: &mut [u64]) {
-    let line = with_text(with_number(empty_line(), place), b" ");
-    let answer = apply_test(netlist, test, store, work);
-    match answer {
-        TestAnswer::Taken {
-            new_rising,
-            new_falling,
-            ..
-        } => print_line(STDOUT_FILENO, with_added(line, new_rising, new_falling)),
-        TestAnswer::Refused(why) => print_line(STDOUT_FILENO, with_refusal(line, why)),
-    }
-}
-
-// The place after a place. No file has as many records as would pass the largest number.
-fn next_place(place: u64) -> u64 {
-    if place < u64::MAX {
-        return place + 1;
-    }
-    place
-}
-
-// The records of a piece, the first of which has the place given; answers the place after the last.
-fn list_piece(
+// The lines of the records of an open file, in pieces. A piece that is not full is the last.
+fn list_records(
+    fd: i32,
     netlist: &[u8],
-    bytes: usize,
-    first: u64,
-    piece: &[u8],
+    tables: Loaded,
     store: &mut [u64],
     work: &mut [u64],
-) -> u64
-    requires { ⌜ 2 ≤ bytes ⌝ }
+    out: &mut [u8],
+)
+    requires { ⌜ ListReady (now netlist) tables (now store) (now work) (now out) ⌝ }
+    ensures { λ _. ⌜ ListReady (now (netlist .entry)) tables (now (store .exit)) (now (work .exit)) (now (out .exit)) ⌝ }
 {
-    let mut place = first;
-    let mut at = 0;
-    while at < piece.len() {
-        let end = at + next_record(piece.len() - at, bytes);
-        list_record(netlist, place, &piece[at..end], store, work);
-        place = next_place(place);
-        at = end;
-    }
-    place
-}
-
-// The records of a file in pieces. A piece that is not full is the last.
-fn list_records(fd: i32, netlist: &[u8], bytes: usize, store: &mut [u64], work: &mut [u64])
-    requires { ⌜ 2 ≤ bytes ⌝ }
-{
-    let mut space = io::large_buffer();
+    let survey = tables.survey;
+    let bytes = record_length(survey.inputs);
     let full = whole_records(PIECE_BYTES, bytes);
+    let mut space = io::buffer();
     let mut place: u64 = 1;
-    let mut pieces = u64::MAX;
+    let mut pieces = MOST_PIECES;
     while 0 < pieces {
         let n = read_piece(fd, bytes, &mut space);
-        place = list_piece(netlist, bytes, place, &space[..n], store, work);
+        let listed = list_piece(netlist, tables, place, &space[..n], store, work, out);
+        let end = listed.bytes;
+        io::write_all(STDOUT_FILENO, &out[..end]);
         if n < full {
             return;
         }
+        place = listed.place;
         pieces -= 1;
     }
 }
 
-// The records of tests.tp.
-fn list_file(netlist: &[u8], bytes: usize, store: &mut [u64], work: &mut [u64])
-    requires { ⌜ 2 ≤ bytes ⌝ }
+// The lines of the records of tests.tp, from an empty store on.
+fn list_file(netlist: &[u8], tables: Loaded, store: &mut [u64], work: &mut [u64], out: &mut [u8])
+    requires { ⌜ LegalTables (now netlist) tables × (length (now store) ≡ storeWords) × (workWords ≤ length (now work)) × (outBytes ≤ length (now out)) ⌝ }
+    ensures { λ _. ⌜ ListReady (now (netlist .entry)) tables (now (store .exit)) (now (work .exit)) (now (out .exit)) ⌝ }
 {
+    clear(store);
     let fd = os::open_read(b"tests.tp");
     if fd < 0 {
         return;
     }
-    list_records(fd, netlist, bytes, store, work);
+    list_records(fd, netlist, tables, store, work, out);
     libc::close(fd);
 }
 
-// A word of the store; 0 where there is none.
-fn word_at(store: &[u64], at: usize) -> u64 {
-    if at < store.len() {
-        return store[at];
-    }
-    0
-}
-
-// The number of an edge's runs.
-fn run_count(store: &[u64], at: usize) -> usize
-    ensures { λ r. ⌜ r ≤ maxRuns ⌝ }
+// The lines after those of the records: the runs of each edge and the totals.
+fn list_store(store: &[u64], out: &mut [u8])
+    requires { ⌜ SoundWords (2 ^ 62) (now store) × (outBytes ≤ length (now out)) ⌝ }
 {
-    let count = word_at(store, at);
-    if count <= MAX_RUNS as u64 {
-        return count as usize;
-    }
-    MAX_RUNS
-}
-
-// A line for one run, with the letter of its edge.
-fn print_run(letter: &[u8], low: u64, high: u64) {
-    let line = with_number(with_text(empty_line(), letter), low);
-    print_line(STDOUT_FILENO, with_number(with_text(line, b" "), high));
-}
-
-// A line for each of an edge's runs, the first of which begins at the word given.
-fn print_runs(letter: &[u8], store: &[u64], runs: usize, first: usize)
-    requires { ⌜ (runs ≤ maxRuns) × (first ≤ storeWords) ⌝ }
-{
-    let mut i = 0;
-    while i < runs {
-        let at = first + 2 * i;
-        print_run(letter, word_at(store, at), word_at(store, at + 1));
-        i += 1;
-    }
-}
-
-// The number of faults that the store holds, of each edge.
-fn print_totals(netlist: &[u8], store: &[u64]) {
-    let totals = store::totals(netlist, store);
-    match totals {
-        TotalsAnswer::Totals { rising, falling } => {
-            print_numbered(b"rising ", rising);
-            print_numbered(b"falling ", falling);
-        }
-        TotalsAnswer::Refused(why) => print_line(STDOUT_FILENO, with_refusal(empty_line(), why)),
-    }
+    let rising = put_rising(out, store);
+    io::write_all(STDOUT_FILENO, &out[..rising]);
+    let falling = put_falling(out, store);
+    io::write_all(STDOUT_FILENO, &out[..falling]);
+    let totals = put_totals(out, store);
+    io::write_all(STDOUT_FILENO, &out[..totals]);
 }
 
 // The listing of a legal netlist.
-fn list(netlist: &[u8], inputs: usize, paths: u64) {
-    print_numbered(b"paths ", paths);
-    let mut store = [0u64; STORE_WORDS];
-    let mut work = [0u64; WORK_WORDS];
-    list_file(netlist, record_length(inputs), &mut store, &mut work);
-    print_runs(b"R ", &store, run_count(&store, RISING_COUNT), HEAD_WORDS);
-    print_runs(
-        b"F ",
-        &store,
-        run_count(&store, FALLING_COUNT),
-        FALLING_WORD,
-    );
-    print_totals(netlist, &store);
+fn list(netlist: &[u8], tables: Loaded, store: &mut [u64], work: &mut [u64], out: &mut [u8])
+    requires { ⌜ LegalTables (now netlist) tables × (length (now store) ≡ storeWords) × (workWords ≤ length (now work)) × (outBytes ≤ length (now out)) ⌝ }
+{
+    let survey = tables.survey;
+    let n = put_paths(out, survey.total);
+    io::write_all(STDOUT_FILENO, &out[..n]);
+    list_file(netlist, tables, store, work, out);
+    list_store(store, out);
+}
+
+// The line of a refused netlist.
+fn refuse(why: Refusal, out: &mut [u8])
+    requires { ⌜ outBytes ≤ length (now out) ⌝ }
+{
+    let n = put_refusal(out, 0, why);
+    io::write_all(STDOUT_FILENO, &out[..n]);
+}
+
+// The words of an empty store, and those of working memory.
+fn store_words() -> [u64; STORE_WORDS]
+    ensures { λ r. ⌜ storeWords ≡ length r ⌝ }
+{
+    [0; STORE_WORDS]
+}
+
+fn work_words() -> [u64; WORK_WORDS]
+    ensures { λ r. ⌜ workWords ≡ length r ⌝ }
+{
+    [0; WORK_WORDS]
 }
 
 fn main() {
     let mut bytes = [0u8; NETLIST_BYTES];
     let n = load_file(b"circuit.nl", &mut bytes);
     let netlist = &bytes[..n];
-    let surveyed = survey(netlist);
-    let answer = surveyed.answer;
+    let tables = load(netlist);
+    let answer = tables.answer;
+    let mut out = io::large_buffer();
     match answer {
-        SurveyAnswer::Refused(why) => print_line(STDOUT_FILENO, with_refusal(empty_line(), why)),
-        SurveyAnswer::Legal => list(netlist, surveyed.survey.inputs, surveyed.survey.total),
+        SurveyAnswer::Refused(why) => refuse(why, &mut out),
+        SurveyAnswer::Legal => {
+            let mut store = store_words();
+            let mut work = work_words();
+            list(netlist, tables, &mut store, &mut work, &mut out);
+        }
     }
 }
