@@ -26,8 +26,9 @@ list-file-requires c κs = search needs
 
 list-store-requires : tie.Need-list-store-requires
 list-store-requires c κs =
-    let a = c .before .before .before .before .before .before .before .before .before .before .before .before .before .before .before .before .before .before .before .before .before .before .before .args in
-    let q = c .before .before .before .before .before .before .before .before .list-file in
+    let here = c .before .before .before .before .before .before .before .before in
+    let q = here .list-file in
+    let a = here .before .before .before .before .before .before .before .before .before .before .before .before .before .before .before .args in
     (ready-sound (a .netlist .now) (a .tables) (q .last .1 .1 .0) (q .last .1 .1 .1 .0) (q .last .1 .1 .1 .1 .0) (q .ensures), q .ensures .room)
 
 same-length : tie.Need-same-length

@@ -48,8 +48,9 @@ slice-aggregate-list-piece c = search needs
 
 list-piece-requires : tie.Need-list-piece-requires Inv-loop μ-loop
 list-piece-requires c κs =
-    let a = c .before .before .before .before .before .before .before .before .before .before .before .before .before .before .before .before .before .args in
-    let l = c .before .before .before .before .before .before .before .before .loop in
+    let here = c .before .before .before .before .before .before .before .before in
+    let a = here .before .before .before .before .before .before .before .before .before .args in
+    let l = here .loop in
     let got = c .before .before .before .before .before .read-piece in
     let piece = take (got .result) (got .last .1 .1 .0) in
     let within : length piece ≤ 4096 = omega (arith, got .ensures .0, got .ensures .1, l .inv .1) in
@@ -58,8 +59,9 @@ list-piece-requires c κs =
 
 slice-reshare-prefix-write-all : tie.Need-slice-reshare-prefix-write-all Inv-loop μ-loop
 slice-reshare-prefix-write-all c =
-    let a = c .before .before .before .before .before .before .before .before .before .before .before .before .before .before .before .before .before .before .before .before .before .before .before .before .args in
-    let l = c .before .before .before .before .before .before .before .before .before .before .before .before .before .before .before .loop in
+    let here = c .before .before .before .before .before .before .before .before .before .before .before .before .before .before .before in
+    let a = here .before .before .before .before .before .before .before .before .before .args in
+    let l = here .loop in
     let got = c .before .before .before .before .before .before .before .before .before .before .before .before .read-piece in
     let piece = take (got .result) (got .last .1 .1 .0) in
     let q = c .before .before .before .before .before .before .list-piece in
@@ -68,8 +70,9 @@ slice-reshare-prefix-write-all c =
 
 slice-aggregate-write-all : tie.Need-slice-aggregate-write-all Inv-loop μ-loop
 slice-aggregate-write-all c =
-    let a = c .before .before .before .before .before .before .before .before .before .before .before .before .before .before .before .before .before .before .before .before .before .before .before .before .before .args in
-    let l = c .before .before .before .before .before .before .before .before .before .before .before .before .before .before .before .before .loop in
+    let here = c .before .before .before .before .before .before .before .before .before .before .before .before .before .before .before .before in
+    let a = here .before .before .before .before .before .before .before .before .before .args in
+    let l = here .loop in
     let got = c .before .before .before .before .before .before .before .before .before .before .before .before .before .read-piece in
     let piece = take (got .result) (got .last .1 .1 .0) in
     let q = c .before .before .before .before .before .before .before .list-piece in
@@ -91,8 +94,9 @@ same-length-3 c = search needs
 
 returns : tie.Need-returns Inv-loop μ-loop
 returns c =
-    let a = c .before .before .before .before .before .before .before .before .before .before .before .before .before .before .before .before .before .before .before .before .before .before .before .before .before .before .before .args in
-    let l = c .before .before .before .before .before .before .before .before .before .before .before .before .before .before .before .before .before .before .loop in
+    let here = c .before .before .before .before .before .before .before .before .before .before .before .before .before .before .before .before .before .before in
+    let a = here .before .before .before .before .before .before .before .before .before .args in
+    let l = here .loop in
     let got = c .before .before .before .before .before .before .before .before .before .before .before .before .before .before .before .read-piece in
     let piece = take (got .result) (got .last .1 .1 .0) in
     let q = c .before .before .before .before .before .before .before .before .before .list-piece in
@@ -107,15 +111,17 @@ loop-less c = search needs
 
 loop-again : tie.Need-loop-again Inv-loop μ-loop
 loop-again c =
-    let a = c .before .before .before .before .before .before .before .before .before .before .before .before .before .before .before .before .before .before .before .before .before .before .before .before .before .before .before .args in
-    let l = c .before .before .before .before .before .before .before .before .before .before .before .before .before .before .before .before .before .before .loop in
+    let here = c .before .before .before .before .before .before .before .before .before .before .before .before .before .before .before .before .before .before in
+    let a = here .before .before .before .before .before .before .before .before .before .args in
+    let l = here .loop in
     let got = c .before .before .before .before .before .before .before .before .before .before .before .before .before .before .before .read-piece in
     let piece = take (got .result) (got .last .1 .1 .0) in
     let q = c .before .before .before .before .before .before .before .before .before .list-piece in
     let within : length piece ≤ 4096 = omega (arith, got .ensures .0, got .ensures .1, l .inv .1) in
     let ready = piece-next (a .netlist .now) (a .tables) (l .store) (l .work) (l .out) (l .inv .0)
     (q .result) (l .place) piece (q .last .1 .1 .1 .1 .0) (q .last .1 .1 .1 .1 .1 .0) (q .last .1 .1 .1 .1 .1 .1 .0) (q .ensures) in
-    (ready, search needs, omega (arith, l .inv .2, q .ensures .fewPlaces, c .before .before .before .before .before .before .before .before .before .before .before .before .before .before .before .before .before .loop-test .taken), search needs, search needs, search needs)
+    let some = c .before .before .before .before .before .before .before .before .before .before .before .before .before .before .before .before .before .loop-test .taken in
+    (ready, search needs, omega (arith, l .inv .2, q .ensures .fewPlaces, some), search needs, search needs, search needs)
 
 same-length-4 : tie.Need-same-length-4 Inv-loop μ-loop
 same-length-4 c = search needs

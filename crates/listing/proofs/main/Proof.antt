@@ -59,7 +59,10 @@ list-requires : tie.Need-list-requires
 list-requires c κs =
     let q = c .before .before .before .before .before .before .before .before .load in
     let legal = c .before .before .before .before .before .enum-told .given .1 in
-    (legal-tables (q .result) _ (q .ensures) legal, sym (c .before .before .before .before .store-words .ensures), omega (arith, c .before .before .before .work-words .ensures), omega (arith, c .before .before .before .before .before .before .before .large-buffer .ensures))
+    let store = c .before .before .before .before .store-words .ensures in
+    let work = c .before .before .before .work-words .ensures in
+    let out = c .before .before .before .before .before .before .before .large-buffer .ensures in
+    (legal-tables (q .result) _ (q .ensures) legal, sym store, omega (arith, work), omega (arith, out))
 
 returns : tie.Need-returns
 returns c = search needs

@@ -26,7 +26,9 @@ add-nets c =
     let s = c .before .before .before .before .before .before .before in
     let a = s .args in
     let t = a .tables in
-    omega (arith, tables-limits (s .pre .circuit) (a .netlist .now) (t .positions) (t .survey .counts) (t .survey .inputs) (t .survey .inputs + t .survey .gates) (t .survey .outputs) (s .pre .tables) .2)
+    let few =
+    tables-limits (s .pre .circuit) (a .netlist .now) (t .positions) (t .survey .counts) (t .survey .inputs) (t .survey .inputs + t .survey .gates) (t .survey .outputs) (s .pre .tables) in
+    omega (arith, few .2)
 
 record-length-requires : tie.Need-record-length-requires Inv-loop μ-loop
 record-length-requires c κs =
@@ -61,18 +63,21 @@ count-test-requires c κs = c .before .before .before .before .before .before .b
 
 put-record-requires : tie.Need-put-record-requires Inv-loop μ-loop
 put-record-requires c κs =
-    let s = c .before .before .before .before .before .before .before .before .before .before .before .before .before .before .before .before .before .before .before .before .before .before .before in
+    let here = c .before .before .before .before .before .before .before .before .before .before .before .before .before .before in
+    let s = here .before .before .before .before .before .before .before .before .before in
     let a = s .args in
     let t = a .tables in
-    let l = c .before .before .before .before .before .before .before .before .before .before .before .before .before .before .loop in
+    let l = here .loop in
     listing-room (a .netlist .now) (t .positions) (t .survey .counts) (t .survey .inputs) (t .survey .inputs + t .survey .gates) (t .survey .outputs)
     (a .first) (a .piece .now) (a .store .now) (a .work .now) (a .out .now)
-    (l .store) (l .work) (l .out) (l .place) (l .at) (l .end) (l .inv) (c .before .before .before .before .before .before .before .before .before .before .before .before .before .loop-test .taken) (s .pre .shortPiece) (s .pre .room)
+    (l .store) (l .work) (l .out) (l .place) (l .at) (l .end) (l .inv)
+    (c .before .before .before .before .before .before .before .before .before .before .before .before .before .loop-test .taken) (s .pre .shortPiece) (s .pre .room)
 
 add-place : tie.Need-add-place Inv-loop μ-loop
 add-place c =
-    let s = c .before .before .before .before .before .before .before .before .before .before .before .before .before .before .before .before .before .before .before .before .before .before .before .before .before .before in
-    let l = c .before .before .before .before .before .before .before .before .before .before .before .before .before .before .before .before .before .loop in
+    let here = c .before .before .before .before .before .before .before .before .before .before .before .before .before .before .before .before .before in
+    let s = here .before .before .before .before .before .before .before .before .before in
+    let l = here .loop in
     omega (arith, l .inv .places, s .pre .places, c .before .before .before .before .before .before .before .before .before .before .before .before .before .before .before .before .loop-test .taken)
 
 loop-less : tie.Need-loop-less Inv-loop μ-loop
@@ -83,10 +88,11 @@ loop-less c =
 
 loop-again : tie.Need-loop-again Inv-loop μ-loop
 loop-again c =
-    let s = c .before .before .before .before .before .before .before .before .before .before .before .before .before .before .before .before .before .before .before .before .before .before .before .before .before .before in
+    let here = c .before .before .before .before .before .before .before .before .before .before .before .before .before .before .before .before .before in
+    let s = here .before .before .before .before .before .before .before .before .before in
     let a = s .args in
     let t = a .tables in
-    let l = c .before .before .before .before .before .before .before .before .before .before .before .before .before .before .before .before .before .loop in
+    let l = here .loop in
     let bytes = c .before .before .before .before .before .before .before .before .before .before .before .before .before .before .before .before .before .before .record-length in
     let next = c .before .before .before .before .before .before .before .before .before .before .before .before .before .before .before .record-end in
     let q = c .before .before .before .before .before .before .before .before .count-test in
@@ -94,7 +100,8 @@ loop-again c =
     listing-next (a .netlist .now) (t .positions) (t .survey .counts) (t .survey .inputs) (t .survey .inputs + t .survey .gates) (t .survey .outputs)
     (a .first) (a .piece .now) (a .store .now) (a .work .now) (a .out .now)
     (l .store) (l .work) (l .out) (l .place) (l .at) (l .end) (l .inv)
-    (bytes .result) (next .result) (bytes .ensures .0) (c .before .before .before .before .before .before .before .before .before .before .before .before .before .before .before .before .loop-test .taken) (next .ensures)
+    (bytes .result) (next .result) (bytes .ensures .0)
+    (c .before .before .before .before .before .before .before .before .before .before .before .before .before .before .before .before .loop-test .taken) (next .ensures)
     (q .last .1 .1 .1 .1 .1 .1 .1 .0) (q .last .1 .1 .1 .1 .1 .1 .1 .1 .0) (p .last .0) (p .result) (q .result) (q .ensures) (p .ensures)
 
 same-length : tie.Need-same-length Inv-loop μ-loop
