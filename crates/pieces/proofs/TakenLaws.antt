@@ -70,7 +70,7 @@ as-then N piece (refused n) k = refl
 as-then N piece (value left) k = refl
 
 -- a piece of whole records, then another
-taken-both : (N : Netlist) (piece rest : List ℕ) (x : Answer (List ℕ)) (k : ℕ) → length piece % recordLength N ≡ 0
+pub taken-both : (N : Netlist) (piece rest : List ℕ) (x : Answer (List ℕ)) (k : ℕ) → length piece % recordLength N ≡ 0
     → takenWith N rest (withPiece N piece x) (takenWith N piece x k) ≡ takenWith N (piece ++ rest) x k
 unfolding withPiece takenWith
 taken-both N piece rest (refused n) k h = refl
@@ -83,7 +83,7 @@ taken-both N piece rest (value ws) k h =
     ∙ ap (λ (rs : List (List ℕ)). k + takenOf N rs ws) (sym (file-append N piece rest h))
 
 -- no piece
-taken-none : (N : Netlist) (x : Answer (List ℕ)) (k : ℕ) → k ≡ takenWith N [] x k
+pub taken-none : (N : Netlist) (x : Answer (List ℕ)) (k : ℕ) → k ≡ takenWith N [] x k
 unfolding takenWith takenOf
 taken-none N (refused n) k = refl
 taken-none N (value ws) k =

@@ -107,7 +107,7 @@ pub fn take_piece(
 }
 
 // Whether so many bytes are a whole number of records, of `each` bytes, and not too many of them.
-pub(crate) fn whole_length(bytes: u64, each: u64) -> bool
+pub fn whole_length(bytes: u64, each: u64) -> bool
     requires { ⌜ 0 < each ⌝ }
     ensures { λ r. ⌜ r ≡ (eqb (bytes % each) 0 && leb (bytes / each) 4294967295) ⌝ }
 {

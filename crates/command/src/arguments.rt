@@ -1,0 +1,38 @@
+// The words of the command line.
+ghost use Rattle.io.specs.Counts.{Counts};
+use text::inner::put_text;
+
+// Whether two texts are the same.
+fn same_text(left: &[u8], right: &[u8]) -> bool {
+    if left.len() != right.len() {
+        return false;
+    }
+    let mut i = 0;
+    while i < left.len() {
+        if left[i] != right[i] {
+            return false;
+        }
+        i += 1;
+    }
+    true
+}
+
+// Whether an argument is this word.
+pub fn is_argument(place: usize, word: &[u8]) -> bool {
+    let mut space = io::buffer();
+    let n = os::arg(place, &mut space);
+    same_text(&space[..n], word)
+}
+
+// Puts the file name that an argument gives at the start of a space, or the usual name where there is no such argument.
+pub fn file_name(place: usize, usual: &[u8], space: &mut [u8]) -> usize
+    ensures { λ r. ⌜ Counts r (now (space .exit)) ⌝ }
+{
+    if place < os::arg_count() {
+        return os::arg(place, space);
+    }
+    if space.len() < usual.len() {
+        return 0;
+    }
+    put_text(space, 0, usual)
+}

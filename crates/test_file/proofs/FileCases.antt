@@ -1,0 +1,86 @@
+-- The length of the whole file: 33 comes before what its records answer.
+-- Assumes nothing.
+use mathlib.Core.Path.{_≡_, refl, ap, ap₂, sym, _∙_, subst}
+use mathlib.Core.Bool.{Bool, true, false, _&&_}
+use mathlib.Core.List.{List}
+use Prim.Native.Nat.{ℕ, _+_, _*_, _/_, _%_, _≤_}
+use borrow.Author.Needs.{needs}
+use lib.Dec.{leb, eqb}
+use lib.ListN.{length, replicate}
+use Rattle.model.specs.Base.{Answer, refused, value}
+use Rattle.model.specs.Netlist.{Netlist}
+use Rattle.model.specs.Read.{vectorBytes, recordLength, readNetlist}
+use Rattle.model.specs.Refusals.{refusalNumber}
+use Rattle.model.specs.Store.{emptyStore}
+use Rattle.model.specs.Report.{wholeRecords}
+use Rattle.model.specs.declared.Refusal.the-variants as why
+use Rattle.model.proofs.AnswerLaws.{value-inj}
+use Rattle.netlist.specs.declared.inner.Loaded.{Loaded}
+use Rattle.coverage.specs.Stage.{MemoryReady}
+use Rattle.report.specs.TestFile.{fileOf, leftStore}
+use Rattle.report.specs.declared.inner.test_file.FileAnswer.the-variants as file
+use Rattle.report.proofs.FileSteps.{emptied}
+use Rattle.pieces.specs.Steps.{Ready}
+use Rattle.pieces.proofs.StepCases.{ready-inputs, empty-memory}
+use Rattle.test_file.specs.declared.walking.Walk.{Walk}
+use Rattle.test_file.specs.Walked.{recordsTaken, fileTaken, Walked}
+
+whole-call : (N : Netlist) (testFile : List ℕ) → wholeRecords N testFile ≡ true → recordsTaken N testFile ≡ fileTaken N testFile
+unfolding recordsTaken fileTaken
+whole-call N testFile q = rw q refl
+
+cut-call : (N : Netlist) (testFile : List ℕ) → wholeRecords N testFile ≡ false → fileTaken N testFile ≡ refused 33
+unfolding fileTaken
+cut-call N testFile q = rw q refl
+
+module _ (walk : Walk) (netlist : List ℕ) (loaded : Loaded) (space ws work work′ : List ℕ) (v : Walked recordsTaken walk netlist loaded space ws work work′) where
+  pub walked-inputs : loaded .survey .inputs ≤ 64
+  walked-inputs = ready-inputs netlist loaded ws work′ (v .ready)
+
+  module _ (each : ℕ) (ee : each ≡ 2 + 2 * vectorBytes (loaded .survey .inputs))
+      (b : Bool) (eb : b ≡ (eqb (walk .bytes % each) 0 && leb (walk .bytes / each) 4294967295)) where
+    -- in the model's numbers
+    whole-is : (N : Netlist) → readNetlist netlist ≡ value N → wholeRecords N (v .testFile) ≡ b
+    whole-is N e =
+        let i : loaded .survey .inputs ≡ N .inputs = v .ready .tables .inputsAre ∙ ap (λ (M : Netlist). M .inputs) (value-inj (sym (v .ready .tables .legal) ∙ e)) in
+        let k : each ≡ recordLength N = ee ∙ ap (λ (j : ℕ). 2 + 2 * vectorBytes j) i in
+        sym (eb ∙ ap₂ (λ (x y : ℕ). eqb (x % y) 0 && leb (x / y) 4294967295) (v .bytesAre) k)
+
+    pub file-whole : b ≡ true → Walked fileTaken walk netlist loaded space ws work work′
+    file-whole q = record {
+      testFile = v .testFile;
+      bytesAre = v .bytesAre;
+      inSpace = v .inSpace;
+      answer = λ N e. v .answer N e ∙ whole-call N (v .testFile) (whole-is N e ∙ q);
+      store = λ N e. v .store N e ∙ ap leftStore (whole-call N (v .testFile) (whole-is N e ∙ q));
+      taken = v .taken;
+      ready = v .ready;
+      sameLength = v .sameLength;
+      pastWork = v .pastWork;
+    }
+
+    pub file-cut : b ≡ false → (ws′ : List ℕ) → ws′ ≡ replicate (length ws) 0
+        → Walked fileTaken (record { bytes = walk .bytes; records = record { taken = walk .records .taken; answer = file.Refused why.TestFileLength }; whole = walk .whole })
+        netlist loaded space ws′ work work′
+    unfolding leftStore
+    file-cut q ws′ z =
+        let N₀ : Netlist = v .ready .circuit in
+        let empty : ws′ ≡ emptyStore = emptied ws′ (length ws) z (v .ready .memory .storeLength) in
+        record {
+          testFile = v .testFile;
+          bytesAre = v .bytesAre;
+          inSpace = v .inSpace;
+          answer = λ N e. sym (cut-call N (v .testFile) (whole-is N e ∙ q));
+          store = λ N e. empty ∙ sym (ap leftStore (cut-call N (v .testFile) (whole-is N e ∙ q)));
+          taken = v .taken;
+          ready = record {
+            circuit = N₀;
+            tables = v .ready .tables;
+            totalIs = v .ready .totalIs;
+            memory = subst (λ (x : List ℕ). MemoryReady N₀ x work′) (sym empty) (empty-memory N₀ work′ (v .ready .memory .workLength));
+          };
+          sameLength = v .sameLength;
+          pastWork = v .pastWork;
+        }
+
+pub ruleset file-cases = (walked-inputs, file-whole, file-cut, needs)

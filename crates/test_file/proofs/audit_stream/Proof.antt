@@ -1,0 +1,86 @@
+-- `test_file::audit_stream` meets its contract: a refusal at the beginning, or the end of a file that was walked over.
+-- Assumes nothing.
+use Rattle.pieces.proofs.TogetherHolds.{begun-ready, begun-empty}
+use Rattle.test_file.proofs.ReportCases.{few-tests}
+use Rattle.test_file.proofs.StreamCases.{audit-done, stream-cases}
+use mathlib.Core.Path.{_∙_}
+use borrow.Author.Needs.{needs}
+use Rattle.test_file.proofs.audit_stream.Statement.{statement}
+use Rattle.test_file.proofs.audit_stream.Tie as tie
+
+begin-requires : tie.Need-begin-requires
+begin-requires c κs = search needs
+
+enum-known-beginning : tie.Need-enum-known-beginning
+enum-known-beginning c = search needs
+
+enum-told : tie.Need-enum-told
+enum-told c = search needs
+
+walk-file-requires : tie.Need-walk-file-requires
+walk-file-requires c κs =
+    let begun = c .before .before .before .before .before .before .before .before .begin in
+    let ready = c .before .before .before .enum-told .given .1 in
+    (begun-ready _ _ _ _ (begun .result) (begun .ensures) ready, begun-empty _ _ _ _ (begun .result .answer) (begun .ensures .answer) ready (begun .ensures .store))
+
+true-report-requires : tie.Need-true-report-requires
+true-report-requires c κs = few-tests _ _ _ _ _ _ _ (c .before .before .before .before .before .before .before .before .before .walk-file .ensures)
+
+finish-requires : tie.Need-finish-requires
+finish-requires c κs = search needs
+
+same-length : tie.Need-same-length
+same-length c = search needs
+
+same-length-2 : tie.Need-same-length-2
+same-length-2 c = search needs
+
+returns : tie.Need-returns
+returns c = (search stream-cases, search needs)
+
+same-length-3 : tie.Need-same-length-3
+same-length-3 c = search needs
+
+same-length-4 : tie.Need-same-length-4
+same-length-4 c = search needs
+
+same-length-5 : tie.Need-same-length-5
+same-length-5 c =
+    let finished = c .before .store3 .given in
+    let walked = c .before .before .before .before .before .before .before .before .before .before .before .before .before .before .store2 .given in
+    let begun = c .before .before .before .before .before .before .before .before .before .before .before .before .before .before .before .before .before .before .before .before .before .before .before .before .before .store .given in
+    finished ∙ walked ∙ begun
+
+same-length-6 : tie.Need-same-length-6
+same-length-6 c = search needs
+
+returns-2 : tie.Need-returns-2
+returns-2 c =
+    let finished = c .before .before .finish in
+    let wrote = c .before .before .before .before .before .before .before .true-report in
+    let walked = c .before .before .before .before .before .before .before .before .before .before .before .before .before .before .before .before .before .walk-file in
+    let ready = c .before .before .before .before .before .before .before .before .before .before .before .before .before .before .before .before .before .before .before .before .before .enum-told .given .1 in
+    let begun = c .before .before .before .before .before .before .before .before .before .before .before .before .before .before .before .before .before .before .before .before .before .before .before .before .before .before .begin in
+    let done =
+    audit-done _ _ _ _ (begun .result) (begun .ensures) ready (walked .result) _ _ _ (walked .ensures) (wrote .result) _ _ (wrote .ensures .0)
+    _ (finished .result) _ (finished .ensures) in
+    (done, wrote .ensures .1)
+
+pub audit-stream-spec : {M : Type 1} → statement M
+audit-stream-spec =
+    tie.close
+    (tie.spec
+    begin-requires
+    enum-known-beginning
+    enum-told
+    walk-file-requires
+    true-report-requires
+    finish-requires
+    same-length
+    same-length-2
+    returns
+    same-length-3
+    same-length-4
+    same-length-5
+    same-length-6
+    returns-2)

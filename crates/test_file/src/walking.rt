@@ -1,0 +1,129 @@
+// A test file, a piece of whole records at a time.
+ghost use mathlib.Core.Path.{_≡_};
+ghost use Prim.Native.Nat.{_+_, _%_, _≤_, _<_};
+ghost use lib.ListN.{length};
+ghost use Rattle.io.specs.Counts.{Counts};
+ghost use Rattle.model.specs.Store.{emptyStore};
+ghost use Rattle.pieces.specs.Steps.{Ready};
+ghost use Rattle.test_file.specs.Walked.{Walked, recordsTaken, fileTaken};
+use command::at_end;
+use command::end_progress;
+use command::file_size;
+use command::show_progress;
+use model::Refusal;
+use netlist::inner::Loaded;
+use pieces::inner::take_piece;
+use pieces::inner::whole_length;
+use report::inner::test_file::FileAnswer;
+use report::inner::test_file::TakenRecords;
+use report::inner::test_file::record_length;
+use store::inner::clear;
+
+// A file of more bytes has too many records: no record is longer than 18 bytes.
+const MAX_BYTES: u64 = 77309411310;
+
+// A test file as it was read: its bytes, what its records answer, and whether it was read whole.
+pub struct Walk {
+    pub bytes: u64,
+    pub records: TakenRecords,
+    pub whole: bool,
+}
+
+// The bytes of the whole records in a space.
+fn whole_part(space: usize, bytes: usize) -> usize
+    requires { ⌜ 2 ≤ bytes ⌝ }
+    ensures { λ r. ⌜ (r ≤ space) × (r % bytes ≡ 0) × (space < r + bytes) ⌝ }
+{
+    space - space % bytes
+}
+
+// The fewest bytes of a piece that another may follow.
+fn full_piece(full: usize) -> usize
+    ensures { λ r. ⌜ (full ≤ r) × (1 ≤ r) ⌝ }
+{
+    if full == 0 { 1 } else { full }
+}
+
+// Reads at most so many bytes to the start of a space.
+fn read_part(fd: i32, most: usize, space: &mut [u8]) -> usize
+    requires { ⌜ most ≤ length (now space) ⌝ }
+    ensures { λ r. ⌜ Counts r (now (space .exit)) ⌝ }
+    ensures { λ r. ⌜ r ≤ most ⌝ }
+{
+    io::read_full(fd, &mut space[..most])
+}
+
+// The test calls with the records of a file, piece by piece. A piece that is not full is the last; the file was then read whole, unless a read
+// failed, more bytes came or its size is another. A file of too many bytes is not read further: the rest changes nothing.
+fn take_pieces(
+    fd: i32,
+    netlist: &[u8],
+    loaded: Loaded,
+    space: &mut [u8],
+    store: &mut [u64],
+    work: &mut [u64],
+) -> Walk
+    requires { ⌜ Ready (now netlist) loaded (now store) (now work) ⌝ }
+    requires { ⌜ now store ≡ emptyStore ⌝ }
+    ensures { λ r. ⌜ Walked recordsTaken r (now (netlist .entry)) loaded (now (space .exit)) (now (store .exit)) (now (work .entry)) (now (work .exit)) ⌝ }
+{
+    let bytes = record_length(loaded.survey.inputs);
+    let full = whole_part(space.len(), bytes);
+    let least = full_piece(full);
+    let size = file_size(fd);
+    let mut records = TakenRecords {
+        taken: 0,
+        answer: FileAnswer::Taken,
+    };
+    let mut so_far: u64 = 0;
+    while so_far <= MAX_BYTES {
+        let n = read_part(fd, full, space);
+        records = take_piece(netlist, loaded, records, &space[..n], store, work);
+        so_far += n as u64;
+        if n < least {
+            let whole = at_end(fd, size);
+            return Walk {
+                bytes: so_far,
+                records,
+                whole,
+            };
+        }
+        show_progress(records.taken as u64);
+    }
+    Walk {
+        bytes: so_far,
+        records,
+        whole: true,
+    }
+}
+
+// The same, and the length of the whole file: 33 comes before a record's refusal and leaves the store empty, too.
+pub(crate) fn walk_file(
+    fd: i32,
+    netlist: &[u8],
+    loaded: Loaded,
+    space: &mut [u8],
+    store: &mut [u64],
+    work: &mut [u64],
+) -> Walk
+    requires { ⌜ Ready (now netlist) loaded (now store) (now work) ⌝ }
+    requires { ⌜ now store ≡ emptyStore ⌝ }
+    ensures { λ r. ⌜ Walked fileTaken r (now (netlist .entry)) loaded (now (space .exit)) (now (store .exit)) (now (work .entry)) (now (work .exit)) ⌝ }
+{
+    let walk = take_pieces(fd, netlist, loaded, space, store, work);
+    end_progress();
+    let each = record_length(loaded.survey.inputs) as u64;
+    if whole_length(walk.bytes, each) {
+        return walk;
+    }
+    clear(store);
+    let records = TakenRecords {
+        taken: walk.records.taken,
+        answer: FileAnswer::Refused(Refusal::TestFileLength),
+    };
+    Walk {
+        bytes: walk.bytes,
+        records,
+        whole: walk.whole,
+    }
+}

@@ -1,0 +1,39 @@
+-- A text that fits a line, alone on it, is what the line says.
+-- Assumes nothing.
+use mathlib.Core.Path.{_≡_, ap, sym, _∙_}
+use mathlib.Core.List.{List, [], _++_}
+use Prim.Native.Nat.{ℕ, _+_, _≤_}
+use native.Mathlib.Omega.{arith}
+use borrow.Author.Needs.{needs}
+use lib.ListN.{length, take, length-append}
+use lib.Seq.{take-all}
+use Rattle.model.specs.Refusals.{refusalNumber}
+use Rattle.model.specs.declared.Refusal.{Refusal}
+use Rattle.report.specs.Answers.{auditedOf}
+use Rattle.report.specs.declared.AuditAnswer.{AuditAnswer}
+use Rattle.report.specs.declared.AuditAnswer.the-variants as audit
+use Rattle.text.specs.Decimal.{refusedWord, refusedText, decimalText}
+use Rattle.text.specs.Lines.{onLine}
+use Rattle.text.proofs.DecimalLaws.{at-most-20}
+use Rattle.verdict.specs.Verdict.{acceptedText, verdictText}
+
+alone : (text : List ℕ) → length text ≤ 128 → onLine [] text ≡ text
+unfolding onLine
+alone text h = take-all 128 text h
+
+short : (number : ℕ) → length (refusedText number) ≤ 128
+unfolding refusedText
+short number = omega (arith, length-append refusedWord (decimalText number), at-most-20 number)
+
+-- what stands on a line that was empty
+module _ (answer : AuditAnswer) (before after : List ℕ) (e : before ≡ []) where
+  pub line-accepted : answer ≡ audit.Accepted → after ≡ onLine before acceptedText → after ≡ verdictText (auditedOf answer)
+  line-accepted q l =
+      l ∙ ap (λ (t : List ℕ). onLine t acceptedText) e ∙ alone acceptedText (omega arith) ∙ ap (λ (a : AuditAnswer). verdictText (auditedOf a)) (sym q)
+
+  pub line-refused : (why : Refusal) → answer ≡ audit.Refused why → after ≡ onLine before (refusedText (refusalNumber why)) → after ≡ verdictText (auditedOf answer)
+  line-refused why q l =
+      l ∙ ap (λ (t : List ℕ). onLine t (refusedText (refusalNumber why))) e ∙ alone (refusedText (refusalNumber why)) (short (refusalNumber why))
+      ∙ ap (λ (a : AuditAnswer). verdictText (auditedOf a)) (sym q)
+
+pub ruleset line-cases = (line-accepted, line-refused, needs)

@@ -1,0 +1,32 @@
+// The verdict of an audit as a line of text: the first line that `audit_report` prints.
+ghost use mathlib.Core.Path.{_≡_};
+ghost use Rattle.report.specs.Answers.{auditedOf};
+ghost use Rattle.text.specs.Lines.{textOf};
+ghost use Rattle.verdict.specs.Verdict.{verdictText};
+use model::Refusal;
+use report::AuditAnswer;
+use text::Line;
+use text::empty_line;
+use text::with_refusal;
+use text::with_text;
+
+// `accepted`, or `refused` and document 01's number.
+pub fn verdict_line(answer: AuditAnswer) -> Line
+    ensures { λ r. ⌜ textOf r ≡ verdictText (auditedOf answer) ⌝ }
+{
+    match answer {
+        AuditAnswer::Accepted => with_text(empty_line(), b"accepted"),
+        AuditAnswer::Refused(why) => with_refusal(empty_line(), why),
+    }
+}
+
+// Whether a refusal is that of one test record of a file, which then has a place.
+pub fn is_of_record(why: Refusal) -> bool {
+    match why {
+        Refusal::RecordMark => true,
+        Refusal::SpareBit => true,
+        Refusal::WorkingRuns => true,
+        Refusal::StoreRuns => true,
+        _ => false,
+    }
+}
