@@ -96,6 +96,36 @@ uint32_t genduwal_write_report(const uint8_t *netlist, size_t netlist_len, const
 uint32_t genduwal_audit(const uint8_t *netlist, size_t netlist_len, const uint8_t *tests, size_t tests_len, const uint8_t *report,
                         size_t report_len, uint64_t *store, size_t store_len, uint64_t *work, size_t work_len);
 
+/* The same audit with its test file in pieces, so that a file of any length is judged: the same answer and the same store as genduwal_audit
+ * has for the pieces joined. A caller keeps two numbers, the bytes so far and the first refusal, 0 if there is none:
+ *
+ * 1. genduwal_audit_begin. If it is refused, that is the answer of the audit, and no other call is made.
+ * 2. genduwal_audit_piece for each piece in file order, each but the last a whole number of records, with the store as the call before left
+ *    it. The first refusal is kept; once a piece is refused no other is handed over, but the bytes of all pieces are counted.
+ * 3. genduwal_audit_end with these two numbers: its answer is that of the audit. If it is 33, that comes before the refusal of a record.
+ *
+ * The netlist is the same in all calls.
+ *
+ * The beginning: empties the store unread. store is 4,098 words, of any content; work is at least 8,192 words, of which none is read. A call
+ * refused with 1 or 2 leaves the store as it was, any other leaves it all zeros.
+ * Refusals: 1, 2, 10 to 15, 17 to 21. */
+uint32_t genduwal_audit_begin(const uint8_t *netlist, size_t netlist_len, uint64_t *store, size_t store_len, const uint64_t *work,
+                              size_t work_len);
+
+/* A piece: takes its records in their order; bytes after the last whole record are not looked at. answer: the number of records, all taken.
+ * work is at least 8,192 words, used as by a test, and only once 40 to 42 are passed. A call refused with 1 or 2 leaves the store as it was,
+ * with any other number all zeros.
+ * Refusals: 1, 2, 10 to 15, 17 to 21, 40 to 42, then for one record after another 31, 32, 50, 51. */
+uint32_t genduwal_audit_piece(const uint8_t *netlist, size_t netlist_len, const uint8_t *piece, size_t piece_len, uint64_t *store,
+                              size_t store_len, uint64_t *work, size_t work_len, uint64_t answer[1]);
+
+/* The end: bytes is the length of the whole test file, first the number of the first refusal of a piece, or 0. Accepts (returns 0) if no
+ * piece was refused and the report is the one that the writer gives for the store and the number of records in so many bytes. An accepting
+ * call leaves the store as it was, one refused with a number other than 1 leaves it all zeros.
+ * Refusals: 1, 10 to 15, 17 to 21, 33, first if it is not 0, 40 to 42, 70 to 72. */
+uint32_t genduwal_audit_end(const uint8_t *netlist, size_t netlist_len, uint64_t bytes, uint32_t first, const uint8_t *report,
+                            size_t report_len, uint64_t *store, size_t store_len);
+
 #ifdef __cplusplus
 }
 #endif

@@ -2,6 +2,7 @@
 #include "genduwal.h"
 
 #include <stdio.h>
+#include <string.h>
 
 /* Q: net 2 is AND of inputs 0 and 1, net 3 is OR of nets 2 and 1, and net 3 is the output. */
 static const uint8_t circuit[] = {
@@ -102,6 +103,43 @@ static void show_audit(size_t length)
         printf("audit accepted\n");
 }
 
+/* One piece of a test file: the code, after a line with the number of its records, all taken, or the number of the refusal. */
+static uint32_t show_piece(const uint8_t *piece, size_t length)
+{
+    uint64_t answer[1];
+    uint32_t code = genduwal_audit_piece(circuit, sizeof circuit, piece, length, store, GENDUWAL_STORE_WORDS, work, GENDUWAL_WORK_WORDS,
+                                         answer);
+    if (code != 0)
+        printf("piece of %u bytes refused %u\n", (unsigned)length, (unsigned)code);
+    else
+        printf("piece of %u bytes taken %llu\n", (unsigned)length, (unsigned long long)answer[0]);
+    return code;
+}
+
+/* The audit with the test file in pieces of two records; the last piece is what is left. The three tests make a piece of 8 bytes with two
+ * records and one of 4 bytes with one, and their report is accepted. With 5 in the mark of the first record the first piece is refused 31,
+ * the second is not handed over but counted; 12 bytes are whole records, so the end answers 31. With 4 tests in the report it answers 72. */
+static void show_pieces(const uint8_t *file, size_t file_length, size_t length)
+{
+    const size_t most = 2 * record_bytes;
+    uint64_t bytes = 0;
+    uint32_t first = 0;
+    uint32_t code = genduwal_audit_begin(circuit, sizeof circuit, store, GENDUWAL_STORE_WORDS, work, GENDUWAL_WORK_WORDS);
+    if (code == 0) {
+        for (size_t at = 0; at < file_length; at += most) {
+            size_t piece_length = file_length - at < most ? file_length - at : most;
+            if (first == 0)
+                first = show_piece(file + at, piece_length);
+            bytes += piece_length;
+        }
+        code = genduwal_audit_end(circuit, sizeof circuit, bytes, first, report, length, store, GENDUWAL_STORE_WORDS);
+    }
+    if (code != 0)
+        printf("audit in pieces refused %u\n", (unsigned)code);
+    else
+        printf("audit in pieces accepted\n");
+}
+
 /* Path 2 goes from output 0 through two pins: pin 0 of the OR, then pin 1 of the AND. Its number leads back to it. */
 static void show_path(uint64_t number)
 {
@@ -134,8 +172,14 @@ int main(void)
     show_fault(7);
     size_t length = show_report();
     show_audit(length);
+    show_pieces(tests, sizeof tests, length);
+    uint8_t other_mark[sizeof tests];
+    memcpy(other_mark, tests, sizeof tests);
+    other_mark[0] = 5;
+    show_pieces(other_mark, sizeof other_mark, length);
     report[2] = 4;
     show_audit(length);
+    show_pieces(tests, sizeof tests, length);
     show_path(2);
     return 0;
 }

@@ -8,7 +8,7 @@ use borrow.Author.Needs.{needs}
 use lib.Seq.{sets}
 use Rattle.model.specs.Base.{Answer, refused, value, passes}
 use Rattle.model.specs.Store.{ByEdge}
-use Rattle.model.specs.Calls.{Survey, surveyCall, emptyCall, emptiedStore, testAnswer, testStore, WorkAfter, numberToPathAnswer, numberToPathBuffer}
+use Rattle.model.specs.Calls.{Survey, FaultCounts, surveyCall, emptyCall, emptiedStore, testAnswer, testStore, WorkAfter, numberToPathAnswer, numberToPathBuffer}
 use Rattle.model.specs.Report.{writerAnswer, writerBuffer, auditAnswer, auditStore}
 use Rattle.model.specs.Refusals.{refusalNumber}
 use Rattle.model.specs.declared.Refusal.{Refusal}
@@ -37,8 +37,17 @@ use Rattle.report.specs.declared.WriteAnswer.{WriteAnswer}
 use Rattle.report.specs.declared.WriteAnswer.the-variants as write
 use Rattle.report.specs.declared.AuditAnswer.{AuditAnswer}
 use Rattle.report.specs.declared.AuditAnswer.the-variants as audit
-use Rattle.exports.specs.Codes.{codeAnswer, Answered, surveyWords, edgeWords, countWords, numberWord, boolWord}
+use Rattle.pieces.specs.Steps.{begunOf, beginAnswer, beginStore}
+use Rattle.pieces.specs.Calls.{BegunTrue, pieceOf, pieceAnswer, pieceLeft, PieceWork, PieceTrue, endedOf, endAnswer, endStore, EndTrue}
+use Rattle.pieces.specs.declared.BeginAnswer.{BeginAnswer}
+use Rattle.pieces.specs.declared.BeginAnswer.the-variants as beginning
+use Rattle.pieces.specs.declared.PieceAnswer.{PieceAnswer}
+use Rattle.pieces.specs.declared.PieceAnswer.the-variants as piece
+use Rattle.pieces.specs.declared.EndAnswer.{EndAnswer}
+use Rattle.pieces.specs.declared.EndAnswer.the-variants as ending
+use Rattle.exports.specs.Codes.{codeAnswer, Answered, allTaken, surveyWords, edgeWords, countWords, numberWord, boolWord}
 use Rattle.exports.proofs.CodeLaws.{code-refused, code-zero, answered-refused, answered-value}
+use Rattle.exports.proofs.NumberedLaws.{code-numbered, end-numbered}
 
 -- survey
 module _ (netlist found : List ℕ) (r : Surveyed) (t : SurveyTrue r netlist) where
@@ -49,7 +58,8 @@ module _ (netlist found : List ℕ) (r : Surveyed) (t : SurveyTrue r netlist) wh
       go (refused n) e = let z : n ≡ refusalNumber w = cc in ap (λ k. refused k) z
       go (value s) e = absurd (not-refused e)
 
-  pub survey-taken : (left : List ℕ) → r .answer ≡ survey.Legal → left ≡ sets found 0 (r .survey .inputs ∷ r .survey .gates ∷ r .survey .outputs ∷ r .survey .total ∷ r .survey .counts) → Answered (surveyCall netlist) surveyWords 0 found left
+  pub survey-taken : (left : List ℕ) → r .answer ≡ survey.Legal
+      → left ≡ sets found 0 (r .survey .inputs ∷ r .survey .gates ∷ r .survey .outputs ∷ r .survey .total ∷ r .survey .counts) → Answered (surveyCall netlist) surveyWords 0 found left
   survey-taken left p e = go (surveyCall netlist) (rw p at (t .answer)) (t .survey)
     where
       go : (x : Answer Survey) → value tt ≡ passes x → r .survey ≡ surveyData x → Answered x surveyWords 0 found left
@@ -78,7 +88,8 @@ module _ (res : TestAnswer) (netlist rec ws ws′ work work′ : List ℕ) (t : 
 
   pub test-taken : (a b c d : ℕ) (found : List ℕ) → res ≡ stage.Taken a b c d → Answered (testAnswer netlist rec ws work) countWords 0 found (sets found 0 (a ∷ b ∷ c ∷ d ∷ []))
   test-taken a b c d found p =
-      answered-value (testAnswer netlist rec ws work) countWords found (record { newFaults = record { onRising = a; onFalling = b }; heldFaults = record { onRising = c; onFalling = d } }) (sym (t .answer) ∙ ap testedOf p)
+      let counts : FaultCounts = record { newFaults = record { onRising = a; onFalling = b }; heldFaults = record { onRising = c; onFalling = d } } in
+      answered-value (testAnswer netlist rec ws work) countWords found counts (sym (t .answer) ∙ ap testedOf p)
 
   pub test-store : ws′ ≡ testStore netlist rec ws work
   test-store = t .store
@@ -139,7 +150,8 @@ module _ (res : WriteAnswer) (netlist ws : List ℕ) (testCount : ℕ) (buffer b
   pub write-refused : (w : Refusal) (code : ℕ) (found : List ℕ) → res ≡ write.Refused w → code ≡ refusalNumber w → Answered (writerAnswer netlist ws testCount buffer) numberWord code found found
   write-refused w code found p q = answered-refused (writerAnswer netlist ws testCount buffer) numberWord found w code q (sym (t .answer) ∙ ap writtenOf p)
 
-  pub write-taken : (n code : ℕ) (found left : List ℕ) → res ≡ write.Written n → code ≡ 0 → left ≡ sets found 0 (numberWord n) → Answered (writerAnswer netlist ws testCount buffer) numberWord code found left
+  pub write-taken : (n code : ℕ) (found left : List ℕ) → res ≡ write.Written n → code ≡ 0 → left ≡ sets found 0 (numberWord n)
+      → Answered (writerAnswer netlist ws testCount buffer) numberWord code found left
   write-taken n code found left p q l = rw (q, l) (answered-value (writerAnswer netlist ws testCount buffer) numberWord found n (sym (t .answer) ∙ ap writtenOf p))
 
   pub write-buffer : buffer′ ≡ writerBuffer netlist ws testCount buffer
@@ -162,3 +174,59 @@ module _ (res : AuditAnswer) (netlist testFile report ws ws′ work work′ : Li
   audit-work = t .work
 
 pub ruleset audit-cases = (audit-refused, audit-taken, audit-store, audit-work, needs)
+
+-- the beginning of an audit in pieces
+module _ (res : BeginAnswer) (netlist ws ws′ work : List ℕ) (t : BegunTrue res netlist ws ws′ work) where
+  pub begin-refused : (w : Refusal) (code : ℕ) → res ≡ beginning.Refused w → code ≡ refusalNumber w → codeAnswer code ≡ beginAnswer netlist ws work
+  begin-refused w code p q = rw q (code-refused w ∙ ap begunOf (sym p) ∙ t .answer)
+
+  pub begin-ready : res ≡ beginning.Ready → codeAnswer 0 ≡ beginAnswer netlist ws work
+  begin-ready p = code-zero ∙ ap begunOf (sym p) ∙ t .answer
+
+  pub begin-store : ws′ ≡ beginStore ws work
+  begin-store = t .store
+
+pub ruleset begin-cases = (begin-refused, begin-ready, begin-store, needs)
+
+-- a piece
+module _ (res : PieceAnswer) (netlist bytes ws ws′ work work′ : List ℕ) (t : PieceTrue res netlist bytes ws ws′ work work′) where
+  abbrev call : Answer ℕ
+  call = allTaken (pieceAnswer netlist bytes ws work)
+
+  called : (r : PieceAnswer) → res ≡ r → call ≡ allTaken (pieceOf r)
+  called r p = ap allTaken (sym (t .answer) ∙ ap pieceOf p)
+
+  pub piece-refused : (w : Refusal) (code : ℕ) (found : List ℕ) → res ≡ piece.Refused w → code ≡ refusalNumber w
+      → Answered (allTaken (pieceAnswer netlist bytes ws work)) numberWord code found found
+  piece-refused w code found p q = answered-refused call numberWord found w code q (called (piece.Refused w) p)
+
+  pub piece-record : (k : ℕ) (w : Refusal) (code : ℕ) (found : List ℕ) → res ≡ piece.RecordRefused k w → code ≡ refusalNumber w
+      → Answered (allTaken (pieceAnswer netlist bytes ws work)) numberWord code found found
+  piece-record k w code found p q = answered-refused call numberWord found w code q (called (piece.RecordRefused k w) p)
+
+  pub piece-taken : (n code : ℕ) (found left : List ℕ) → res ≡ piece.Taken n → code ≡ 0 → left ≡ sets found 0 (numberWord n)
+      → Answered (allTaken (pieceAnswer netlist bytes ws work)) numberWord code found left
+  piece-taken n code found left p q l = rw (q, l) (answered-value call numberWord found n (called (piece.Taken n) p))
+
+  pub piece-store : ws′ ≡ pieceLeft netlist bytes ws work
+  piece-store = t .store
+
+  pub piece-work : PieceWork netlist ws work work′
+  piece-work = t .memory
+
+pub ruleset piece-cases = (piece-refused, piece-record, piece-taken, piece-store, piece-work, needs)
+
+-- the end
+module _ (res : EndAnswer) (netlist : List ℕ) (total first : ℕ) (report ws ws′ : List ℕ) (t : EndTrue res netlist total first report ws ws′) where
+  pub end-refused : (n : ℕ) → res ≡ ending.Refused n → codeAnswer n ≡ endAnswer netlist total first report ws
+  end-refused n p =
+      let e : refused n ≡ endAnswer netlist total first report ws = ap endedOf (sym p) ∙ t .answer in
+      code-numbered (endAnswer netlist total first report ws) (end-numbered netlist total first report ws) n (sym e) ∙ e
+
+  pub end-accepted : res ≡ ending.Accepted → codeAnswer 0 ≡ endAnswer netlist total first report ws
+  end-accepted p = code-zero ∙ ap endedOf (sym p) ∙ t .answer
+
+  pub end-store : ws′ ≡ endStore netlist total first report ws
+  end-store = t .store
+
+pub ruleset end-cases = (end-refused, end-accepted, end-store, needs)

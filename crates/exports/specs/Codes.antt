@@ -7,9 +7,10 @@ use mathlib.Core.List.{List, [], _∷_}
 use Prim.Native.Nat.{ℕ}
 use lib.Dec.{eqb}
 use lib.Seq.{sets}
-use Rattle.model.specs.Base.{Answer, refused, value, passes, after}
+use Rattle.model.specs.Base.{Answer, refused, value, _>>=_, _>>_, passes, after}
 use Rattle.model.specs.Store.{ByEdge}
 use Rattle.model.specs.Calls.{Survey, FaultCounts}
+use Rattle.pieces.specs.Calls.{RecordsSaid}
 
 -- A C function's code: 0 says that the call was taken, any other number that it was refused with this number.
 -- A promise `codeAnswer code ≡ call` also says that no refusal has the number 0: no code stands for `refused 0`
@@ -25,6 +26,10 @@ answerAfter call words found = after call found (λ a. sets found 0 (words a))
 pub record Answered {A : Type 0} (call : Answer A) (words : A → List ℕ) (code : ℕ) (found left : List ℕ) : Type 0 where
   pub codeIs : codeAnswer code ≡ passes call
   pub answerIs : left ≡ answerAfter call words found
+
+-- a piece of a test file: the number of its records if all were taken, else the number of the first refusal, of the call or of a record
+abbrev pub allTaken : Answer RecordsSaid → Answer ℕ
+allTaken x = x >>= λ r. r .said >> value (r .taken)
 
 -- I, G, U, T, then a count for each of 512 nets
 abbrev pub surveyWords : Survey → List ℕ

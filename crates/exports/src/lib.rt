@@ -4,7 +4,9 @@ mod answers;
 ghost use mathlib.Core.Path.{_≡_};
 ghost use Rattle.model.specs.Calls.{surveyCall, emptyCall, emptiedStore, totalsCall, faultCall, pathToNumberCall, numberToPathAnswer, numberToPathBuffer, testAnswer, testStore, WorkAfter};
 ghost use Rattle.model.specs.Report.{writerAnswer, writerBuffer, auditAnswer, auditStore};
-ghost use Rattle.exports.specs.Codes.{codeAnswer, Answered, surveyWords, edgeWords, countWords, numberWord, boolWord};
+ghost use Rattle.pieces.specs.Steps.{beginAnswer, beginStore};
+ghost use Rattle.pieces.specs.Calls.{pieceAnswer, pieceLeft, PieceWork, endAnswer, endStore};
+ghost use Rattle.exports.specs.Codes.{codeAnswer, Answered, allTaken, surveyWords, edgeWords, countWords, numberWord, boolWord};
 use crate::answers::put_number;
 use crate::answers::put_survey;
 use coverage::TestAnswer;
@@ -14,6 +16,9 @@ use model::refusal_number;
 use netlist::SurveyAnswer;
 use paths::NumberAnswer;
 use paths::PathAnswer;
+use pieces::BeginAnswer;
+use pieces::EndAnswer;
+use pieces::PieceAnswer;
 use report::AuditAnswer;
 use report::WriteAnswer;
 use store::EmptyAnswer;
@@ -179,5 +184,58 @@ pub extern "C" fn genduwal_audit(
     match audited {
         AuditAnswer::Refused(why) => refusal_number(why),
         AuditAnswer::Accepted => 0,
+    }
+}
+
+// The beginning of an audit whose test file comes in pieces: lent memory and netlist. The store is emptied unread.
+#[no_mangle]
+pub extern "C" fn genduwal_audit_begin(netlist: &[u8], store: &mut [u64], work: &[u64]) -> u32
+    ensures { λ r. ⌜ codeAnswer r ≡ beginAnswer (now (netlist .entry)) (now (store .entry)) (now (work .entry)) ⌝ }
+    ensures { λ _. ⌜ now (store .exit) ≡ beginStore (now (store .entry)) (now (work .entry)) ⌝ }
+{
+    let begun = pieces::audit_begin(netlist, store, work);
+    match begun {
+        BeginAnswer::Refused(why) => refusal_number(why),
+        BeginAnswer::Ready => 0,
+    }
+}
+
+// A piece of the test file: the number of its records, if all were taken.
+#[no_mangle]
+pub extern "C" fn genduwal_audit_piece(
+    netlist: &[u8],
+    piece: &[u8],
+    store: &mut [u64],
+    work: &mut [u64],
+    answer: &mut [u64; 1],
+) -> u32
+    ensures { λ r. ⌜ Answered (allTaken (pieceAnswer (now (netlist .entry)) (now (piece .entry)) (now (store .entry)) (now (work .entry)))) numberWord r (now (answer .entry)) (now (answer .exit)) ⌝ }
+    ensures { λ _. ⌜ now (store .exit) ≡ pieceLeft (now (netlist .entry)) (now (piece .entry)) (now (store .entry)) (now (work .entry)) ⌝ }
+    ensures { λ _. ⌜ PieceWork (now (netlist .entry)) (now (store .entry)) (now (work .entry)) (now (work .exit)) ⌝ }
+{
+    let taken = pieces::audit_piece(netlist, piece, store, work);
+    match taken {
+        PieceAnswer::Refused(why) => refusal_number(why),
+        PieceAnswer::RecordRefused(_, why) => refusal_number(why),
+        PieceAnswer::Taken(records) => put_number(records as u64, answer),
+    }
+}
+
+// The end, of a file of so many bytes whose first refusal has the number `first`, 0 if there is none: whether the report is accepted.
+#[no_mangle]
+pub extern "C" fn genduwal_audit_end(
+    netlist: &[u8],
+    bytes: u64,
+    first: u32,
+    report: &[u8],
+    store: &mut [u64],
+) -> u32
+    ensures { λ r. ⌜ codeAnswer r ≡ endAnswer (now (netlist .entry)) bytes first (now (report .entry)) (now (store .entry)) ⌝ }
+    ensures { λ _. ⌜ now (store .exit) ≡ endStore (now (netlist .entry)) bytes first (now (report .entry)) (now (store .entry)) ⌝ }
+{
+    let ended = pieces::audit_end(netlist, bytes, first, report, store);
+    match ended {
+        EndAnswer::Refused(number) => number,
+        EndAnswer::Accepted => 0,
     }
 }
