@@ -1,5 +1,5 @@
 // What is false in a report that is refused for its length or its bytes.
-use crate::walk::one_more;
+use crate::one_more;
 use console::empty_line;
 use console::print;
 use console::print_line;

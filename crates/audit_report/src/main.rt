@@ -1,43 +1,38 @@
-// Audits the report report.rp of the tests tests.tp on the netlist circuit.nl, all of the current folder; a missing file counts as empty. Prints
-// the audit's answer, its reason as a sentence, and what is false in a report that is refused for its length or its bytes.
+// Audits a report of the tests of a file on a netlist: `audit_report [--all] [CIRCUIT [TESTS [REPORT]]]`, without names those of the current
+// folder; a missing file counts as empty. Prints the audit's answer, its reason as a sentence, and what is false in a report that is refused for
+// its length or its bytes. Where a file can't be read whole it gives no verdict.
 mod explaining;
-mod walk;
 
 use crate::explaining::explain;
-use crate::walk::FileAnswer;
-use crate::walk::Walk;
-use crate::walk::one_more;
-use crate::walk::take_file;
+use command::close_file;
+use command::file_name;
+use command::is_argument;
+use command::load_file;
+use command::open_file;
 use console::Line;
 use console::NETLIST_BYTES;
-use console::PIECE_BYTES;
 use console::empty_line;
-use console::load_file;
 use console::print;
 use console::print_condition;
 use console::print_line;
-use console::record_length;
-use console::whole_records;
 use console::with_number;
-use console::with_refusal;
 use console::with_text;
 use differences::inner::head_of;
+use libc::STDERR_FILENO;
 use libc::STDOUT_FILENO;
 use model::REPORT_BYTES;
 use model::Refusal;
 use model::STORE_WORDS;
 use model::WORK_WORDS;
-use netlist::SurveyAnswer;
-use netlist::survey;
 use report::AuditAnswer;
-use report::WriteAnswer;
-use report::audit;
-use report::judge;
 use report::layout::HEAD_BYTES;
-use report::write_report;
+use test_file::Judged;
+use test_file::audit_stream;
+use verdict::is_of_record;
+use verdict::verdict_line;
 ghost use mathlib.Core.Path.{_≡_};
+ghost use Prim.Native.Nat.{_≤_};
 ghost use lib.ListN.{length};
-ghost use Rattle.io.specs.Counts.{Counts};
 
 // Zeros for a report: one byte more than the longest whose fields can state its length (2 times 65,535 runs), so that a longer file is refused
 // as it would be whole.
@@ -45,6 +40,26 @@ fn report_buffer() -> [u8; 2097155]
     ensures { λ r. ⌜ 2097155 ≡ length r ⌝ }
 {
     [0; 2097155]
+}
+
+// A number and one more. Nothing that is counted here comes near the largest number.
+pub(crate) fn one_more(number: u64) -> u64 {
+    if number < u64::MAX {
+        return number + 1;
+    }
+    number
+}
+
+fn print_usage(fd: i32) {
+    print(
+        fd,
+        b"usage: audit_report [--all] [CIRCUIT [TESTS [REPORT]]]\n",
+    );
+    print(fd, b"Audits a report of the tests on a circuit.\n");
+    print(
+        fd,
+        b"Without names: circuit.nl, tests.tp, report.rp. --all shows every false claim.\n",
+    );
 }
 
 // The line with a number of things at its end.
@@ -56,9 +71,8 @@ fn with_count(line: Line, count: u64, one: &[u8], many: &[u8]) -> Line {
     with_text(counted, many)
 }
 
-// That a report is accepted, and what it says.
+// What an accepted report says.
 fn print_accepted(truth: &[u8]) {
-    print(STDOUT_FILENO, b"accepted\n");
     if truth.len() < HEAD_BYTES {
         return;
     }
@@ -78,17 +92,6 @@ fn print_accepted(truth: &[u8]) {
     );
 }
 
-// Whether a refusal is that of one test record.
-fn is_of_record(why: Refusal) -> bool {
-    match why {
-        Refusal::RecordMark => true,
-        Refusal::SpareBit => true,
-        Refusal::WorkingRuns => true,
-        Refusal::StoreRuns => true,
-        _ => false,
-    }
-}
-
 // Whether a refusal is that of a report whose fields and runs can be compared with the true ones.
 fn is_of_claims(why: Refusal) -> bool {
     match why {
@@ -98,9 +101,8 @@ fn is_of_claims(why: Refusal) -> bool {
     }
 }
 
-// A refusal with its reason, for a test record also its place.
-fn print_refused(why: Refusal, place: u64) {
-    print_line(STDOUT_FILENO, with_refusal(empty_line(), why));
+// The reason of a refusal, for a test record also its place.
+fn print_reason(why: Refusal, place: u64) {
     if is_of_record(why) {
         print(STDOUT_FILENO, b"Record ");
         io::print_decimal(STDOUT_FILENO, place);
@@ -109,110 +111,94 @@ fn print_refused(why: Refusal, place: u64) {
     print_condition(STDOUT_FILENO, why);
 }
 
-// Writes the true report: that of the store that the test calls left. Answers its length, 0 where the writer refuses.
-fn true_report(netlist: &[u8], store: &[u64], tests: u64, truth: &mut [u8]) -> usize
-    ensures { λ r. ⌜ Counts r (now (truth .exit)) ⌝ }
-{
-    let written = write_report(netlist, store, (tests % 4294967296) as u32, truth);
-    match written {
-        WriteAnswer::Refused(_) => 0,
-        WriteAnswer::Written(length) => {
-            if truth.len() < length {
-                return 0;
-            }
-            length
-        }
+// What is false in a report; all of it with `--all`.
+fn print_claims(_all: bool, netlist: &[u8], report: &[u8], truth: &[u8]) {
+    if truth.len() < HEAD_BYTES {
+        return;
     }
+    let head = head_of(truth);
+    explain(netlist, head.paths, report, truth);
 }
 
-// The first bytes of a space.
-fn first_bytes(space: &[u8], bytes: u64) -> &[u8] {
-    if (space.len() as u64) < bytes {
-        return &space[..0];
-    }
-    let end = bytes as usize;
-    &space[0..end]
-}
-
-// The audit's answer. A test file that was read as one piece, of under `full` bytes, lies whole in the space and goes to the audit itself. For a
-// longer one the walk made the audit's test calls, and what is left is the report against the true one.
-fn answer_of(
-    netlist: &[u8],
-    walk: Walk,
-    full: usize,
-    space: &[u8],
-    report: &[u8],
-    truth: &[u8],
-    store: &mut [u64],
-    work: &mut [u64],
-) -> AuditAnswer {
-    if walk.bytes < full as u64 {
-        return audit(netlist, first_bytes(space, walk.bytes), report, store, work);
-    }
-    let walked = walk.answer;
-    match walked {
-        FileAnswer::Refused(why) => AuditAnswer::Refused(why),
-        FileAnswer::Taken => judge(report, truth),
-    }
-}
-
-// Prints an answer and what is false in a report.
-fn print_answer(
-    answer: AuditAnswer,
-    place: u64,
-    netlist: &[u8],
-    paths: u64,
-    report: &[u8],
-    truth: &[u8],
-) {
+// Prints the verdict, its reason, and what is false in a report.
+fn print_judged(judged: Judged, all: bool, netlist: &[u8], report: &[u8], truth: &[u8]) {
+    let answer = judged.answer;
+    print_line(STDOUT_FILENO, verdict_line(answer));
     match answer {
         AuditAnswer::Accepted => print_accepted(truth),
         AuditAnswer::Refused(why) => {
-            print_refused(why, place);
+            print_reason(why, one_more(judged.taken as u64));
             if is_of_claims(why) {
-                explain(netlist, paths, report, truth);
+                print_claims(all, netlist, report, truth);
             }
         }
     }
 }
 
-// The audit on a legal netlist.
-fn audit_files(netlist: &[u8], inputs: usize, paths: u64) {
-    let mut claim = report_buffer();
-    let n = load_file(b"report.rp", &mut claim);
-    let report = &claim[..n];
+// The audit with the tests of the file that an argument names.
+fn audit_tests(place: usize, all: bool, netlist: &[u8], report: &[u8]) {
+    let mut name = io::buffer();
+    let n = file_name(place, b"tests.tp", &mut name);
+    let mut written = [0u8; REPORT_BYTES];
     let mut space = io::large_buffer();
     let mut store = [0u64; STORE_WORDS];
     let mut work = [0u64; WORK_WORDS];
-    let bytes = record_length(inputs);
-    let walk = take_file(netlist, bytes, &mut space, &mut store, &mut work);
-    let mut written = [0u8; REPORT_BYTES];
-    let length = true_report(netlist, &store, walk.taken, &mut written);
-    let truth = &written[..length];
-    let answer = answer_of(
+    let opened = open_file(&name[..n]);
+    let judged = audit_stream(
+        opened.fd,
         netlist,
-        walk,
-        whole_records(PIECE_BYTES, bytes),
-        &space,
         report,
-        truth,
+        &mut written,
+        &mut space,
         &mut store,
         &mut work,
     );
-    print_answer(answer, one_more(walk.taken), netlist, paths, report, truth);
+    let length = judged.length;
+    if close_file(&name[..n], opened, judged.whole) {
+        print_judged(judged, all, netlist, report, &written[..length]);
+    }
+}
+
+// The audit of the report that an argument names; the test file's is the argument before.
+fn audit_report(place: usize, all: bool, netlist: &[u8])
+    requires { ⌜ (1 ≤ place) × (place ≤ 4) ⌝ }
+{
+    let mut name = io::buffer();
+    let n = file_name(place, b"report.rp", &mut name);
+    let mut bytes = report_buffer();
+    let claim = load_file(&name[..n], &mut bytes);
+    let length = claim.bytes;
+    if claim.whole {
+        audit_tests(place - 1, all, netlist, &bytes[..length]);
+    }
+}
+
+// The audit on the netlist that the argument `first` names.
+fn audit_circuit(first: usize, all: bool)
+    requires { ⌜ first ≤ 2 ⌝ }
+{
+    if first + 3 < os::arg_count() {
+        print_usage(STDERR_FILENO);
+        return;
+    }
+    let mut name = io::buffer();
+    let n = file_name(first, b"circuit.nl", &mut name);
+    let mut bytes = [0u8; NETLIST_BYTES];
+    let circuit = load_file(&name[..n], &mut bytes);
+    let length = circuit.bytes;
+    if circuit.whole {
+        audit_report(first + 2, all, &bytes[..length]);
+    }
 }
 
 fn main() {
-    let mut bytes = [0u8; NETLIST_BYTES];
-    let n = load_file(b"circuit.nl", &mut bytes);
-    let surveyed = survey(&bytes[..n]);
-    let answer = surveyed.answer;
-    match answer {
-        SurveyAnswer::Refused(why) => print_refused(why, 0),
-        SurveyAnswer::Legal => audit_files(
-            &bytes[..n],
-            surveyed.survey.inputs,
-            surveyed.survey.total,
-        ),
+    if is_argument(1, b"--help") {
+        print_usage(STDOUT_FILENO);
+        return;
     }
+    if is_argument(1, b"--all") {
+        audit_circuit(2, true);
+        return;
+    }
+    audit_circuit(1, false);
 }

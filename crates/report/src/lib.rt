@@ -1,10 +1,8 @@
 // Reports of the tested faults: the writer, and the audit of a report with its netlist and test file.
 pub mod inner;
-mod judging;
 pub mod layout;
 mod writing;
 
-pub use judging::judge;
 ghost use Rattle.report.specs.Answers.{WriteTrue, AuditTrue};
 ghost use Rattle.report.specs.TestFile.{AuditReady, FileAudited};
 use crate::inner::Comparison;
