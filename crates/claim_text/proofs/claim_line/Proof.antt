@@ -1,0 +1,57 @@
+-- `claim_text::claim_line` meets its contract: the parts one after the other, and the line holds them all.
+-- Assumes nothing.
+use borrow.Author.Needs.{needs}
+use Rattle.claim_text.specs.Claims.{claimText}
+use Rattle.claim_text.proofs.LengthLaws.{claim-short}
+use Rattle.claim_text.proofs.PartLaws.{first-part, then-part, whole-line}
+use Rattle.claim_text.proofs.claim_line.Statement.{statement}
+use Rattle.claim_text.proofs.claim_line.Tie as tie
+
+empty-line-requires : tie.Need-empty-line-requires
+empty-line-requires c κs = search needs
+
+with-kind-requires : tie.Need-with-kind-requires
+with-kind-requires c κs = search needs
+
+slice-aggregate-with-text : tie.Need-slice-aggregate-with-text
+slice-aggregate-with-text c = search needs
+
+with-text-requires : tie.Need-with-text-requires
+with-text-requires c κs = search needs
+
+with-edge-requires : tie.Need-with-edge-requires
+with-edge-requires c κs = search needs
+
+slice-aggregate-with-text-2 : tie.Need-slice-aggregate-with-text-2
+slice-aggregate-with-text-2 c = search needs
+
+with-text-requires-2 : tie.Need-with-text-requires-2
+with-text-requires-2 c κs = search needs
+
+with-paths-requires : tie.Need-with-paths-requires
+with-paths-requires c κs = search needs
+
+returns : tie.Need-returns
+unfolding claimText
+returns c =
+    let a = c .before .before .before .before .before .before .before .before .args in
+    let p1 = first-part _ _ _ (c .before .before .before .before .before .before .before .empty-line .ensures) (c .before .before .before .before .before .before .with-kind .ensures) in
+    let p2 = then-part _ _ _ _ _ p1 (c .before .before .before .before .with-text .ensures) in
+    let p3 = then-part _ _ _ _ _ p2 (c .before .before .before .with-edge .ensures) in
+    let p4 = then-part _ _ _ _ _ p3 (c .before .with-text2 .ensures) in
+    let p5 = then-part _ _ _ _ _ p4 (c .with-paths .ensures) in
+    whole-line _ _ (claim-short (a .kind) (a .edge) (a .low) (a .high)) p5
+
+pub claim-line-spec : {M : Type 1} → statement M
+claim-line-spec =
+    tie.close
+    (tie.spec
+    empty-line-requires
+    with-kind-requires
+    slice-aggregate-with-text
+    with-text-requires
+    with-edge-requires
+    slice-aggregate-with-text-2
+    with-text-requires-2
+    with-paths-requires
+    returns)

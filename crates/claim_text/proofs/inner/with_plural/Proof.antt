@@ -1,0 +1,62 @@
+-- `claim_text::inner::with_plural` meets its contract: one text for each case.
+-- Assumes nothing.
+use borrow.Author.Needs.{needs}
+use native.Mathlib.Omega.{arith}
+use Rattle.claim_text.proofs.PartLaws.{as-part, plural-missed, plural-one, plural-more}
+use Rattle.claim_text.proofs.inner.with_plural.Statement.{statement}
+use Rattle.claim_text.proofs.inner.with_plural.Tie as tie
+
+enum-told : tie.Need-enum-told
+enum-told c = search needs
+
+slice-aggregate-with-text : tie.Need-slice-aggregate-with-text
+slice-aggregate-with-text c = search needs
+
+with-text-requires : tie.Need-with-text-requires
+with-text-requires c κs = search needs
+
+enum-told-2 : tie.Need-enum-told-2
+enum-told-2 c = search needs
+
+slice-aggregate-with-text-2 : tie.Need-slice-aggregate-with-text-2
+slice-aggregate-with-text-2 c = search needs
+
+with-text-requires-2 : tie.Need-with-text-requires-2
+with-text-requires-2 c κs = search needs
+
+returns : tie.Need-returns
+returns c =
+    let a = c .before .before .before .before .before .args in
+    as-part _ _ _ _ (c .with-text2 .ensures) (plural-one (a .kind) (a .count) (c .before .before .before .enum-told2 .given .1) (omega arith))
+
+slice-aggregate-with-text-3 : tie.Need-slice-aggregate-with-text-3
+slice-aggregate-with-text-3 c = search needs
+
+with-text-requires-3 : tie.Need-with-text-requires-3
+with-text-requires-3 c κs = search needs
+
+returns-2 : tie.Need-returns-2
+returns-2 c =
+    let a = c .before .before .before .before .args in
+    as-part _ _ _ _ (c .with-text .ensures) (plural-missed (a .kind) (a .count) (c .before .before .enum-told .given .1))
+
+returns-3 : tie.Need-returns-3
+returns-3 c =
+    let a = c .before .before .before .before .before .args in
+    as-part _ _ _ _ (c .with-text3 .ensures) (plural-more (a .kind) (a .count) (c .before .before .before .enum-told2 .given .1) (λ e. omega (arith, e)))
+
+pub with-plural-spec : {M : Type 1} → statement M
+with-plural-spec =
+    tie.close
+    (tie.spec
+    enum-told
+    slice-aggregate-with-text
+    with-text-requires
+    enum-told-2
+    slice-aggregate-with-text-2
+    with-text-requires-2
+    returns
+    slice-aggregate-with-text-3
+    with-text-requires-3
+    returns-2
+    returns-3)

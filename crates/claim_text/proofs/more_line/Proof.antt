@@ -1,0 +1,52 @@
+-- `claim_text::more_line` meets its contract: the parts one after the other, and the line holds them all.
+-- Assumes nothing.
+use borrow.Author.Needs.{needs}
+use Rattle.claim_text.specs.Claims.{moreText}
+use Rattle.claim_text.proofs.LengthLaws.{more-short}
+use Rattle.claim_text.proofs.PartLaws.{first-part, then-part, whole-line}
+use Rattle.claim_text.proofs.more_line.Statement.{statement}
+use Rattle.claim_text.proofs.more_line.Tie as tie
+
+empty-line-requires : tie.Need-empty-line-requires
+empty-line-requires c κs = search needs
+
+slice-aggregate-with-text : tie.Need-slice-aggregate-with-text
+slice-aggregate-with-text c = search needs
+
+with-text-requires : tie.Need-with-text-requires
+with-text-requires c κs = search needs
+
+with-number-requires : tie.Need-with-number-requires
+with-number-requires c κs = search needs
+
+slice-aggregate-with-text-2 : tie.Need-slice-aggregate-with-text-2
+slice-aggregate-with-text-2 c = search needs
+
+with-text-requires-2 : tie.Need-with-text-requires-2
+with-text-requires-2 c κs = search needs
+
+with-plural-requires : tie.Need-with-plural-requires
+with-plural-requires c κs = search needs
+
+returns : tie.Need-returns
+unfolding moreText
+returns c =
+    let a = c .before .before .before .before .before .before .before .args in
+    let p1 = first-part _ _ _ (c .before .before .before .before .before .before .empty-line .ensures) (c .before .before .before .before .with-text .ensures) in
+    let p2 = then-part _ _ _ _ _ p1 (c .before .before .before .with-number .ensures) in
+    let p3 = then-part _ _ _ _ _ p2 (c .before .with-text2 .ensures) in
+    let p4 = then-part _ _ _ _ _ p3 (c .with-plural .ensures) in
+    whole-line _ _ (more-short (a .kind) (a .count)) p4
+
+pub more-line-spec : {M : Type 1} → statement M
+more-line-spec =
+    tie.close
+    (tie.spec
+    empty-line-requires
+    slice-aggregate-with-text
+    with-text-requires
+    with-number-requires
+    slice-aggregate-with-text-2
+    with-text-requires-2
+    with-plural-requires
+    returns)

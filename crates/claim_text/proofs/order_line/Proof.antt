@@ -1,0 +1,80 @@
+-- `claim_text::order_line` meets its contract: the parts one after the other, and the line holds them all.
+-- Assumes nothing.
+use borrow.Author.Needs.{needs}
+use Rattle.claim_text.specs.Claims.{orderText}
+use Rattle.claim_text.proofs.LengthLaws.{order-short}
+use Rattle.claim_text.proofs.PartLaws.{first-part, then-part, whole-line}
+use Rattle.claim_text.proofs.order_line.Statement.{statement}
+use Rattle.claim_text.proofs.order_line.Tie as tie
+
+empty-line-requires : tie.Need-empty-line-requires
+empty-line-requires c κs = search needs
+
+with-edge-requires : tie.Need-with-edge-requires
+with-edge-requires c κs = search needs
+
+slice-aggregate-with-text : tie.Need-slice-aggregate-with-text
+slice-aggregate-with-text c = search needs
+
+with-text-requires : tie.Need-with-text-requires
+with-text-requires c κs = search needs
+
+with-number-requires : tie.Need-with-number-requires
+with-number-requires c κs = search needs
+
+slice-aggregate-with-text-2 : tie.Need-slice-aggregate-with-text-2
+slice-aggregate-with-text-2 c = search needs
+
+with-text-requires-2 : tie.Need-with-text-requires-2
+with-text-requires-2 c κs = search needs
+
+with-number-requires-2 : tie.Need-with-number-requires-2
+with-number-requires-2 c κs = search needs
+
+slice-aggregate-with-text-3 : tie.Need-slice-aggregate-with-text-3
+slice-aggregate-with-text-3 c = search needs
+
+with-text-requires-3 : tie.Need-with-text-requires-3
+with-text-requires-3 c κs = search needs
+
+with-number-requires-3 : tie.Need-with-number-requires-3
+with-number-requires-3 c κs = search needs
+
+slice-aggregate-with-text-4 : tie.Need-slice-aggregate-with-text-4
+slice-aggregate-with-text-4 c = search needs
+
+with-text-requires-4 : tie.Need-with-text-requires-4
+with-text-requires-4 c κs = search needs
+
+returns : tie.Need-returns
+unfolding orderText
+returns c =
+    let a = c .before .before .before .before .before .before .before .before .before .before .before .before .before .args in
+    let p1 = first-part _ _ _ (c .before .before .before .before .before .before .before .before .before .before .before .before .empty-line .ensures) (c .before .before .before .before .before .before .before .before .before .before .before .with-edge .ensures) in
+    let p2 = then-part _ _ _ _ _ p1 (c .before .before .before .before .before .before .before .before .before .with-text .ensures) in
+    let p3 = then-part _ _ _ _ _ p2 (c .before .before .before .before .before .before .before .before .with-number .ensures) in
+    let p4 = then-part _ _ _ _ _ p3 (c .before .before .before .before .before .before .with-text2 .ensures) in
+    let p5 = then-part _ _ _ _ _ p4 (c .before .before .before .before .before .with-number2 .ensures) in
+    let p6 = then-part _ _ _ _ _ p5 (c .before .before .before .with-text3 .ensures) in
+    let p7 = then-part _ _ _ _ _ p6 (c .before .before .with-number3 .ensures) in
+    let p8 = then-part _ _ _ _ _ p7 (c .with-text4 .ensures) in
+    whole-line _ _ (order-short (a .edge) (a .number) (a .low) (a .high)) p8
+
+pub order-line-spec : {M : Type 1} → statement M
+order-line-spec =
+    tie.close
+    (tie.spec
+    empty-line-requires
+    with-edge-requires
+    slice-aggregate-with-text
+    with-text-requires
+    with-number-requires
+    slice-aggregate-with-text-2
+    with-text-requires-2
+    with-number-requires-2
+    slice-aggregate-with-text-3
+    with-text-requires-3
+    with-number-requires-3
+    slice-aggregate-with-text-4
+    with-text-requires-4
+    returns)

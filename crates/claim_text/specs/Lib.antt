@@ -1,0 +1,2 @@
+-- The lines on a refused report.
+pub mod Claims
