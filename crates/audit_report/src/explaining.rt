@@ -1,110 +1,220 @@
-// What is false in a report that is refused for its length or its bytes.
+// What is false in a report that is refused for its length or its bytes: the fields that differ, the runs that are out of order, and, for an edge
+// whose runs ascend, the numbers that are claimed and not detected and those that are detected and not claimed.
 use crate::one_more;
+use claim_text::Field;
+use claim_text::Kind;
+use claim_text::claim_line;
+use claim_text::faults_line;
+use claim_text::field_line;
+use claim_text::more_line;
+use claim_text::order_line;
+use claim_text::shown_lines;
 use console::empty_line;
-use console::print;
 use console::print_line;
 use console::with_number;
 use console::with_text;
-use differences::Piece;
+use differences::Order;
 use differences::inner::Head;
 use differences::inner::falling_runs;
 use differences::inner::head_of;
+use differences::inner::number_at;
 use differences::inner::rising_runs;
-use differences::next_piece;
+use differences::inner::walk::Piece;
+use differences::inner::walk::next_piece;
+use differences::order_of;
+use faults::Edge;
 use faults::PathNo;
 use libc::STDOUT_FILENO;
 use path_text::print_path;
 use report::layout::HEAD_BYTES;
+use report::layout::RUN_BYTES;
+ghost use mathlib.Core.Path.{_≡_};
+ghost use mathlib.Core.Bool.{true};
 ghost use Prim.Native.Nat.{_≤_};
 ghost use lib.ListN.{length};
+ghost use Rattle.differences.specs.Differences.{runsOfBytes, Ascends};
 
-// The most lines of numbers that are printed.
-const MAX_LINES: u64 = 20;
-
-// A field of the head where it differs; the number of lines.
-fn print_field(name: &[u8], claimed: u64, truth: u64) -> u64
-    ensures { λ r. ⌜ r ≤ 1 ⌝ }
-{
-    if claimed == truth {
-        return 0;
+// A field of the head where it differs.
+fn print_field(field: Field, claimed: u64, truth: u64) {
+    if claimed != truth {
+        print_line(STDOUT_FILENO, field_line(field, claimed, truth));
     }
-    let named = with_text(with_text(empty_line(), name), b" claimed ");
-    let line = with_text(with_number(named, claimed), b" true ");
-    print_line(STDOUT_FILENO, with_number(line, truth));
-    1
 }
 
-// The fields of the head that differ; the number of lines.
-fn print_fields(claimed: Head, truth: Head) -> u64
-    ensures { λ r. ⌜ r ≤ 6 ⌝ }
-{
-    print_field(b"tests", claimed.tests, truth.tests)
-        + print_field(b"paths", claimed.paths, truth.paths)
-        + print_field(b"rising runs", claimed.rising_runs, truth.rising_runs)
-        + print_field(b"falling runs", claimed.falling_runs, truth.falling_runs)
-        + print_field(b"rising faults", claimed.rising_faults, truth.rising_faults)
-        + print_field(
-            b"falling faults",
-            claimed.falling_faults,
-            truth.falling_faults,
-        )
+// A number of faults where it differs, with its share of the paths.
+fn print_faults(edge: Edge, claimed: u64, truth: u64, paths: u64) {
+    if claimed != truth {
+        print_line(STDOUT_FILENO, faults_line(edge, claimed, truth, paths));
+    }
 }
 
-// A line for one stretch of numbers, unless as many lines as are printed stand before it.
-fn print_piece(title: &[u8], low: u64, high: u64, before: u64) {
-    if MAX_LINES <= before {
+// The fields of the head that differ.
+fn print_fields(claimed: Head, truth: Head) {
+    print_field(Field::Tests, claimed.tests, truth.tests);
+    print_field(Field::Paths, claimed.paths, truth.paths);
+    print_field(Field::RisingRuns, claimed.rising_runs, truth.rising_runs);
+    print_field(Field::FallingRuns, claimed.falling_runs, truth.falling_runs);
+    print_faults(
+        Edge::Rising,
+        claimed.rising_faults,
+        truth.rising_faults,
+        truth.paths,
+    );
+    print_faults(
+        Edge::Falling,
+        claimed.falling_faults,
+        truth.falling_faults,
+        truth.paths,
+    );
+}
+
+// The run at a place, which is out of order.
+fn print_run(edge: Edge, runs: &[u8], place: usize) {
+    if runs.len() / RUN_BYTES <= place {
         return;
     }
-    let line = with_text(with_number(with_text(empty_line(), title), low), b" ");
-    print_line(STDOUT_FILENO, with_number(line, high));
+    let low = number_at(runs, RUN_BYTES * place);
+    let high = number_at(runs, RUN_BYTES * place + 8);
+    let line = order_line(edge, one_more(place as u64), low, high);
+    print_line(STDOUT_FILENO, line);
 }
 
-// A line for each stretch of numbers that the first runs hold and the others do not; the number of lines with those before.
-fn print_pieces(title: &[u8], a: &[u8], b: &[u8], before: u64) -> u64 {
+// The first run that is out of order, if there is one.
+fn print_order(edge: Edge, runs: &[u8]) {
+    let order = order_of(runs);
+    match order {
+        Order::Ascending => return,
+        Order::OutOfOrder(place) => print_run(edge, runs, place),
+    }
+}
+
+// Whether runs ascend.
+fn ascending(runs: &[u8]) -> bool
+    ensures { λ r. ⌜ (r ≡ true → Ascends 0 (runsOfBytes (now (runs .entry)))) ⌝ }
+{
+    let order = order_of(runs);
+    match order {
+        Order::Ascending => true,
+        Order::OutOfOrder(_) => false,
+    }
+}
+
+// The lines for the stretches of numbers in the runs of `a` and not in those of `b`, of which those are printed whose place is below `shown`; the
+// number of lines with those before.
+fn print_pieces(kind: Kind, edge: Edge, a: &[u8], b: &[u8], before: u64, shown: u64) -> u64
+    requires { ⌜ Ascends 0 (runsOfBytes (now a)) × Ascends 0 (runsOfBytes (now b)) ⌝ }
+{
     let mut lines = before;
+    let mut i = 0;
+    let mut j = 0;
     let mut from: u64 = 0;
     loop {
-        let piece = next_piece(a, b, from);
+        let found = next_piece(a, i, b, j, from);
+        let piece = found.piece;
         match piece {
             Piece::Nothing => return lines,
             Piece::Stretch { low, high } => {
-                print_piece(title, low, high, lines);
+                print_piece(kind, edge, low, high, lines < shown);
                 lines = one_more(lines);
                 if high == u64::MAX {
                     return lines;
                 }
+                i = found.i;
+                j = found.j;
                 from = high + 1;
             }
         }
     }
 }
 
-// The numbers claimed and not detected, then those detected and not claimed; the number of lines.
-fn print_numbers(report: &[u8], truth: &[u8]) -> u64
+// A line for one stretch of numbers, where it is shown.
+fn print_piece(kind: Kind, edge: Edge, low: u64, high: u64, is_shown: bool) {
+    if is_shown {
+        print_line(STDOUT_FILENO, claim_line(kind, edge, low, high));
+    }
+}
+
+// The same for two lists of runs of which one may not ascend: there is then nothing to compare.
+fn print_edge(kind: Kind, edge: Edge, a: &[u8], b: &[u8], before: u64, shown: u64) -> u64 {
+    if ascending(a) {
+        if ascending(b) {
+            return print_pieces(kind, edge, a, b, before, shown);
+        }
+    }
+    before
+}
+
+// The false claims of both edges, of which so many are printed; their number.
+fn print_false(report: &[u8], truth: &[u8], shown: u64) -> u64
     requires { ⌜ (34 ≤ length (now report)) × (34 ≤ length (now truth)) ⌝ }
 {
-    let rising = rising_runs(report);
-    let falling = falling_runs(report);
-    let true_rising = rising_runs(truth);
-    let true_falling = falling_runs(truth);
-    let first = print_pieces(b"R claimed ", rising, true_rising, 0);
-    let second = print_pieces(b"F claimed ", falling, true_falling, first);
-    let third = print_pieces(b"R missed ", true_rising, rising, second);
-    print_pieces(b"F missed ", true_falling, falling, third)
+    let rising = print_edge(
+        Kind::FalseClaim,
+        Edge::Rising,
+        rising_runs(report),
+        rising_runs(truth),
+        0,
+        shown,
+    );
+    print_edge(
+        Kind::FalseClaim,
+        Edge::Falling,
+        falling_runs(report),
+        falling_runs(truth),
+        rising,
+        shown,
+    )
 }
 
-// How many lines of numbers are not printed.
-fn print_more(lines: u64) {
-    if lines <= MAX_LINES {
-        return;
+// What both edges miss, of which so much is printed; the number of lines.
+fn print_missed(report: &[u8], truth: &[u8], shown: u64) -> u64
+    requires { ⌜ (34 ≤ length (now report)) × (34 ≤ length (now truth)) ⌝ }
+{
+    let rising = print_edge(
+        Kind::Missed,
+        Edge::Rising,
+        rising_runs(truth),
+        rising_runs(report),
+        0,
+        shown,
+    );
+    print_edge(
+        Kind::Missed,
+        Edge::Falling,
+        falling_runs(truth),
+        falling_runs(report),
+        rising,
+        shown,
+    )
+}
+
+// How many lines of a kind are not printed.
+fn print_more(kind: Kind, lines: u64, shown: u64) {
+    if shown < lines {
+        print_line(STDOUT_FILENO, more_line(kind, lines - shown));
     }
-    let line = with_number(with_text(empty_line(), b"and "), lines - MAX_LINES);
-    print_line(STDOUT_FILENO, with_text(line, b" more"));
 }
 
-// The first number from 1 to T that is claimed and not detected; 0 where there is none.
-fn first_claim(claimed: &[u8], truth: &[u8], paths: u64) -> u64 {
-    let piece = next_piece(claimed, truth, 1);
+// The numbers claimed and not detected, then those detected and not claimed. Both are counted first, so that neither crowds out the other.
+fn print_numbers(report: &[u8], truth: &[u8], all: bool)
+    requires { ⌜ (34 ≤ length (now report)) × (34 ≤ length (now truth)) ⌝ }
+{
+    let claims = print_false(report, truth, 0);
+    let missed = print_missed(report, truth, 0);
+    let shown_claims = shown_lines(claims, missed, all);
+    let shown_missed = shown_lines(missed, claims, all);
+    print_false(report, truth, shown_claims);
+    print_more(Kind::FalseClaim, claims, shown_claims);
+    print_missed(report, truth, shown_missed);
+    print_more(Kind::Missed, missed, shown_missed);
+}
+
+// The first number from 1 to T in the runs of `a` and not in those of `b`; 0 where there is none.
+fn first_number(a: &[u8], b: &[u8], paths: u64) -> u64
+    requires { ⌜ Ascends 0 (runsOfBytes (now a)) × Ascends 0 (runsOfBytes (now b)) ⌝ }
+{
+    let found = next_piece(a, 0, b, 0, 1);
+    let piece = found.piece;
     match piece {
         Piece::Nothing => 0,
         Piece::Stretch { low, .. } => {
@@ -114,6 +224,16 @@ fn first_claim(claimed: &[u8], truth: &[u8], paths: u64) -> u64 {
             low
         }
     }
+}
+
+// The first number from 1 to T that is claimed and not detected; 0 where there is none, or one of the lists does not ascend.
+fn first_claim(claimed: &[u8], truth: &[u8], paths: u64) -> u64 {
+    if ascending(claimed) {
+        if ascending(truth) {
+            return first_number(claimed, truth, paths);
+        }
+    }
+    0
 }
 
 // A false claim, with its path in gates.
@@ -142,29 +262,17 @@ fn print_first_claim(netlist: &[u8], paths: u64, report: &[u8], truth: &[u8])
     }
 }
 
-// What is false in a report, against the true one. Where all fields and numbers are true, either the length is wrong or the runs stand in
-// another order.
-pub(crate) fn explain(netlist: &[u8], paths: u64, report: &[u8], truth: &[u8]) {
+// What is false in a report, against the true one; all lines of numbers, or some of them.
+pub(crate) fn explain(netlist: &[u8], paths: u64, report: &[u8], truth: &[u8], all: bool) {
     if report.len() < HEAD_BYTES {
         return;
     }
     if truth.len() < HEAD_BYTES {
         return;
     }
-    let fields = print_fields(head_of(report), head_of(truth));
-    let lines = print_numbers(report, truth);
-    print_more(lines);
+    print_fields(head_of(report), head_of(truth));
+    print_order(Edge::Rising, rising_runs(report));
+    print_order(Edge::Falling, falling_runs(report));
+    print_numbers(report, truth, all);
     print_first_claim(netlist, paths, report, truth);
-    if fields != 0 {
-        return;
-    }
-    if lines != 0 {
-        return;
-    }
-    if report.len() == truth.len() {
-        print(
-            STDOUT_FILENO,
-            b"All fields and numbers are true, but the runs stand in another order.\n",
-        );
-    }
 }

@@ -112,12 +112,12 @@ fn print_reason(why: Refusal, place: u64) {
 }
 
 // What is false in a report; all of it with `--all`.
-fn print_claims(_all: bool, netlist: &[u8], report: &[u8], truth: &[u8]) {
+fn print_claims(all: bool, netlist: &[u8], report: &[u8], truth: &[u8]) {
     if truth.len() < HEAD_BYTES {
         return;
     }
     let head = head_of(truth);
-    explain(netlist, head.paths, report, truth);
+    explain(netlist, head.paths, report, truth, all);
 }
 
 // Prints the verdict, its reason, and what is false in a report.

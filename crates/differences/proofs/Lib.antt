@@ -1,5 +1,6 @@
--- Numbers in bytes, where a number stands among runs, the steps from stretch to stretch, and the runs that a report names.
+-- Numbers in bytes, places in runs, ascending runs, the steps from stretch to stretch, and the runs that a report names.
 pub mod NumberLaws
 pub mod RunCases
+pub mod OrderCases
 pub mod StepCases
 pub mod ClaimLaws

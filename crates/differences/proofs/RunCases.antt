@@ -1,32 +1,30 @@
--- Where a number stands among runs, with one run more in front, and from the last of the runs in bytes to the first.
+-- Numbers in ascending runs, and the places of runs in bytes: what stands at a place, what the runs before it hold, and whether they ascend.
 -- Assumes nothing.
-use mathlib.Core.Path.{_≡_, refl, ap, sym, _∙_, subst}
-use mathlib.Core.Bool.{Bool, true, false, _&&_, _||_}
-use mathlib.Core.List.{List, [], _∷_}
-use mathlib.Core.Logic.{⊎-elim}
-use Prim.Native.Nat.{ℕ, suc, _+_, _-_, _*_, _/_, _≤_, _<_}
+use mathlib.Core.Path.{_≡_, refl, ap, ap₂, _∙_, subst}
+use mathlib.Core.Bool.{Bool, true, false, _&&_}
+use mathlib.Core.List.{List, [], _∷_, _++_}
+use Prim.Native.Nat.{ℕ, zero, suc, _+_, _*_, _/_, _≤_, _<_}
 use native.Mathlib.Omega.{arith}
-use borrow.Author.Needs.{needs}
+use native.Mathlib.Numerals.{add-one}
 use borrow.Author.Tests.{le-leb, lt-leb}
 use lib.Dec.{leb}
-use lib.ListN.{length, take, drop}
+use lib.ListN.{length, take, drop, drop-of-length-le}
 use lib.Seq.{drop-drop}
 use Rattle.model.specs.Base.{field, fromLittleEndian}
-use Rattle.model.specs.Runs.{Run, inRun, inRuns}
+use Rattle.model.specs.Runs.{Run, inRuns}
 use Rattle.model.specs.Report.{runsIn}
-use Rattle.model.proofs.BoolLaws.{le-or-lt}
-use Rattle.differences.specs.Differences.{runsOfBytes, Stands}
-use Rattle.differences.specs.declared.Standing.{Standing}
-use Rattle.differences.specs.declared.Standing.the-variants as standing
+use Rattle.differences.specs.Differences.{runsOfBytes, Ascends, Passed, Reached, Stands}
+use Rattle.differences.specs.declared.inner.walk.Standing.{Standing}
+use Rattle.differences.specs.declared.inner.walk.Standing.the-variants as standing
 
-abbrev run : ℕ → ℕ → Run
+abbrev pub run : ℕ → ℕ → Run
 run low high = record { low = low; high = high }
 
-or-true : (b : Bool) → (b || true) ≡ true
-or-true true = refl
-or-true false = refl
+and-false : (b : Bool) → (b && false) ≡ false
+and-false true = refl
+and-false false = refl
 
--- a number in the run in front, in no run in front, and in a later run
+-- a number in the run in front, and one below or above it
 in-front : (low high k : ℕ) (rs : List Run) → low ≤ k → k ≤ high → inRuns (run low high ∷ rs) k ≡ true
 unfolding inRuns
 in-front low high k rs a b = rw (le-leb low k a, le-leb k high b) refl
@@ -35,92 +33,134 @@ not-below : (low high k : ℕ) (rs : List Run) → k < low → inRuns (run low h
 unfolding inRuns
 not-below low high k rs a = rw (lt-leb low k a) refl
 
-and-false : (b : Bool) → (b && false) ≡ false
-and-false true = refl
-and-false false = refl
-
 not-above : (low high k : ℕ) (rs : List Run) → high < k → inRuns (run low high ∷ rs) k ≡ inRuns rs k
 unfolding inRuns
 not-above low high k rs a = rw (lt-leb k high a, and-false (leb low k)) refl
 
-later : (low high k : ℕ) (rs : List Run) → inRuns rs k ≡ true → inRuns (run low high ∷ rs) k ≡ true
+in-none : (k : ℕ) → inRuns [] k ≡ false
 unfolding inRuns
-later low high k rs e = rw e (or-true (inRun (run low high) k))
+in-none k = refl
 
--- a run that holds no number from `n` on changes nothing
-kept : (s : Standing) (n low high : ℕ) → ((k : ℕ) (rs : List Run) → n ≤ k → inRuns (run low high ∷ rs) k ≡ inRuns rs k)
-    → (rs : List Run) → Stands s n rs → Stands s n (run low high ∷ rs)
-kept (standing.Inside end) n low high f rs h = (h .0, λ k a b. later low high k rs (h .1 k a b))
-kept (standing.Before next) n low high f rs h = (h .0, λ k a b. f k rs a ∙ h .1 k a b)
-kept standing.Past n low high f rs h = λ k a. f k rs a ∙ h k a
+-- ascending runs hold no number below the first low
+none-below : (least k : ℕ) (rs : List Run) → Ascends least rs → k < least → inRuns rs k ≡ false
+none-below least k [] h l = in-none k
+none-below least k (r ∷ rs) h l =
+    let above : least ≤ r .low = h .0 in
+    let ordered : r .low ≤ r .high = h .1 in
+    not-below (r .low) (r .high) k rs (omega arith) ∙ none-below (r .high + 1) k rs (h .2) (omega arith)
 
-module _ (before : Standing) (n low high : ℕ) where
-  nowhere : high < low → (k : ℕ) (rs : List Run) → inRuns (run low high ∷ rs) k ≡ inRuns rs k
-  nowhere h k rs = ⊎-elim (λ a. not-below low high k rs (omega arith)) (λ a. not-above low high k rs a) (le-or-lt k high)
+-- runs that ascend do so from any lower number on, and from any place on
+from-lower : (m n : ℕ) (rs : List Run) → m ≤ n → Ascends n rs → Ascends m rs
+from-lower m n [] l h = h
+from-lower m n (r ∷ rs) l h =
+    let above : n ≤ r .low = h .0 in
+    (omega arith, h .1, h .2)
 
-  pub empty-run : high < low → (rs : List Run) → Stands before n rs → Stands before n (run low high ∷ rs)
-  empty-run h = kept before n low high (λ k rs a. nowhere h k rs)
+from-place : (i least : ℕ) (rs : List Run) → Ascends least rs → Ascends least (drop i rs)
+from-place zero least rs h = h
+from-place (suc i) least [] h = h
+from-place (suc i) least (r ∷ rs) h =
+    let above : least ≤ r .low = h .0 in
+    let ordered : r .low ≤ r .high = h .1 in
+    from-lower least (r .high + 1) (drop i rs) (omega arith) (from-place i (r .high + 1) rs (h .2))
 
-  pub passed-run : high < n → (rs : List Run) → Stands before n rs → Stands before n (run low high ∷ rs)
-  passed-run h = kept before n low high (λ k rs a. not-above low high k rs (omega arith))
+-- the run at a place, as the code reads it
+abbrev pub runAt : List ℕ → ℕ → Run
+runAt bs i = run (field (16 * i) 8 bs) (field (16 * i + 8) 8 bs)
 
-  pub within-run : low ≤ n → n ≤ high → (rs : List Run) → Stands before n rs → Stands (standing.Inside high) n (run low high ∷ rs)
-  within-run a b rs h = (b, λ k p q. in-front low high k rs (omega arith) q)
+run-shift : (i : ℕ) (bs : List ℕ) → runAt (drop 16 bs) i ≡ runAt bs (suc i)
+run-shift i bs =
+    let low : 16 + 16 * i ≡ 16 * suc i = omega arith in
+    let high : 16 + (16 * i + 8) ≡ 16 * suc i + 8 = omega arith in
+    let first : drop (16 * i) (drop 16 bs) ≡ drop (16 * suc i) bs = drop-drop (16 * i) 16 bs ∙ ap (λ (k : ℕ). drop k bs) low in
+    let second : drop (16 * i + 8) (drop 16 bs) ≡ drop (16 * suc i + 8) bs = drop-drop (16 * i + 8) 16 bs ∙ ap (λ (k : ℕ). drop k bs) high in
+    ap₂ (λ (x y : List ℕ). run (fromLittleEndian (take 8 x)) (fromLittleEndian (take 8 y))) first second
 
-  pub within-other : (end : ℕ) → before ≡ standing.Inside end → (rs : List Run) → Stands before n rs
-      → Stands (standing.Inside end) n (run low high ∷ rs)
-  within-other end e rs h =
-      let s : Stands (standing.Inside end) n rs = subst (λ (x : Standing). Stands x n rs) e h in
-      (s .0, λ k a b. later low high k rs (s .1 k a b))
+run-in : (n i : ℕ) (bs : List ℕ) → i < n → drop i (runsIn bs n) ≡ runAt bs i ∷ drop (suc i) (runsIn bs n)
+unfolding runsIn
+run-in zero i bs h = absurd (omega arith)
+run-in (suc n) zero bs h = refl
+run-in (suc n) (suc i) bs h =
+    run-in n i (drop 16 bs) (omega arith) ∙ ap (λ (r : Run). r ∷ drop (suc i) (runsIn (drop 16 bs) n)) (run-shift i bs)
 
-  pub before-other : n < low → (next : ℕ) → before ≡ standing.Before next → next < low → (rs : List Run) → Stands before n rs
-      → Stands (standing.Before next) n (run low high ∷ rs)
-  before-other a next e b rs h =
-      let s : Stands (standing.Before next) n rs = subst (λ (x : Standing). Stands x n rs) e h in
-      (s .0, λ k p q. not-below low high k rs (omega arith) ∙ s .1 k p q)
+taken-in : (n i : ℕ) (bs : List ℕ) → i < n → take (suc i) (runsIn bs n) ≡ take i (runsIn bs n) ++ (runAt bs i ∷ [])
+unfolding runsIn
+taken-in zero i bs h = absurd (omega arith)
+taken-in (suc n) zero bs h = refl
+taken-in (suc n) (suc i) bs h =
+    let more : take (suc i) (runsIn (drop 16 bs) n) ≡ take i (runsIn (drop 16 bs) n) ++ (runAt bs (suc i) ∷ []) =
+    taken-in n i (drop 16 bs) (omega arith) ∙ ap (λ (r : Run). take i (runsIn (drop 16 bs) n) ++ (r ∷ [])) (run-shift i bs) in
+    ap (λ (rs : List Run). run (field 0 8 bs) (field 8 8 bs) ∷ rs) more
 
-  pub before-run : n < low → (next : ℕ) → before ≡ standing.Before next → low ≤ next → (rs : List Run) → Stands before n rs
-      → Stands (standing.Before low) n (run low high ∷ rs)
-  before-run a next e b rs h =
-      let s : Stands (standing.Before next) n rs = subst (λ (x : Standing). Stands x n rs) e h in
-      (a, λ k p q. not-below low high k rs q ∙ s .1 k p (omega arith))
+module _ (bs : List ℕ) (i : ℕ) (h : i < length bs / 16) where
+  pub run-at : drop i (runsOfBytes bs) ≡ runAt bs i ∷ drop (i + 1) (runsOfBytes bs)
+  unfolding runsOfBytes
+  run-at = rw (add-one i) (run-in (length bs / 16) i bs h)
 
-  pub before-only : n < low → before ≡ standing.Past → (rs : List Run) → Stands before n rs → Stands (standing.Before low) n (run low high ∷ rs)
-  before-only a e rs h =
-      let s : Stands standing.Past n rs = subst (λ (x : Standing). Stands x n rs) e h in
-      (a, λ k p q. not-below low high k rs q ∙ s k p)
+  pub run-taken : take (i + 1) (runsOfBytes bs) ≡ take i (runsOfBytes bs) ++ (runAt bs i ∷ [])
+  unfolding runsOfBytes
+  run-taken = rw (add-one i) (taken-in (length bs / 16) i bs h)
 
--- The runs in bytes from run `left` on
-unfoldable pub runsLeft : List ℕ → ℕ → List Run
-runsLeft bs left = runsIn (drop (16 * left) bs) (length bs / 16 - left)
+runs-counted : (n : ℕ) (bs : List ℕ) → length (runsIn bs n) ≡ n
+unfolding runsIn
+runs-counted zero bs = refl
+runs-counted (suc n) bs = ap suc (runs-counted n (drop 16 bs))
 
-pub none-yet : (bs : List ℕ) (n : ℕ) → Stands standing.Past n (runsLeft bs (length bs / 16))
-unfolding runsLeft runsIn inRuns
-none-yet bs n =
-    let e : length bs / 16 - length bs / 16 ≡ 0 = omega arith in
-    λ k h. rw e refl
+pub run-count : (bs : List ℕ) → length (runsOfBytes bs) ≡ length bs / 16
+unfolding runsOfBytes
+run-count bs = runs-counted (length bs / 16) bs
 
--- one run more, as the code reads it
-one-more : (bs : List ℕ) (left low high : ℕ) → left < length bs / 16 → low ≡ field (16 * left) 8 bs → high ≡ field (16 * left + 8) 8 bs
-    → runsLeft bs left ≡ run low high ∷ runsLeft bs (left + 1)
-unfolding runsLeft runsIn
-one-more bs left low high h p q =
-    let e : length bs / 16 - left ≡ suc (length bs / 16 - (left + 1)) = omega arith in
-    let a : 16 * (left + 1) ≡ 16 * left + 16 = omega arith in
-    rw (e, p, q, a, sym (drop-drop 16 (16 * left) bs), sym (drop-drop 8 (16 * left) bs)) refl
+-- the first place and any ascending runs
+pub passed-none : (bs : List ℕ) (n : ℕ) → Ascends 0 (runsOfBytes bs) → Passed bs 0 n
+passed-none bs n h = (h, omega arith, λ k l. refl)
 
-pub next-run : (bs : List ℕ) (n left : ℕ) (found : Standing) → 0 < left → left ≤ length bs / 16 → Stands found n (runsLeft bs left)
-    → (low high : ℕ) → low ≡ field (16 * (left - 1)) 8 bs → high ≡ field (16 * (left - 1) + 8) 8 bs
-    → (r : Standing) → ((rs : List Run) → Stands found n rs → Stands r n (run low high ∷ rs)) → Stands r n (runsLeft bs (left - 1))
-next-run bs n left found h l s low high p q r f =
-    let e : left - 1 + 1 ≡ left = omega arith in
-    let m : runsLeft bs (left - 1) ≡ run low high ∷ runsLeft bs left =
-    one-more bs (left - 1) low high (omega arith) p q ∙ ap (λ (i : ℕ). run low high ∷ runsLeft bs i) e in
-    subst (λ (rs : List Run). Stands r n rs) (sym m) (f (runsLeft bs left) s)
+pub passed-later : (bs : List ℕ) (i m n : ℕ) → m ≤ n → Passed bs i m → Passed bs i n
+passed-later bs i m n l p = (p .0, p .1, λ k h. p .2 k (omega arith))
 
-pub all-runs : (bs : List ℕ) (n left : ℕ) (found : Standing) → left ≤ 0 → Stands found n (runsLeft bs left) → Stands found n (runsOfBytes bs)
-unfolding runsLeft runsOfBytes
-all-runs bs n left found h s =
-    let z : left ≡ 0 = omega arith in
-    let m : length bs / 16 - 0 ≡ length bs / 16 = omega arith in
-    rw m at (rw z at s)
+-- a run that ends before the number is passed
+pub passed-run : (bs : List ℕ) (i n high : ℕ) → i < length bs / 16 → high ≡ field (16 * i + 8) 8 bs → high < n → Passed bs i n → Passed bs (i + 1) n
+passed-run bs i n high l e h p = (
+  p .0,
+  omega arith,
+  λ k a. p .2 k a
+      ∙ ap (λ (rs : List Run). inRuns rs k) (run-at bs i l)
+      ∙ not-above (field (16 * i) 8 bs) (field (16 * i + 8) 8 bs) k (drop (i + 1) (runsOfBytes bs)) (omega (arith, e)),
+)
+
+pub reached-run : (bs : List ℕ) (i n high : ℕ) → high ≡ field (16 * i + 8) 8 bs → n ≤ high → Passed bs i n → Reached bs i n
+reached-run bs i n high e h p = (p, λ l. omega (arith, e))
+
+pub reached-end : (bs : List ℕ) (i n : ℕ) → length bs / 16 ≤ i → Passed bs i n → Reached bs i n
+reached-end bs i n h p = (p, λ l. absurd (omega arith))
+
+drop-all : (i : ℕ) (rs : List Run) → length rs ≤ i → drop i rs ≡ []
+drop-all i rs h = drop-of-length-le rs {i = i} h
+
+-- Where a number stands, by the run at a place that it has reached
+module _ (bs : List ℕ) (i n : ℕ) (s : Reached bs i n) where
+  pub past-all : length bs / 16 ≤ i → Stands standing.Past n (runsOfBytes bs)
+  past-all h =
+      let none : drop i (runsOfBytes bs) ≡ [] = drop-all i (runsOfBytes bs) (omega (arith, run-count bs)) in
+      λ k a. s .0 .2 k a ∙ ap (λ (rs : List Run). inRuns rs k) none ∙ in-none k
+
+  module _ (h : i < length bs / 16) (low : ℕ) (e : low ≡ field (16 * i) 8 bs) where
+    here : (k : ℕ) → n ≤ k
+        → inRuns (runsOfBytes bs) k ≡ inRuns (runAt bs i ∷ drop (i + 1) (runsOfBytes bs)) k
+    here k a = s .0 .2 k a ∙ ap (λ (rs : List Run). inRuns rs k) (run-at bs i h)
+
+    pub before-run : n < low → Stands (standing.Before low) n (runsOfBytes bs)
+    before-run l =
+        let rest : Ascends 0 (drop i (runsOfBytes bs)) = from-place i 0 (runsOfBytes bs) (s .0 .0) in
+        let from : Ascends 0 (runAt bs i ∷ drop (i + 1) (runsOfBytes bs)) =
+        subst (λ (rs : List Run). Ascends 0 rs) (run-at bs i h) rest in
+        let low-first : Ascends (field (16 * i) 8 bs) (runAt bs i ∷ drop (i + 1) (runsOfBytes bs)) =
+        (omega arith, from .1, from .2) in
+        (l, λ k a b. here k a ∙ none-below (field (16 * i) 8 bs) k _ low-first (omega (arith, e)))
+
+    pub inside-run : (high : ℕ) → high ≡ field (16 * i + 8) 8 bs → low ≤ n → Stands (standing.Inside high) n (runsOfBytes bs)
+    inside-run high f l =
+        let ahead : n ≤ field (16 * i + 8) 8 bs = s .1 h in (
+          omega (arith, f),
+          λ k a b. here k a
+              ∙ in-front (field (16 * i) 8 bs) (field (16 * i + 8) 8 bs) k (drop (i + 1) (runsOfBytes bs)) (omega (arith, e)) (omega (arith, f)),
+        )

@@ -8,15 +8,15 @@ use Prim.Native.Nat.{ℕ, _+_, _-_, _^_, _≤_, _<_}
 use native.Mathlib.Omega.{arith}
 use Rattle.model.specs.Runs.{inRuns}
 use Rattle.model.proofs.BoolLaws.{le-or-lt}
-use Rattle.differences.specs.Differences.{runsOfBytes, only, Stands, Steps, FirstOnly, LastOnly, FirstPiece}
-use Rattle.differences.specs.declared.Standing.{Standing}
-use Rattle.differences.specs.declared.Standing.the-variants as standing
-use Rattle.differences.specs.declared.Step.{Step}
-use Rattle.differences.specs.declared.Step.the-variants as step
-use Rattle.differences.specs.declared.First.{First}
-use Rattle.differences.specs.declared.First.the-variants as first
-use Rattle.differences.specs.declared.Piece.{Piece}
-use Rattle.differences.specs.declared.Piece.the-variants as piece
+use Rattle.differences.specs.Differences.{runsOfBytes, only, Stands, Steps, FirstOnly, LastOnly, FirstPiece, FirstFrom, PieceFrom}
+use Rattle.differences.specs.declared.inner.walk.Standing.{Standing}
+use Rattle.differences.specs.declared.inner.walk.Standing.the-variants as standing
+use Rattle.differences.specs.declared.inner.walk.Step.{Step}
+use Rattle.differences.specs.declared.inner.walk.Step.the-variants as step
+use Rattle.differences.specs.declared.inner.walk.First.{First}
+use Rattle.differences.specs.declared.inner.walk.First.the-variants as first
+use Rattle.differences.specs.declared.inner.walk.Piece.{Piece}
+use Rattle.differences.specs.declared.inner.walk.Piece.the-variants as piece
 
 and-false : (b : Bool) → (b && false) ≡ false
 and-false true = refl
@@ -138,11 +138,15 @@ module _ (a b : List ℕ) (low high : ℕ) (h : low ≤ high) (f : (k : ℕ) →
   last-number g = (h, f, λ l. absurd (omega arith))
 
 -- The stretch: its first number, then its last
-pub first-as : (x y : First) (a b : List ℕ) (from : ℕ) → FirstOnly x a b from → x ≡ y → FirstOnly y a b from
-first-as x y a b from s e = subst (λ (z : First). FirstOnly z a b from) e s
+module _ (i j : ℕ) (a b : List ℕ) (from : ℕ) where
+  pub start-as : (x y : First) → FirstFrom x i j a b from → x ≡ y → FirstFrom y i j a b from
+  start-as x y s e = subst (λ (z : First). FirstFrom z i j a b from) e s
 
--- a stretch ends where it was looked for, or later
-pub ends-ahead : (x : Piece) (a b : List ℕ) (from : ℕ) → FirstPiece x a b from → (low high : ℕ) → x ≡ piece.Stretch low high → from ≤ high
-ends-ahead x a b from s low high e =
-    let t : FirstPiece (piece.Stretch low high) a b from = subst (λ (z : Piece). FirstPiece z a b from) e s in
-    omega (arith, t .0, t .2)
+  pub piece-as : (x y : Piece) → PieceFrom x i j a b from → x ≡ y → PieceFrom y i j a b from
+  piece-as x y s e = subst (λ (z : Piece). PieceFrom z i j a b from) e s
+
+  -- a stretch ends where it was looked for, or later
+  pub ends-ahead : (x : Piece) (low high : ℕ) → PieceFrom x i j a b from → x ≡ piece.Stretch low high → from ≤ high
+  ends-ahead x low high s e =
+      let t : FirstPiece (piece.Stretch low high) a b from = piece-as x (piece.Stretch low high) s e .0 in
+      omega (arith, t .0, t .2 .0)

@@ -1,21 +1,24 @@
--- The numbers in the runs of bytes, and the stretches of numbers that are in the runs of the one and not of the other.
+-- Runs in bytes: whether they ascend, the numbers in them, and the stretches of numbers that are in the runs of the one and not of the other.
 -- Assumes nothing.
 use mathlib.Core.Path.{_≡_}
 use mathlib.Core.Bool.{Bool, true, false, _&&_, not}
-use mathlib.Core.List.{List}
+use mathlib.Core.List.{List, [], _∷_}
 use Prim.Native.Nat.{ℕ, _+_, _*_, _/_, _^_, _≤_, _<_}
-use lib.ListN.{length}
+use lib.Dec.{eqb}
+use lib.ListN.{length, take, drop}
 use Rattle.model.specs.Base.{field}
 use Rattle.model.specs.Runs.{Run, inRuns}
 use Rattle.model.specs.Report.{runsIn}
-use Rattle.differences.specs.declared.Standing.{Standing}
-use Rattle.differences.specs.declared.Standing.the-variants as standing
-use Rattle.differences.specs.declared.Step.{Step}
-use Rattle.differences.specs.declared.Step.the-variants as step
-use Rattle.differences.specs.declared.First.{First}
-use Rattle.differences.specs.declared.First.the-variants as first
-use Rattle.differences.specs.declared.Piece.{Piece}
-use Rattle.differences.specs.declared.Piece.the-variants as piece
+use Rattle.differences.specs.declared.Order.{Order}
+use Rattle.differences.specs.declared.Order.the-variants as order
+use Rattle.differences.specs.declared.inner.walk.Standing.{Standing}
+use Rattle.differences.specs.declared.inner.walk.Standing.the-variants as standing
+use Rattle.differences.specs.declared.inner.walk.Step.{Step}
+use Rattle.differences.specs.declared.inner.walk.Step.the-variants as step
+use Rattle.differences.specs.declared.inner.walk.First.{First}
+use Rattle.differences.specs.declared.inner.walk.First.the-variants as first
+use Rattle.differences.specs.declared.inner.walk.Piece.{Piece}
+use Rattle.differences.specs.declared.inner.walk.Piece.the-variants as piece
 
 -- the runs in bytes, 16 each
 unfoldable pub runsOfBytes : List ℕ → List Run
@@ -25,9 +28,34 @@ runsOfBytes bs = runsIn bs (length bs / 16)
 abbrev pub StatedLength : List ℕ → Type 0
 StatedLength report = length report ≡ 34 + 16 * (field 14 2 report + field 16 2 report)
 
+-- Runs that ascend from `least` on: each low is at most its high, and over the high before. Runs that touch ascend, too
+abbrev pub Ascends : ℕ → List Run → Type 0
+Ascends least [] = Unit {0}
+Ascends least (r ∷ rs) = (least ≤ r .low) × (r .low ≤ r .high) × Ascends (r .high + 1) rs
+
+-- the runs ascend; or the run at place `k` is the first out of order: those before it ascend, and with it they do not
+abbrev pub Ordered : Order → List Run → Type 0
+Ordered order.Ascending rs = Ascends 0 rs
+Ordered (order.OutOfOrder k) rs = (k < length rs) × Ascends 0 (take k rs) × (Ascends 0 (take (k + 1) rs) → ⊥)
+
+-- the least low of a run at place `at` after one that ends with `last`; at place 0 there is none before it
+unfoldable pub leastAt : ℕ → ℕ → ℕ
+leastAt at last = elim (eqb at 0) [ true ↦ 0 | false ↦ last + 1 ]
+
 -- the number is in the runs of `a` and not in those of `b`
 unfoldable pub only : List ℕ → List ℕ → ℕ → Bool
 only a b k = inRuns (runsOfBytes a) k && not (inRuns (runsOfBytes b) k)
+
+-- place `i` of ascending runs, from which the numbers from `n` on are looked for: the runs before it hold none of them
+abbrev pub Passed : List ℕ → ℕ → ℕ → Type 0
+Passed bs i n =
+    Ascends 0 (runsOfBytes bs)
+    × (i ≤ length bs / 16)
+    × ((k : ℕ) → n ≤ k → inRuns (runsOfBytes bs) k ≡ inRuns (drop i (runsOfBytes bs)) k)
+
+-- and the run at the place, if there is one, does not end before `n`
+abbrev pub Reached : List ℕ → ℕ → ℕ → Type 0
+Reached bs i n = Passed bs i n × (i < length bs / 16 → n ≤ field (16 * i + 8) 8 bs)
 
 -- where a number stands among runs
 abbrev pub Stands : Standing → ℕ → List Run → Type 0
@@ -54,3 +82,15 @@ LastOnly high a b low = (low ≤ high) × ((k : ℕ) → low ≤ k → k ≤ hig
 abbrev pub FirstPiece : Piece → List ℕ → List ℕ → ℕ → Type 0
 FirstPiece (piece.Stretch low high) a b from = (from ≤ low) × ((k : ℕ) → from ≤ k → k < low → only a b k ≡ false) × LastOnly high a b low
 FirstPiece piece.Nothing a b from = (k : ℕ) → from ≤ k → k < 2 ^ 64 → only a b k ≡ false
+
+-- the same with the places to look on from: place `i` in the runs of `a` and `j` in those of `b`
+abbrev pub FirstFrom : First → ℕ → ℕ → List ℕ → List ℕ → ℕ → Type 0
+FirstFrom (first.At n) i j a b from = FirstOnly (first.At n) a b from × Passed a i n × Passed b j n
+FirstFrom first.Nothing i j a b from = FirstOnly first.Nothing a b from
+
+abbrev pub LastFrom : ℕ → ℕ → ℕ → List ℕ → List ℕ → ℕ → Type 0
+LastFrom high i j a b low = LastOnly high a b low × Passed a i (high + 1) × Passed b j (high + 1)
+
+abbrev pub PieceFrom : Piece → ℕ → ℕ → List ℕ → List ℕ → ℕ → Type 0
+PieceFrom (piece.Stretch low high) i j a b from = FirstPiece (piece.Stretch low high) a b from × Passed a i (high + 1) × Passed b j (high + 1)
+PieceFrom piece.Nothing i j a b from = FirstPiece piece.Nothing a b from

@@ -1,4 +1,6 @@
-// The fields and the runs of a report's bytes, for our own crates.
+// The fields and the runs of a report's bytes, and the walk along two lists of runs, for our own crates.
+pub mod walk;
+
 ghost use mathlib.Core.Path.{_≡_};
 ghost use Prim.Native.Nat.{_+_, _*_, _-_, _/_, _≤_, _<_, min};
 ghost use lib.ListN.{length, take, drop};

@@ -47,7 +47,10 @@ fn number_in(word: &[u8]) -> Number {
 
 fn print_usage(fd: i32) {
     print(fd, b"usage: show_path NUMBER [CIRCUIT]\n");
-    print(fd, b"Prints the path of a number. Without a name the circuit is circuit.nl.\n");
+    print(
+        fd,
+        b"Prints the path of a number. Without a name the circuit is circuit.nl.\n",
+    );
 }
 
 // Says that a circuit has fewer paths than a number, or that numbers begin with 1.
@@ -79,7 +82,10 @@ fn print_numbered(netlist: &[u8]) {
     let number = number_in(&word[..digits]);
     match number {
         Number::Nothing => {
-            print(STDERR_FILENO, b"The first argument is not a number below 10^19.\n");
+            print(
+                STDERR_FILENO,
+                b"The first argument is not a number below 10^19.\n",
+            );
             path_text::print_path(STDOUT_FILENO, netlist, PathNo(0));
         }
         Number::Value(value) => {

@@ -1,10 +1,10 @@
--- `differences::next_piece` meets its contract: the stretch from its first number to its last.
+-- `differences::inner::walk::next_piece` meets its contract: the stretch from its first number to its last.
 -- Assumes nothing.
 use borrow.Author.Needs.{needs}
-use Rattle.differences.specs.declared.First.the-variants as first
-use Rattle.differences.proofs.StepCases.{first-as}
-use Rattle.differences.proofs.next_piece.Statement.{statement}
-use Rattle.differences.proofs.next_piece.Tie as tie
+use Rattle.differences.specs.declared.inner.walk.First.the-variants as first
+use Rattle.differences.proofs.StepCases.{start-as}
+use Rattle.differences.proofs.inner.walk.next_piece.Statement.{statement}
+use Rattle.differences.proofs.inner.walk.next_piece.Tie as tie
 
 first-only-requires : tie.Need-first-only-requires
 first-only-requires c κs = search needs
@@ -20,21 +20,24 @@ last-only-requires c κs =
     let a = c .before .before .before .before .before .before .args in
     let f = c .before .before .before .first-only in
     let g = c .before .first .given in
-    first-as (f .result) (first.At (g .0 .0)) (a .a .now) (a .b .now) (a .from) (f .ensures) (g .1) .2
+    let t = start-as (f .result .i) (f .result .j) (a .a .now) (a .b .now) (a .from) (f .result .first) (first.At (g .0 .0)) (f .ensures) (g .1) in
+    (t .1, t .2, t .0 .2)
 
 returns : tie.Need-returns
 returns c =
     let a = c .before .before .before .before .before .args in
     let f = c .before .before .first-only in
-    first-as (f .result) first.Nothing (a .a .now) (a .b .now) (a .from) (f .ensures) (c .enum-told .given .1)
+    let t = start-as (f .result .i) (f .result .j) (a .a .now) (a .b .now) (a .from) (f .result .first) first.Nothing (f .ensures) (c .enum-told .given .1) in
+    t
 
 returns-2 : tie.Need-returns-2
 returns-2 c =
     let a = c .before .before .before .before .before .before .before .args in
     let f = c .before .before .before .before .first-only in
     let g = c .before .before .first .given in
-    let t = first-as (f .result) (first.At (g .0 .0)) (a .a .now) (a .b .now) (a .from) (f .ensures) (g .1) in
-    (t .0, t .1, c .last-only .ensures)
+    let t = start-as (f .result .i) (f .result .j) (a .a .now) (a .b .now) (a .from) (f .result .first) (first.At (g .0 .0)) (f .ensures) (g .1) in
+    let l = c .last-only .ensures in
+    ((t .0 .0, t .0 .1, l .0), l .1, l .2)
 
 pub next-piece-spec : {M : Type 1} → statement M
 next-piece-spec =
