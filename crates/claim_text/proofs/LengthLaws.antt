@@ -122,8 +122,8 @@ module _ (part paths : ℕ) where
   true-short : length (trueShare part paths) ≤ 10
   unfolding trueShare
   true-short =
-      ⊎-elim (λ (e : (ltb 0 paths && leb part paths) ≡ true). rw (e, trueShare) (simp length-append (omega (arith, there e)))) (λ (e : (ltb 0 paths && leb part paths) ≡ false). rw (e, trueShare) (omega arith))
-      (bool-cases (ltb 0 paths && leb part paths))
+      ⊎-elim (λ (e : (ltb 0 paths && leb part paths) ≡ true). rw (e, trueShare) (simp length-append (omega (arith, there e))))
+      (λ (e : (ltb 0 paths && leb part paths) ≡ false). rw (e, trueShare) (omega arith)) (bool-cases (ltb 0 paths && leb part paths))
 
 pub faults-short : (e : Edge) (claimed truth paths : ℕ) → length (faultsText e claimed truth paths) ≤ 128
 unfolding faultsText

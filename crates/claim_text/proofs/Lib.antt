@@ -1,4 +1,5 @@
--- Lines put together from parts, their lengths, and thousandths by addition.
+-- Lines put together from parts, their lengths, thousandths by addition, and examples.
 pub mod PartLaws
 pub mod LengthLaws
 pub mod ShareLaws
+pub mod ExamplesHold

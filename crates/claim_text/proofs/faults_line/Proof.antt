@@ -41,7 +41,9 @@ returns : tie.Need-returns
 unfolding faultsText
 returns c =
     let a = c .before .before .before .before .before .before .before .before .before .before .args in
-    let p1 = first-part _ _ _ (c .before .before .before .before .before .before .before .before .before .empty-line .ensures) (c .before .before .before .before .before .before .before .before .with-edge .ensures) in
+    let start = c .before .before .before .before .before .before .before .before .before .empty-line in
+    let named = c .before .before .before .before .before .before .before .before .with-edge in
+    let p1 = first-part _ _ _ (start .ensures) (named .ensures) in
     let p2 = then-part _ _ _ _ _ p1 (c .before .before .before .before .before .before .with-text .ensures) in
     let p3 = then-part _ _ _ _ _ p2 (c .before .before .before .before .before .with-number .ensures) in
     let p4 = then-part _ _ _ _ _ p3 (c .before .before .before .before .with-claimed-share .ensures) in

@@ -35,7 +35,9 @@ returns : tie.Need-returns
 unfolding fieldText
 returns c =
     let a = c .before .before .before .before .before .before .before .before .args in
-    let p1 = first-part _ _ _ (c .before .before .before .before .before .before .before .empty-line .ensures) (c .before .before .before .before .before .before .with-field .ensures) in
+    let start = c .before .before .before .before .before .before .before .empty-line in
+    let named = c .before .before .before .before .before .before .with-field in
+    let p1 = first-part _ _ _ (start .ensures) (named .ensures) in
     let p2 = then-part _ _ _ _ _ p1 (c .before .before .before .before .with-text .ensures) in
     let p3 = then-part _ _ _ _ _ p2 (c .before .before .before .with-number .ensures) in
     let p4 = then-part _ _ _ _ _ p3 (c .before .with-text2 .ensures) in

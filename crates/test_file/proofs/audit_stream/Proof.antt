@@ -47,9 +47,8 @@ same-length-4 c = search needs
 same-length-5 : tie.Need-same-length-5
 same-length-5 c =
     let finished = c .before .store3 .given in
-    let walked = c .before .before .before .before .before .before .before .before .before .before .before .before .before .before .store2 .given in
-    let begun = c .before .before .before .before .before .before .before .before .before .before .before .before .before .before .before .before .before .before .before .before .before .before .before .before .before .store .given in
-    finished ∙ walked ∙ begun
+    let afterWalk = c .before .before .before .before .before .before .before .before .before .before .before .before .before .before in
+    finished ∙ afterWalk .store2 .given ∙ afterWalk .before .before .before .before .before .before .before .before .before .before .before .store .given
 
 same-length-6 : tie.Need-same-length-6
 same-length-6 c = search needs
@@ -58,9 +57,10 @@ returns-2 : tie.Need-returns-2
 returns-2 c =
     let finished = c .before .before .finish in
     let wrote = c .before .before .before .before .before .before .before .true-report in
-    let walked = c .before .before .before .before .before .before .before .before .before .before .before .before .before .before .before .before .before .walk-file in
-    let ready = c .before .before .before .before .before .before .before .before .before .before .before .before .before .before .before .before .before .before .before .before .before .enum-told .given .1 in
-    let begun = c .before .before .before .before .before .before .before .before .before .before .before .before .before .before .before .before .before .before .before .before .before .before .before .before .before .before .begin in
+    let atWalk = c .before .before .before .before .before .before .before .before .before .before .before .before .before .before .before .before .before in
+    let walked = atWalk .walk-file in
+    let ready = atWalk .before .before .before .before .enum-told .given .1 in
+    let begun = atWalk .before .before .before .before .before .before .before .before .before .begin in
     let done =
     audit-done _ _ _ _ (begun .result) (begun .ensures) ready (walked .result) _ _ _ (walked .ensures) (wrote .result) _ _ (wrote .ensures .0)
     _ (finished .result) _ (finished .ensures) in

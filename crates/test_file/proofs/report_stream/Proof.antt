@@ -49,9 +49,10 @@ same-length-6 c = search needs
 returns-2 : tie.Need-returns-2
 returns-2 c =
     let wrote = c .before .before .true-report in
-    let walked = c .before .before .before .before .before .before .before .before .before .before .before .before .walk-file in
-    let ready = c .before .before .before .before .before .before .before .before .before .before .before .before .before .before .before .before .enum-told .given .1 in
-    let begun = c .before .before .before .before .before .before .before .before .before .before .before .before .before .before .before .before .before .before .before .before .before .begin in
+    let atWalk = c .before .before .before .before .before .before .before .before .before .before .before .before in
+    let walked = atWalk .walk-file in
+    let ready = atWalk .before .before .before .before .enum-told .given .1 in
+    let begun = atWalk .before .before .before .before .before .before .before .before .before .begin in
     let done =
     report-done _ _ _ _ (begun .result) (begun .ensures) ready (walked .result) _ _ _ (walked .ensures) (wrote .result) _ _ (wrote .ensures .0) in
     (done, wrote .ensures .1)

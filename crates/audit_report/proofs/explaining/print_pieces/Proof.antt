@@ -54,7 +54,9 @@ loop-less c =
     let from = c .before .before .before .before .before .before .before .loop .from in
     let n = c .before .before .before .before .before .before .next-piece in
     let g = c .before .before .before .before .piece .given in
-    omega (arith, c .before .before .before .known-told .given .1 .0 .1, ends-ahead (n .result .i) (n .result .j) (a .a .now) (a .b .now) from (n .result .piece) (g .0 .0) (g .0 .1 .0) (n .ensures) (g .1))
+    let places = n .result in
+    let later = ends-ahead (places .i) (places .j) (a .a .now) (a .b .now) from (places .piece) (g .0 .0) (g .0 .1 .0) (n .ensures) (g .1) in
+    omega (arith, c .before .before .before .known-told .given .1 .0 .1, later)
 
 loop-again : tie.Need-loop-again Inv-loop μ-loop
 loop-again c =

@@ -47,10 +47,12 @@ take-piece-requires c κs = (search walk-cases, search needs)
 
 add-so-far : tie.Need-add-so-far Inv-loop μ-loop
 add-so-far c =
-    let start = c .before .before .before .before .before .before .before .before .before .before .before .before .before .before .before .before .before .before .before .before .before .before in
-    let full = c .before .before .before .before .before .before .before .before .before .before .before .before .before .before .before .before .whole-part in
-    let n = c .before .before .before .before .before .before .before .before .before .before .read-part in
-    omega (arith, c .before .before .before .before .before .before .before .before .before .before .before .before .loop-test .taken, n .ensures .1, full .ensures .0, start .good .1 .1 .1 .0 .1)
+    let read = c .before .before .before .before .before .before .before .before .before .before in
+    let n = read .read-part in
+    let within = read .before .before .loop-test .taken in
+    let full = read .before .before .before .before .before .before .whole-part in
+    let start = read .before .before .before .before .before .before .before .before .before .before .before .before in
+    omega (arith, within, n .ensures .1, full .ensures .0, start .good .1 .1 .1 .0 .1)
 
 at-end-requires : tie.Need-at-end-requires Inv-loop μ-loop
 at-end-requires c κs = search needs
