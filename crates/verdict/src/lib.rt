@@ -1,9 +1,11 @@
 // The verdict of an audit as a line of text: the first line that `audit_report` prints.
 ghost use mathlib.Core.Path.{_≡_};
+ghost use Rattle.model.specs.Refusals.{refusalNumber};
 ghost use Rattle.report.specs.Answers.{auditedOf};
 ghost use Rattle.text.specs.Lines.{textOf};
-ghost use Rattle.verdict.specs.Verdict.{verdictText};
+ghost use Rattle.verdict.specs.Verdict.{verdictText, ofRecord};
 use model::Refusal;
+use model::refusal_number;
 use report::AuditAnswer;
 use text::Line;
 use text::empty_line;
@@ -21,12 +23,18 @@ pub fn verdict_line(answer: AuditAnswer) -> Line
 }
 
 // Whether a refusal is that of one test record of a file, which then has a place.
-pub fn is_of_record(why: Refusal) -> bool {
-    match why {
-        Refusal::RecordMark => true,
-        Refusal::SpareBit => true,
-        Refusal::WorkingRuns => true,
-        Refusal::StoreRuns => true,
-        _ => false,
+pub fn is_of_record(why: Refusal) -> bool
+    ensures { λ r. ⌜ r ≡ ofRecord (refusalNumber why) ⌝ }
+{
+    let number = refusal_number(why);
+    if number == refusal_number(Refusal::RecordMark) {
+        return true;
     }
+    if number == refusal_number(Refusal::SpareBit) {
+        return true;
+    }
+    if number == refusal_number(Refusal::WorkingRuns) {
+        return true;
+    }
+    number == refusal_number(Refusal::StoreRuns)
 }
