@@ -7,7 +7,7 @@ use crate::explaining::explain;
 use command::close_file;
 use command::file_name;
 use command::is_argument;
-use command::load_file;
+use command::load_argument;
 use command::open_file;
 use console::Line;
 use console::NETLIST_BYTES;
@@ -163,10 +163,8 @@ fn audit_tests(place: usize, all: bool, netlist: &[u8], report: &[u8]) {
 fn audit_report(place: usize, all: bool, netlist: &[u8])
     requires { ⌜ (1 ≤ place) × (place ≤ 4) ⌝ }
 {
-    let mut name = io::buffer();
-    let n = file_name(place, b"report.rp", &mut name);
     let mut bytes = report_buffer();
-    let claim = load_file(&name[..n], &mut bytes);
+    let claim = load_argument(place, b"report.rp", &mut bytes);
     let length = claim.bytes;
     if claim.whole {
         audit_tests(place - 1, all, netlist, &bytes[..length]);
@@ -181,10 +179,8 @@ fn audit_circuit(first: usize, all: bool)
         print_usage(STDERR_FILENO);
         return;
     }
-    let mut name = io::buffer();
-    let n = file_name(first, b"circuit.nl", &mut name);
     let mut bytes = [0u8; NETLIST_BYTES];
-    let circuit = load_file(&name[..n], &mut bytes);
+    let circuit = load_argument(first, b"circuit.nl", &mut bytes);
     let length = circuit.bytes;
     if circuit.whole {
         audit_report(first + 2, all, &bytes[..length]);

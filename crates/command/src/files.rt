@@ -1,5 +1,6 @@
 // Files by name, read to their end. A read that fails is told apart from the end of a file.
 ghost use Rattle.io.specs.Counts.{Counts};
+use crate::arguments::file_name;
 use crate::print_error;
 use libc::SEEK_CUR;
 use libc::SEEK_END;
@@ -80,4 +81,13 @@ pub fn load_file(name: &[u8], space: &mut [u8]) -> Content
         bytes: n,
         whole: close_file(name, opened, whole),
     }
+}
+
+// The same of the file that an argument names, or of the usual one where there is no such argument.
+pub fn load_argument(place: usize, usual: &[u8], space: &mut [u8]) -> Content
+    ensures { λ r. ⌜ Counts (r .bytes) (now (space .exit)) ⌝ }
+{
+    let mut name = io::buffer();
+    let n = file_name(place, usual, &mut name);
+    load_file(&name[..n], space)
 }

@@ -9,6 +9,7 @@ pub use files::Opened;
 pub use files::at_end;
 pub use files::close_file;
 pub use files::file_size;
+pub use files::load_argument;
 pub use files::load_file;
 pub use files::open_file;
 use libc::STDERR_FILENO;

@@ -1,38 +1,18 @@
-// What the programs share: the files of the current folder, and plain lines on a descriptor.
+// What the programs share: plain lines on a descriptor, and the sentence of a refusal.
 mod conditions;
-mod pieces;
 
 pub use conditions::print_condition;
-pub use pieces::PIECE_BYTES;
-pub use pieces::next_record;
-pub use pieces::read_piece;
-pub use pieces::record_length;
-pub use pieces::whole_records;
 pub use text::LINE_BYTES;
 pub use text::Line;
 pub use text::empty_line;
 pub use text::with_number;
 pub use text::with_refusal;
 pub use text::with_text;
-ghost use Rattle.io.specs.Counts.{Counts};
 
 // One byte more than the longest legal netlist has, so that a longer file is refused as it would be whole.
 pub const NETLIST_BYTES: usize = 10485;
 
-// The file's first bytes, as many as the buffer holds; none where it is missing.
-pub fn load_file(name: &[u8], bytes: &mut [u8]) -> usize
-    ensures { λ r. ⌜ Counts r (now (bytes .exit)) ⌝ }
-{
-    let fd = os::open_read(name);
-    if fd < 0 {
-        return 0;
-    }
-    let n = io::read_full(fd, bytes);
-    libc::close(fd);
-    n
-}
-
-// Writes a line and its end.
+// Writes a line and its end. A full line has no room for its end, which is then written by itself.
 pub fn print_line(fd: i32, line: Line) {
     let whole = with_text(line, b"\n");
     let bytes = whole.bytes;
@@ -41,6 +21,9 @@ pub fn print_line(fd: i32, line: Line) {
         return;
     }
     io::write_all(fd, &bytes[..length]);
+    if LINE_BYTES <= line.length {
+        print(fd, b"\n");
+    }
 }
 
 // Writes a text.

@@ -1,18 +1,19 @@
-// The listing program: what each test record of tests.tp adds on the netlist circuit.nl, then the runs and the totals of the tested faults. Both
-// files are those of the current folder; a missing one counts as empty. What it writes is made by `listing_text`, each part with a promise.
+// The listing program: what each test record of a file adds on a netlist, then the runs and the totals of the tested faults: `listing [CIRCUIT
+// [TESTS]]`, without names those of the current folder; a missing file counts as empty. What it writes is made by `listing_text` and `test_file`,
+// each part with a promise. Where the netlist can't be read whole it writes nothing, and where the test file can't, neither runs nor totals.
+use command::close_file;
+use command::file_name;
+use command::is_argument;
+use command::load_argument;
+use command::open_file;
 use console::NETLIST_BYTES;
-use console::load_file;
-use console::read_piece;
-use console::whole_records;
+use console::print;
+use libc::STDERR_FILENO;
 use libc::STDOUT_FILENO;
+use listing_text::inner::OUT_BYTES;
 use listing_text::inner::PIECE_BYTES;
-use listing_text::inner::list_piece;
-use listing_text::inner::put_falling;
 use listing_text::inner::put_paths;
 use listing_text::inner::put_refusal;
-use listing_text::inner::put_rising;
-use listing_text::inner::put_totals;
-use listing_text::inner::record_length;
 use model::Refusal;
 use model::STORE_WORDS;
 use model::WORK_WORDS;
@@ -20,94 +21,35 @@ use netlist::SurveyAnswer;
 use netlist::inner::Loaded;
 use netlist::inner::load;
 use store::inner::clear;
+use test_file::inner::list_file;
 ghost use mathlib.Core.Path.{_≡_};
-ghost use Prim.Native.Nat.{_^_, _≤_};
+ghost use Prim.Native.Nat.{_≤_};
 ghost use lib.ListN.{length};
 ghost use Rattle.model.specs.Store.{storeWords};
 ghost use Rattle.model.specs.Calls.{workWords};
-ghost use Rattle.store.specs.Sound.{SoundWords};
-ghost use Rattle.listing_text.specs.Answers.{outBytes, LegalTables, ListReady};
+ghost use Rattle.listing_text.specs.Answers.{pieceBytes, outBytes, LegalTables};
 
-// No file has as many pieces: 1.5 times 2^63 bytes.
-const MOST_PIECES: u64 = 0x000C_0000_0000_0000;
-
-// The lines of the records of an open file, in pieces. A piece that is not full is the last.
-fn list_records(
-    fd: i32,
-    netlist: &[u8],
-    tables: Loaded,
-    store: &mut [u64],
-    work: &mut [u64],
-    out: &mut [u8],
-)
-    requires { ⌜ ListReady (now netlist) tables (now store) (now work) (now out) ⌝ }
-    ensures { λ _. ⌜ ListReady (now (netlist .entry)) tables (now (store .exit)) (now (work .exit)) (now (out .exit)) ⌝ }
-{
-    let survey = tables.survey;
-    let bytes = record_length(survey.inputs);
-    let full = whole_records(PIECE_BYTES, bytes);
-    let mut space = io::buffer();
-    let mut place: u64 = 1;
-    let mut pieces = MOST_PIECES;
-    while 0 < pieces {
-        let n = read_piece(fd, bytes, &mut space);
-        let listed = list_piece(netlist, tables, place, &space[..n], store, work, out);
-        let end = listed.bytes;
-        io::write_all(STDOUT_FILENO, &out[..end]);
-        if n < full {
-            return;
-        }
-        place = listed.place;
-        pieces -= 1;
-    }
+fn print_usage(fd: i32) {
+    print(fd, b"usage: listing [CIRCUIT [TESTS]]\n");
+    print(
+        fd,
+        b"Lists what each test adds on a circuit. Without names: circuit.nl, tests.tp.\n",
+    );
 }
 
-// The lines of the records of tests.tp, from an empty store on.
-fn list_file(netlist: &[u8], tables: Loaded, store: &mut [u64], work: &mut [u64], out: &mut [u8])
-    requires { ⌜ LegalTables (now netlist) tables × (length (now store) ≡ storeWords) × (workWords ≤ length (now work)) × (outBytes ≤ length (now out)) ⌝ }
-    ensures { λ _. ⌜ ListReady (now (netlist .entry)) tables (now (store .exit)) (now (work .exit)) (now (out .exit)) ⌝ }
+// Zeros for a piece of the test file, for text, for a store and for working memory.
+fn piece_bytes() -> [u8; PIECE_BYTES]
+    ensures { λ r. ⌜ pieceBytes ≡ length r ⌝ }
 {
-    clear(store);
-    let fd = os::open_read(b"tests.tp");
-    if fd < 0 {
-        return;
-    }
-    list_records(fd, netlist, tables, store, work, out);
-    libc::close(fd);
+    [0; PIECE_BYTES]
 }
 
-// The lines after those of the records: the runs of each edge and the totals.
-fn list_store(store: &[u64], out: &mut [u8])
-    requires { ⌜ SoundWords (2 ^ 62) (now store) × (outBytes ≤ length (now out)) ⌝ }
+fn text_bytes() -> [u8; OUT_BYTES]
+    ensures { λ r. ⌜ outBytes ≡ length r ⌝ }
 {
-    let rising = put_rising(out, store);
-    io::write_all(STDOUT_FILENO, &out[..rising]);
-    let falling = put_falling(out, store);
-    io::write_all(STDOUT_FILENO, &out[..falling]);
-    let totals = put_totals(out, store);
-    io::write_all(STDOUT_FILENO, &out[..totals]);
+    [0; OUT_BYTES]
 }
 
-// The listing of a legal netlist.
-fn list(netlist: &[u8], tables: Loaded, store: &mut [u64], work: &mut [u64], out: &mut [u8])
-    requires { ⌜ LegalTables (now netlist) tables × (length (now store) ≡ storeWords) × (workWords ≤ length (now work)) × (outBytes ≤ length (now out)) ⌝ }
-{
-    let survey = tables.survey;
-    let n = put_paths(out, survey.total);
-    io::write_all(STDOUT_FILENO, &out[..n]);
-    list_file(netlist, tables, store, work, out);
-    list_store(store, out);
-}
-
-// The line of a refused netlist.
-fn refuse(why: Refusal, out: &mut [u8])
-    requires { ⌜ outBytes ≤ length (now out) ⌝ }
-{
-    let n = put_refusal(out, 0, why);
-    io::write_all(STDOUT_FILENO, &out[..n]);
-}
-
-// The words of an empty store, and those of working memory.
 fn store_words() -> [u64; STORE_WORDS]
     ensures { λ r. ⌜ storeWords ≡ length r ⌝ }
 {
@@ -120,19 +62,75 @@ fn work_words() -> [u64; WORK_WORDS]
     [0; WORK_WORDS]
 }
 
-fn main() {
-    let mut bytes = [0u8; NETLIST_BYTES];
-    let n = load_file(b"circuit.nl", &mut bytes);
-    let netlist = &bytes[..n];
+// The lines of the records of the test file that the second argument names, then those of the store that they leave.
+fn list_tests(netlist: &[u8], tables: Loaded, store: &mut [u64], work: &mut [u64], out: &mut [u8])
+    requires { ⌜ LegalTables (now netlist) tables × (length (now store) ≡ storeWords) × (workWords ≤ length (now work)) × (outBytes ≤ length (now out)) ⌝ }
+{
+    let mut name = io::buffer();
+    let n = file_name(2, b"tests.tp", &mut name);
+    let mut space = piece_bytes();
+    clear(store);
+    let opened = open_file(&name[..n]);
+    let listed = list_file(
+        opened.fd,
+        STDOUT_FILENO,
+        netlist,
+        tables,
+        &mut space,
+        store,
+        work,
+        out,
+    );
+    let end = listed.end;
+    if close_file(&name[..n], opened, listed.whole) {
+        print(STDOUT_FILENO, &out[..end]);
+    }
+}
+
+// The listing of a legal netlist.
+fn list(netlist: &[u8], tables: Loaded, out: &mut [u8])
+    requires { ⌜ LegalTables (now netlist) tables × (outBytes ≤ length (now out)) ⌝ }
+{
+    let survey = tables.survey;
+    let mut store = store_words();
+    let mut work = work_words();
+    let n = put_paths(out, survey.total);
+    print(STDOUT_FILENO, &out[..n]);
+    list_tests(netlist, tables, &mut store, &mut work, out);
+}
+
+// The line of a refused netlist.
+fn refuse(why: Refusal, out: &mut [u8])
+    requires { ⌜ outBytes ≤ length (now out) ⌝ }
+{
+    let n = put_refusal(out, 0, why);
+    print(STDOUT_FILENO, &out[..n]);
+}
+
+// The listing on a netlist.
+fn list_circuit(netlist: &[u8]) {
     let tables = load(netlist);
     let answer = tables.answer;
-    let mut out = io::large_buffer();
+    let mut out = text_bytes();
     match answer {
         SurveyAnswer::Refused(why) => refuse(why, &mut out),
-        SurveyAnswer::Legal => {
-            let mut store = store_words();
-            let mut work = work_words();
-            list(netlist, tables, &mut store, &mut work, &mut out);
-        }
+        SurveyAnswer::Legal => list(netlist, tables, &mut out),
+    }
+}
+
+fn main() {
+    if is_argument(1, b"--help") {
+        print_usage(STDOUT_FILENO);
+        return;
+    }
+    if 3 < os::arg_count() {
+        print_usage(STDERR_FILENO);
+        return;
+    }
+    let mut bytes = [0u8; NETLIST_BYTES];
+    let circuit = load_argument(1, b"circuit.nl", &mut bytes);
+    let length = circuit.bytes;
+    if circuit.whole {
+        list_circuit(&bytes[..length]);
     }
 }

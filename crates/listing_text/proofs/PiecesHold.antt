@@ -5,7 +5,7 @@ use mathlib.Core.Path.{_≡_, refl, ap, ap₂, sym, _∙_}
 use mathlib.Core.List.{List, [], _∷_, _++_, append-assoc, append-nil}
 use Prim.Native.Nat.{ℕ, zero, suc, _+_, _*_}
 use native.Mathlib.Omega.{arith}
-use lib.ListN.{length}
+use lib.ListN.{length, length-append}
 use Rattle.model.specs.Base.{Answer, value}
 use Rattle.model.specs.Netlist.{Netlist, pathTotal}
 use Rattle.model.specs.Read.{readNetlist, recordLength}
@@ -56,6 +56,17 @@ pieces-store N (p ∷ q ∷ ps) ws w =
     pieces-store N (q ∷ ps) (storeAfterAll N (listedRecords N p) ws) (w .1)
     ∙ sym (store-append N (listedRecords N p) (listedRecords N rest) ws)
     ∙ ap (λ (x : List (List ℕ)). storeAfterAll N x ws) (sym (listed-append N (w .0 .0) p rest (w .0 .1)))
+
+-- one piece more, after whole records
+module _ (N : Netlist) (before piece : List ℕ) (k : ℕ) (h : length before ≡ k * recordLength N) where
+  pub store-more : (ws : List ℕ)
+      → storeAfterAll N (listedRecords N piece) (storeAfterAll N (listedRecords N before) ws) ≡ storeAfterAll N (listedRecords N (before ++ piece)) ws
+  store-more ws =
+      sym (store-append N (listedRecords N before) (listedRecords N piece) ws)
+      ∙ ap (λ (x : List (List ℕ)). storeAfterAll N x ws) (sym (listed-append N k before piece h))
+
+  pub count-more : length (listedRecords N (before ++ piece)) ≡ length (listedRecords N before) + length (listedRecords N piece)
+  count-more = ap (length {A = List ℕ}) (listed-append N k before piece h) ∙ length-append (listedRecords N before) (listedRecords N piece)
 
 -- what the program writes, piece by piece, is the listing of the whole file
 pub pieces-hold : (N : Netlist) (netlist : List ℕ) (ps : List (List ℕ)) → readNetlist netlist ≡ value N → WholeButLast N ps

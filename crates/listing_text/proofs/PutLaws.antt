@@ -21,7 +21,7 @@ use Rattle.coverage.specs.declared.TestAnswer.{TestAnswer}
 use Rattle.coverage.specs.declared.TestAnswer.the-variants.{Taken, Refused}
 use Rattle.text.specs.Decimal.{decimalText, refusedWord, refusedText}
 use Rattle.text.proofs.DecimalLaws.{at-most-20}
-use Rattle.listing_text.specs.Listing.{numbered, refusedLine, recordLine, risingWord, fallingWord, totalsLines}
+use Rattle.listing_text.specs.Listing.{numbered, refusedLine, recordLine, risingWord, fallingWord, risingLetter, fallingLetter, runLines, totalsLines, storeLines}
 use Rattle.listing_text.specs.Answers.{Put}
 
 -- from what `text::inner` promises
@@ -131,10 +131,16 @@ record-length-is place (value c) =
     simp length-append (omega (arith, at-most-20 place, at-most-20 (c .newFaults .onRising), at-most-20 (c .newFaults .onFalling)))
 
 -- The totals
-pub totals-put : (out o1 o2 words : List ℕ) (m r : ℕ) (held : StoreTotals) → totalsIn held ≡ totalsBoth words
-    → Put out o1 0 (numbered risingWord (held .rising)) m → Put o1 o2 m (numbered fallingWord (held .falling)) r → Put out o2 0 (totalsLines words) r
+pub totals-put : (out o1 o2 words : List ℕ) (at m r : ℕ) (held : StoreTotals) → totalsIn held ≡ totalsBoth words
+    → Put out o1 at (numbered risingWord (held .rising)) m → Put o1 o2 m (numbered fallingWord (held .falling)) r → Put out o2 at (totalsLines words) r
 unfolding totalsLines
-totals-put out o1 o2 words m r held e p q =
+totals-put out o1 o2 words at m r held e p q =
     let a : held .rising ≡ size (storeRuns words rising) = ap (λ (b : ByEdge ℕ). b .onRising) e in
     let b : held .falling ≡ size (storeRuns words falling) = ap (λ (b : ByEdge ℕ). b .onFalling) e in
     put-as (ap₂ (λ (x y : ℕ). numbered risingWord x ++ numbered fallingWord y) a b) (put-then p q)
+
+-- The runs of each edge and the totals
+pub store-put : (out o1 o2 o3 words : List ℕ) (m n r : ℕ) → Put out o1 0 (runLines risingLetter (storeRuns words rising)) m
+    → Put o1 o2 m (runLines fallingLetter (storeRuns words falling)) n → Put o2 o3 n (totalsLines words) r → Put out o3 0 (storeLines words) r
+unfolding storeLines
+store-put out o1 o2 o3 words m n r p q t = put-then (put-then p q) t

@@ -14,10 +14,14 @@ use Rattle.listing_text.specs.declared.inner.Listed.{Listed}
 
 -- the most bytes of a piece of the test file, and the least of the buffer for the text
 abbrev pub pieceBytes : ℕ
-pieceBytes = 4096
+pieceBytes = 8192
 
 abbrev pub outBytes : ℕ
-outBytes = 65536
+outBytes = 131072
+
+-- the most bytes of the lines of an edge's runs: 1,024 lines of at most 44
+abbrev pub edgeBytes : ℕ
+edgeBytes = 45056
 
 -- a text is written into the buffer from place `at` on and nothing else, and `next` is the place after it
 pub record Put (out out′ : List ℕ) (at : ℕ) (written : List ℕ) (next : ℕ) : Type 0 where

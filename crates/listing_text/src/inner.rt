@@ -7,19 +7,18 @@ ghost use lib.ListN.{length};
 ghost use Rattle.model.specs.Path as path;
 ghost use Rattle.model.specs.Refusals.{refusalNumber};
 ghost use Rattle.model.specs.Store.{runsAt, storeRuns};
-ghost use Rattle.model.specs.Read.{vectorBytes};
 ghost use Rattle.store.specs.Sound.{SoundWords};
 ghost use Rattle.coverage.specs.TestCall.{testedOf};
 ghost use Rattle.text.specs.Decimal.{decimalText};
-ghost use Rattle.listing_text.specs.Listing.{numbered, pathsLine, refusedLine, recordLine, runLines, risingLetter, fallingLetter, totalsLines};
-ghost use Rattle.listing_text.specs.Answers.{outBytes, Put, PieceReady, PieceLines};
+ghost use Rattle.listing_text.specs.Listing.{numbered, pathsLine, refusedLine, recordLine, runLines, risingLetter, fallingLetter, totalsLines, storeLines};
+ghost use Rattle.listing_text.specs.Answers.{outBytes, edgeBytes, Put, PieceReady, PieceLines};
 use coverage::TestAnswer;
 use coverage::inner::count_test;
 use model::HEAD_WORDS;
 use model::Refusal;
 use model::refusal_number;
 use netlist::inner::Loaded;
-use simulation::inner::test_record::vector_bytes;
+use simulation::inner::test_record::record_length;
 use store::inner::FALLING_COUNT;
 use store::inner::FALLING_WORD;
 use store::inner::RISING_COUNT;
@@ -28,10 +27,10 @@ use text::inner::put_number;
 use text::inner::put_text;
 
 // The most bytes of a piece of the test file. A record has at least 4 bytes and a line at most 63, so that the lines fit in OUT_BYTES.
-pub const PIECE_BYTES: usize = 4096;
+pub const PIECE_BYTES: usize = 8192;
 
-// The least bytes of the buffer that the text is written into.
-pub const OUT_BYTES: usize = 65536;
+// The least bytes of the buffer that the text is written into: room for a piece's lines, and for all lines after those of the records.
+pub const OUT_BYTES: usize = 131072;
 
 // Of a piece's records: the place after the last, and the bytes of their lines.
 pub struct Listed {
@@ -104,14 +103,6 @@ fn record_end(at: usize, bytes: usize, length: usize) -> usize
     at + bytes
 }
 
-// The bytes of a test record.
-pub fn record_length(inputs: usize) -> usize
-    requires { ⌜ inputs ≤ 64 ⌝ }
-    ensures { λ r. ⌜ (r ≡ 2 + 2 * vectorBytes inputs) × (r ≤ 18) ⌝ }
-{
-    2 + 2 * vector_bytes(inputs)
-}
-
 // The lines of a piece's records, the first of which has the place given, on a sound store; the store is left as they leave it.
 pub fn list_piece(
     netlist: &[u8],
@@ -163,12 +154,19 @@ fn put_run(out: &mut [u8], at: usize, letter: &[u8], low: u64, high: u64) -> usi
     put_pair(out, numbers, low, high)
 }
 
-// A line for each of the n runs from word `from` on.
-fn put_runs(out: &mut [u8], letter: &[u8], words: &[u64], from: usize, n: usize) -> usize
-    requires { ⌜ (length (now letter) ≡ 2) × (n ≤ 1024) × (from + 2 * n ≤ length (now words)) × (outBytes ≤ length (now out)) ⌝ }
-    ensures { λ r. ⌜ Put (now (out .entry)) (now (out .exit)) 0 (runLines (now (letter .entry)) (runsAt (now (words .entry)) from n)) r ⌝ }
+// A line for each of the n runs from word `from` on, put at a place. A line has at most 44 bytes.
+fn put_runs(
+    out: &mut [u8],
+    start: usize,
+    letter: &[u8],
+    words: &[u64],
+    from: usize,
+    n: usize,
+) -> usize
+    requires { ⌜ (length (now letter) ≡ 2) × (from + 2 * n ≤ length (now words)) × (start + 44 * n ≤ length (now out)) ⌝ }
+    ensures { λ r. ⌜ Put (now (out .entry)) (now (out .exit)) start (runLines (now (letter .entry)) (runsAt (now (words .entry)) from n)) r × (r ≤ start + 44 * n) ⌝ }
 {
-    let mut at = 0;
+    let mut at = start;
     let mut place = from;
     let mut left = n;
     while 0 < left {
@@ -179,21 +177,29 @@ fn put_runs(out: &mut [u8], letter: &[u8], words: &[u64], from: usize, n: usize)
     at
 }
 
-// The lines of the rising runs of a sound store. An edge has at most 1,024 runs and a line at most 44 bytes.
-pub fn put_rising(out: &mut [u8], words: &[u64]) -> usize
+// The lines of the rising runs of a sound store, at the start of the buffer. An edge has at most 1,024 runs.
+fn put_rising(out: &mut [u8], words: &[u64]) -> usize
     requires { ⌜ SoundWords (2 ^ 62) (now words) × (outBytes ≤ length (now out)) ⌝ }
-    ensures { λ r. ⌜ Put (now (out .entry)) (now (out .exit)) 0 (runLines risingLetter (storeRuns (now (words .entry)) path.rising)) r ⌝ }
-{
-    put_runs(out, b"R ", words, HEAD_WORDS, words[RISING_COUNT] as usize)
-}
-
-// The lines of the falling runs.
-pub fn put_falling(out: &mut [u8], words: &[u64]) -> usize
-    requires { ⌜ SoundWords (2 ^ 62) (now words) × (outBytes ≤ length (now out)) ⌝ }
-    ensures { λ r. ⌜ Put (now (out .entry)) (now (out .exit)) 0 (runLines fallingLetter (storeRuns (now (words .entry)) path.falling)) r ⌝ }
+    ensures { λ r. ⌜ Put (now (out .entry)) (now (out .exit)) 0 (runLines risingLetter (storeRuns (now (words .entry)) path.rising)) r × (r ≤ edgeBytes) ⌝ }
 {
     put_runs(
         out,
+        0,
+        b"R ",
+        words,
+        HEAD_WORDS,
+        words[RISING_COUNT] as usize,
+    )
+}
+
+// The lines of the falling runs, at a place.
+fn put_falling(out: &mut [u8], start: usize, words: &[u64]) -> usize
+    requires { ⌜ SoundWords (2 ^ 62) (now words) × (start + edgeBytes ≤ length (now out)) ⌝ }
+    ensures { λ r. ⌜ Put (now (out .entry)) (now (out .exit)) start (runLines fallingLetter (storeRuns (now (words .entry)) path.falling)) r × (r ≤ start + edgeBytes) ⌝ }
+{
+    put_runs(
+        out,
+        start,
         b"F ",
         words,
         FALLING_WORD,
@@ -201,12 +207,22 @@ pub fn put_falling(out: &mut [u8], words: &[u64]) -> usize
     )
 }
 
-// The lines of the totals of a sound store.
-pub fn put_totals(out: &mut [u8], words: &[u64]) -> usize
-    requires { ⌜ SoundWords (2 ^ 62) (now words) × (outBytes ≤ length (now out)) ⌝ }
-    ensures { λ r. ⌜ Put (now (out .entry)) (now (out .exit)) 0 (totalsLines (now (words .entry))) r ⌝ }
+// The lines of the totals of a sound store, at a place.
+fn put_totals(out: &mut [u8], start: usize, words: &[u64]) -> usize
+    requires { ⌜ SoundWords (2 ^ 62) (now words) × (start + 57 ≤ length (now out)) ⌝ }
+    ensures { λ r. ⌜ Put (now (out .entry)) (now (out .exit)) start (totalsLines (now (words .entry))) r ⌝ }
 {
     let held = totals_of(words);
-    let mid = put_numbered(out, 0, b"rising ", held.rising);
+    let mid = put_numbered(out, start, b"rising ", held.rising);
     put_numbered(out, mid, b"falling ", held.falling)
+}
+
+// The lines after those of the records: the runs of each edge and the totals.
+pub fn put_store(out: &mut [u8], words: &[u64]) -> usize
+    requires { ⌜ SoundWords (2 ^ 62) (now words) × (outBytes ≤ length (now out)) ⌝ }
+    ensures { λ r. ⌜ Put (now (out .entry)) (now (out .exit)) 0 (storeLines (now (words .entry))) r ⌝ }
+{
+    let falling = put_rising(out, words);
+    let totals = put_falling(out, falling, words);
+    put_totals(out, totals, words)
 }

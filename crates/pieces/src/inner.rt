@@ -18,12 +18,12 @@ use report::inner::Comparison;
 use report::inner::compare;
 use report::inner::test_file::FileAnswer;
 use report::inner::test_file::TakenRecords;
-use report::inner::test_file::record_length;
 use report::inner::test_file::take_records;
+use simulation::inner::test_record::record_length;
 use store::inner::clear;
 
 // The most records of a test file.
-const MAX_RECORDS: u64 = 4294967295;
+pub const MAX_RECORDS: u64 = 4294967295;
 
 // The answer, and the tables of the netlist.
 pub struct Begun {

@@ -25,7 +25,7 @@ use report::inner::Comparison;
 use report::inner::compare;
 use report::inner::test_file::FileAnswer;
 use report::inner::test_file::TakenRecords;
-use report::inner::test_file::record_length;
+use simulation::inner::test_record::record_length;
 use store::inner::StoreCheck;
 use store::inner::check_words;
 use store::inner::clear;

@@ -1,8 +1,7 @@
 // Prints the path of a number, its output and each gate on the way back to the input: `show_path NUMBER [CIRCUIT]`, the netlist circuit.nl of the
 // current folder if none is named. What is wrong with the number it says on standard error, too.
-use command::file_name;
 use command::is_argument;
-use command::load_file;
+use command::load_argument;
 use console::NETLIST_BYTES;
 use console::empty_line;
 use console::print;
@@ -104,10 +103,8 @@ fn main() {
         print_usage(STDERR_FILENO);
         return;
     }
-    let mut name = io::buffer();
-    let n = file_name(2, b"circuit.nl", &mut name);
     let mut bytes = [0u8; NETLIST_BYTES];
-    let circuit = load_file(&name[..n], &mut bytes);
+    let circuit = load_argument(2, b"circuit.nl", &mut bytes);
     let length = circuit.bytes;
     if circuit.whole {
         print_numbered(&bytes[..length]);

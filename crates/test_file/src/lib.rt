@@ -1,4 +1,6 @@
-// The one walk over a test file: read from a descriptor in pieces of whole records, so that it may be of any length, and audited or reported.
+// The one walk over a test file: read from a descriptor in pieces of whole records, so that it may be of any length, and audited, reported or
+// listed.
+pub mod inner;
 mod walking;
 mod writing;
 

@@ -12,15 +12,19 @@ use command::file_size;
 use command::show_progress;
 use model::Refusal;
 use netlist::inner::Loaded;
+use pieces::inner::MAX_RECORDS;
 use pieces::inner::take_piece;
 use pieces::inner::whole_length;
 use report::inner::test_file::FileAnswer;
 use report::inner::test_file::TakenRecords;
-use report::inner::test_file::record_length;
+use simulation::inner::test_record::record_length;
 use store::inner::clear;
 
-// A file of more bytes has too many records: no record is longer than 18 bytes.
-const MAX_BYTES: u64 = 77309411310;
+// The bytes of the longest record.
+const RECORD_BYTES: u64 = 18;
+
+// A file of more bytes has too many records.
+const MAX_BYTES: u64 = RECORD_BYTES * MAX_RECORDS;
 
 // A test file as it was read: its bytes, what its records answer, and whether it was read whole.
 pub struct Walk {
@@ -30,7 +34,7 @@ pub struct Walk {
 }
 
 // The bytes of the whole records in a space.
-fn whole_part(space: usize, bytes: usize) -> usize
+pub(crate) fn whole_part(space: usize, bytes: usize) -> usize
     requires { ⌜ 2 ≤ bytes ⌝ }
     ensures { λ r. ⌜ (r ≤ space) × (r % bytes ≡ 0) × (space < r + bytes) ⌝ }
 {
@@ -38,14 +42,14 @@ fn whole_part(space: usize, bytes: usize) -> usize
 }
 
 // The fewest bytes of a piece that another may follow.
-fn full_piece(full: usize) -> usize
+pub(crate) fn full_piece(full: usize) -> usize
     ensures { λ r. ⌜ (full ≤ r) × (1 ≤ r) ⌝ }
 {
     if full == 0 { 1 } else { full }
 }
 
 // Reads at most so many bytes to the start of a space.
-fn read_part(fd: i32, most: usize, space: &mut [u8]) -> usize
+pub(crate) fn read_part(fd: i32, most: usize, space: &mut [u8]) -> usize
     requires { ⌜ most ≤ length (now space) ⌝ }
     ensures { λ r. ⌜ Counts r (now (space .exit)) ⌝ }
     ensures { λ r. ⌜ r ≤ most ⌝ }

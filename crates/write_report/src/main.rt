@@ -4,7 +4,7 @@
 use command::close_file;
 use command::file_name;
 use command::is_argument;
-use command::load_file;
+use command::load_argument;
 use command::open_file;
 use console::NETLIST_BYTES;
 use console::empty_line;
@@ -94,10 +94,8 @@ fn main() {
         print_usage(STDERR_FILENO);
         return;
     }
-    let mut name = io::buffer();
-    let n = file_name(1, b"circuit.nl", &mut name);
     let mut bytes = [0u8; NETLIST_BYTES];
-    let circuit = load_file(&name[..n], &mut bytes);
+    let circuit = load_argument(1, b"circuit.nl", &mut bytes);
     let length = circuit.bytes;
     if circuit.whole {
         report_tests(&bytes[..length]);

@@ -9,8 +9,6 @@ use lib.Seq.{length-take-le}
 use borrow.Author.Needs.{needs}
 use Rattle.console.proofs.print_line.Statement.{statement}
 use Rattle.console.proofs.print_line.Tie as tie
-use Rattle.console.proofs.with_text.Reads as with-text-reads
-use Rattle.io.proofs.write_all.Reads as write-all-reads
 
 within : (l : List ℕ) (k : ℕ) → length l ≡ 128 → k ≤ 128 → k ≤ length l
 within l k e h = omega (arith, e, h)
@@ -36,8 +34,17 @@ slice-aggregate-write-all c =
 write-all-requires : tie.Need-write-all-requires
 write-all-requires c κs = search needs
 
+slice-aggregate-print : tie.Need-slice-aggregate-print
+slice-aggregate-print c = search needs
+
+print-requires : tie.Need-print-requires
+print-requires c κs = search needs
+
 returns-2 : tie.Need-returns-2
 returns-2 c = search needs
+
+returns-3 : tie.Need-returns-3
+returns-3 c = search needs
 
 pub print-line-spec : {M : Type 1} → statement M
 print-line-spec =
@@ -49,4 +56,7 @@ print-line-spec =
     array-share-prefix-bytes
     slice-aggregate-write-all
     write-all-requires
-    returns-2)
+    slice-aggregate-print
+    print-requires
+    returns-2
+    returns-3)

@@ -1,13 +1,10 @@
 // The records of a test file, one after the other, for our own crates.
-ghost use mathlib.Core.Path.{_≡_};
-ghost use Prim.Native.Nat.{_+_, _*_, _≤_, _<_};
-ghost use Rattle.model.specs.Read.{vectorBytes};
 ghost use Rattle.coverage.specs.Stage.{StageReady};
 ghost use Rattle.report.specs.TestFile.{FileTaken};
 use coverage::inner::StageAnswer;
 use coverage::inner::take_test;
 use model::Refusal;
-use simulation::inner::test_record::vector_bytes;
+use simulation::inner::test_record::record_length;
 use store::inner::clear;
 
 // What the records of a file answer.
@@ -20,14 +17,6 @@ pub enum FileAnswer {
 pub struct TakenRecords {
     pub taken: usize,
     pub answer: FileAnswer,
-}
-
-// The bytes of a test record.
-pub fn record_length(inputs: usize) -> usize
-    requires { ⌜ inputs ≤ 64 ⌝ }
-    ensures { λ r. ⌜ (r ≡ 2 + 2 * vectorBytes inputs) × (2 ≤ r) × (r ≤ 18) ⌝ }
-{
-    2 + 2 * vector_bytes(inputs)
 }
 
 // The test stage with the records of a file in order. A refused record ends them and empties the store.

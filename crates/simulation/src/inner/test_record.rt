@@ -35,6 +35,14 @@ pub fn vector_bytes(inputs: usize) -> usize
     (inputs + 7) / 8
 }
 
+// The bytes of a test record.
+pub fn record_length(inputs: usize) -> usize
+    requires { ⌜ inputs ≤ 64 ⌝ }
+    ensures { λ r. ⌜ (r ≡ 2 + 2 * vectorBytes inputs) × (2 ≤ r) × (r ≤ 18) ⌝ }
+{
+    2 + 2 * vector_bytes(inputs)
+}
+
 // The checks 30 to 32.
 pub fn check_record(test: &[u8], inputs: usize) -> RecordAnswer
     requires { ⌜ (1 ≤ inputs) × (inputs ≤ 64) ⌝ }

@@ -19,7 +19,9 @@ same-length c = search needs
 
 returns : tie.Need-returns
 unfolding storeRuns
-returns c = c .before .before .put-runs .ensures
+returns c =
+    let p = c .before .before .put-runs .ensures in
+    (p .0, search needs)
 
 pub put-rising-spec : {M : Type 1} → statement M
 put-rising-spec =

@@ -13,19 +13,16 @@ use Rattle.listing_text.proofs.inner.put_runs.Statement.{statement}
 use Rattle.listing_text.proofs.inner.put_runs.Tie as tie
 
 abbrev Inv-loop : tie.InvT-loop
-Inv-loop out₀ letter words from n at₀ place₀ left₀ out at place left =
-    (length out ≡ length out₀) × (place + 2 * left ≡ from + 2 * n) × (at + 44 * left ≤ 45056)
-    × (sets out at (runsLeft letter words place left) ≡ sets out₀ 0 (runsLeft letter words from n))
-    × (at + length (runsLeft letter words place left) ≡ length (runsLeft letter words from n))
+Inv-loop out₀ start letter words from n at₀ place₀ left₀ out at place left =
+    (length out ≡ length out₀) × (place + 2 * left ≡ from + 2 * n) × (at + 44 * left ≤ start + 44 * n)
+    × (sets out at (runsLeft letter words place left) ≡ sets out₀ start (runsLeft letter words from n))
+    × (at + length (runsLeft letter words place left) ≡ start + length (runsLeft letter words from n))
 
 abbrev μ-loop : tie.MeasureT-loop
-μ-loop out₀ letter words from n at₀ place₀ left₀ out at place left = left
+μ-loop out₀ start letter words from n at₀ place₀ left₀ out at place left = left
 
 loop-holds : tie.Need-loop-holds Inv-loop μ-loop
-loop-holds c =
-    let a = c .before .before .before .args in
-    let none : 0 + length (runsLeft (a .letter .now) (a .words .now) (a .from) (a .n)) ≡ length (runsLeft (a .letter .now) (a .words .now) (a .from) (a .n)) = omega arith in
-    (search needs, search needs, search needs, search needs, none)
+loop-holds c = (search needs, search needs, search needs, search needs, search needs)
 
 mul-put-run : tie.Need-mul-put-run Inv-loop μ-loop
 mul-put-run c = search needs
@@ -78,12 +75,14 @@ returns c =
     let l = c .before .loop in
     let letter = s .args .letter .now in
     let words = s .args .words .now in
-    let none = runs-end letter words (l .place) (l .left) (omega arith) in
-    record {
-      bytes = ap (λ (t : List ℕ). sets (l .out) (l .at) t) (sym none) ∙ l .inv .3;
-      place = omega (arith, l .inv .4, ap (length {A = ℕ}) none);
-      inside = omega (arith, l .inv .2, l .inv .0, s .pre .3);
-    }
+    let none = runs-end letter words (l .place) (l .left) (omega arith) in (
+      record {
+        bytes = ap (λ (t : List ℕ). sets (l .out) (l .at) t) (sym none) ∙ l .inv .3;
+        place = omega (arith, l .inv .4, ap (length {A = ℕ}) none);
+        inside = omega (arith, l .inv .2, l .inv .0, s .pre .2);
+      },
+      omega (arith, l .inv .2),
+    )
 
 pub put-runs-spec : {M : Type 1} → statement M
 put-runs-spec =

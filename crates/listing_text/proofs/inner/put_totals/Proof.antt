@@ -34,7 +34,7 @@ returns c =
     let t = c .before .before .before .before .before .before .before .before .before .before .totals-of in
     let p = c .before .before .before .before .before .before .before .put-numbered in
     let q = c .before .before .put-numbered2 in
-    totals-put (a .out .now) (p .last .0) (q .last .0) (a .words .now) (p .result) (q .result) (t .result) (t .ensures) (p .ensures) (q .ensures)
+    totals-put (a .out .now) (p .last .0) (q .last .0) (a .words .now) (a .start) (p .result) (q .result) (t .result) (t .ensures) (p .ensures) (q .ensures)
 
 pub put-totals-spec : {M : Type 1} → statement M
 put-totals-spec =

@@ -1,0 +1,120 @@
+// The listing's walk over a test file, for the listing program: a caller proves what a function requires.
+ghost use mathlib.Core.Path.{_≡_};
+ghost use Prim.Native.Nat.{_≤_};
+ghost use lib.ListN.{length};
+ghost use Rattle.model.specs.Store.{emptyStore};
+ghost use Rattle.listing_text.specs.Answers.{pieceBytes, ListReady};
+ghost use Rattle.test_file.specs.Listing.{PiecesListed, FileListed};
+use crate::walking::full_piece;
+use crate::walking::read_part;
+use crate::walking::whole_part;
+use command::at_end;
+use command::end_progress;
+use command::file_size;
+use command::show_progress;
+use listing_text::inner::list_piece;
+use listing_text::inner::put_store;
+use netlist::inner::Loaded;
+use simulation::inner::test_record::record_length;
+
+// No file has more bytes: it is the largest size that the system tells. What a pipe brings after so many is not read.
+const MOST_BYTES: u64 = 0x7FFF_FFFF_FFFF_FFFF;
+
+// A test file whose records were listed: its bytes, the place after its last record, and whether it was read whole.
+pub struct ListedPieces {
+    pub bytes: u64,
+    pub place: u64,
+    pub whole: bool,
+}
+
+// The same, and where the lines after those of the records end in the buffer.
+pub struct ListedFile {
+    pub bytes: u64,
+    pub place: u64,
+    pub end: usize,
+    pub whole: bool,
+}
+
+// Shows how many records are listed, unless their lines go to a terminal and show it.
+fn show_listed(to: i32, place: u64) {
+    if libc::isatty(to) != 0 {
+        return;
+    }
+    if 0 < place {
+        show_progress(place - 1);
+    }
+}
+
+// The lines of the records of a file, piece by piece, each piece's in one write. A piece that is not full is the last; the file was then read
+// whole, unless a read failed, more bytes came or its size is another.
+fn list_pieces(
+    fd: i32,
+    to: i32,
+    netlist: &[u8],
+    loaded: Loaded,
+    space: &mut [u8],
+    store: &mut [u64],
+    work: &mut [u64],
+    out: &mut [u8],
+) -> ListedPieces
+    requires { ⌜ ListReady (now netlist) loaded (now store) (now work) (now out) ⌝ }
+    requires { ⌜ now store ≡ emptyStore ⌝ }
+    requires { ⌜ length (now space) ≤ pieceBytes ⌝ }
+    ensures { λ r. ⌜ PiecesListed (r .bytes) (r .place) (now (netlist .entry)) loaded (now (space .exit)) (now (store .exit)) (now (work .entry)) (now (work .exit)) (now (out .exit)) ⌝ }
+{
+    let bytes = record_length(loaded.survey.inputs);
+    let full = whole_part(space.len(), bytes);
+    let least = full_piece(full);
+    let size = file_size(fd);
+    let mut place: u64 = 1;
+    let mut so_far: u64 = 0;
+    while so_far <= MOST_BYTES {
+        let n = read_part(fd, full, space);
+        let listed = list_piece(netlist, loaded, place, &space[..n], store, work, out);
+        let end = listed.bytes;
+        io::write_all(to, &out[..end]);
+        place = listed.place;
+        so_far += n as u64;
+        if n < least {
+            let whole = at_end(fd, size);
+            return ListedPieces {
+                bytes: so_far,
+                place,
+                whole,
+            };
+        }
+        show_listed(to, place);
+    }
+    ListedPieces {
+        bytes: so_far,
+        place,
+        whole: false,
+    }
+}
+
+// Writes the lines of the records of a file to a descriptor, from an empty store on; the buffer then begins with the lines after them.
+pub fn list_file(
+    fd: i32,
+    to: i32,
+    netlist: &[u8],
+    loaded: Loaded,
+    space: &mut [u8],
+    store: &mut [u64],
+    work: &mut [u64],
+    out: &mut [u8],
+) -> ListedFile
+    requires { ⌜ ListReady (now netlist) loaded (now store) (now work) (now out) ⌝ }
+    requires { ⌜ now store ≡ emptyStore ⌝ }
+    requires { ⌜ length (now space) ≤ pieceBytes ⌝ }
+    ensures { λ r. ⌜ FileListed r (now (netlist .entry)) loaded (now (space .exit)) (now (store .exit)) (now (work .entry)) (now (work .exit)) (now (out .exit)) ⌝ }
+{
+    let listed = list_pieces(fd, to, netlist, loaded, space, store, work, out);
+    end_progress();
+    let end = put_store(out, store);
+    ListedFile {
+        bytes: listed.bytes,
+        place: listed.place,
+        end,
+        whole: listed.whole,
+    }
+}
