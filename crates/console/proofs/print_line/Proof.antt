@@ -24,12 +24,15 @@ returns c = search needs
 
 array-share-prefix-bytes : tie.Need-array-share-prefix-bytes
 array-share-prefix-bytes c =
-    within (c .before .before .with-text .result .bytes) _ (sym (length-map (c .before .before .with-text .result .bytes) _) ∙ c .before .before .with-text .ok .1 .1 .0 .1 .0 .1) (c .if1 .left)
+    let whole = c .before .before .with-text in
+    let long : length (whole .result .bytes) ≡ 128 = sym (length-map (whole .result .bytes) _) ∙ whole .ok .1 .1 .0 .1 .0 .1 in
+    within (whole .result .bytes) _ long (c .if1 .left)
 
 slice-aggregate-write-all : tie.Need-slice-aggregate-write-all
 slice-aggregate-write-all c =
-    sym (length-take-le _ (c .before .before .before .with-text .result .bytes)
-    (within (c .before .before .before .with-text .result .bytes) _ (sym (length-map (c .before .before .before .with-text .result .bytes) _) ∙ c .before .before .before .with-text .ok .1 .1 .0 .1 .0 .1) (c .before .if1 .left)))
+    let whole = c .before .before .before .with-text in
+    let long : length (whole .result .bytes) ≡ 128 = sym (length-map (whole .result .bytes) _) ∙ whole .ok .1 .1 .0 .1 .0 .1 in
+    sym (length-take-le _ (whole .result .bytes) (within (whole .result .bytes) _ long (c .before .if1 .left)))
 
 write-all-requires : tie.Need-write-all-requires
 write-all-requires c κs = search needs
