@@ -30,6 +30,9 @@
  *  60  no such path or fault number             61  words are not a path of the netlist
  *  70  report under 34 bytes or its mark        71  report's length
  *  72  another byte of the report differs
+ *
+ * Kinds 1 and 2 (buffer, NOT) have one pin, kinds 3 to 8 (AND, NAND, OR, NOR, XOR, XNOR) 1 to 8. With one pin AND, OR and XOR act as a
+ * buffer, NAND, NOR and XNOR as NOT, and the pin is open.
  */
 #ifndef GENDUWAL_H
 #define GENDUWAL_H

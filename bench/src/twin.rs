@@ -130,7 +130,7 @@ fn read_gate<'a>(
     };
     let allowed = match kind {
         1 | 2 => 1..=1,
-        3..=8 => 2..=8,
+        3..=8 => 1..=8,
         _ => return Err(13),
     };
     if !allowed.contains(pins) {

@@ -1,4 +1,4 @@
--- Every row of document 01's table of examples holds, computed from the definitions.
+-- Every row of document 01's table of examples holds, computed from the definitions, and so does every row of the tickets' table.
 -- Assumes nothing.
 use mathlib.Core.Path.{_≡_, ap}
 use mathlib.Core.Bool.{Bool, false, _&&_}
@@ -16,7 +16,9 @@ use Rattle.model.specs.Store.{storeRuns, storeOf}
 use Rattle.model.specs.Calls.{testCall, testStage, tested}
 use Rattle.model.specs.Report.{sameBytes, reportHead, reportRecord, testAll, auditCall}
 use Rattle.model.specs.Encode.{headerBytes, netBytes, gateBytes, outputBytes, testBytes}
-use Rattle.model.specs.Examples.{Row, row, starred, further, reply, faultIf, faultList, enoughWork, firstRuns, Q, detectsNone, detectsFalling, detectsRising, chain, doubling, spread, aRises, reportOfThree, netCounts}
+use Rattle.model.specs.SinglePin.{readGatesBy, readNetlistBy}
+use Rattle.model.specs.Examples.{Row, row, starred, further, requested, reply, faultIf, faultList, enoughWork, firstRuns, netCounts}
+use Rattle.model.specs.Examples.{Q, detectsNone, detectsFalling, detectsRising, chain, doubling, spread, aRises, reportOfThree, oneGate, besideOnePin, bRises}
 use Rattle.model.proofs.ListLaws.{allOf-at}
 use Rattle.model.proofs.BoolLaws.{and-left, and-right}
 use Rattle.model.proofs.AnswerLaws.{same→}
@@ -45,6 +47,12 @@ unfolding starred further right same row aRises spread doubling Q detectsNone de
     auditCall testAll storeOf reportRecord reportHead size
 all-right = tt
 
+all-requested : T (allOf right requested)
+unfolding requested right same row Q oneGate besideOnePin bRises outputBytes headerBytes gateBytes netBytes testBytes reply faultList faultIf
+    readNetlist readNetlistBy readGates readGatesBy readOutputs counts pathTotal pathOf pathAt split detectsNumber detects allOpen hasEdge openPin
+    values faultNumber testOf
+all-requested = tt
+
 abbrev noRow : Row
 noRow = record { netlist = []; question = netCounts; answer = refused 10 }
 
@@ -60,3 +68,7 @@ starred-hold = rows-hold starred (and-left (allOf right starred) (allOf right fu
 
 pub further-hold : (i : ℕ) → i < length further → reply (getD further i noRow .netlist) (getD further i noRow .question) ≡ getD further i noRow .answer
 further-hold = rows-hold further (and-right (allOf right starred) (allOf right further) all-right)
+
+-- The tickets' small examples hold
+pub requested-hold : (i : ℕ) → i < length requested → reply (getD requested i noRow .netlist) (getD requested i noRow .question) ≡ getD requested i noRow .answer
+requested-hold = rows-hold requested all-requested

@@ -6,6 +6,7 @@ pub mod FieldLaws
 pub mod WellFormed
 pub mod NetLaws
 pub mod ReadLaws
+pub mod SinglePinHolds
 pub mod NumberLaws
 pub mod NetSetLaws
 pub mod NumberingHolds

@@ -199,11 +199,8 @@ pub pins-fit : (kind n : ℕ) → T (pinsFit kind n) → T (within 1 8 n)
 pins-fit kind n t =
     ⊎-elim
     (λ u. let q = eqb→eq n 1 (and-right (leb kind 2) (eqb n 1) u) in both (leb 1 n) (leb n 8) (le→leb 1 n (omega arith)) (le→leb n 8 (omega arith)))
-    (λ u.
-    let v = and-right (leb 3 kind) (within 2 8 n) u in
-    let a = leb→le 2 n (and-left (leb 2 n) (leb n 8) v) in
-    both (leb 1 n) (leb n 8) (le→leb 1 n (omega arith)) (and-right (leb 2 n) (leb n 8) v))
-    (or-cases (leb kind 2 && eqb n 1) (leb 3 kind && within 2 8 n) t)
+    (λ u. and-right (leb 3 kind) (within 1 8 n) u)
+    (or-cases (leb kind 2 && eqb n 1) (leb 3 kind && within 1 8 n) t)
 
 pub gates-pins : (n : ℕ) (cs bs : List ℕ) (r : List Gate × List ℕ) → readGates n cs bs ≡ value r → T (allOf fewPins (r .0))
 unfolding readGates

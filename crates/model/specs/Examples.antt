@@ -1,5 +1,5 @@
 -- Document 01's examples as questions with their answers: `starred` is its table of those marked *, `further` one list of test calls and its
--- audit. proofs/ExamplesHold.antt has the theorem over both.
+-- audit; `requested` has small examples of document 02's tickets, worked out by hand. proofs/ExamplesHold.antt has the theorems over them.
 -- Assumes nothing.
 use mathlib.Core.Bool.{true, false}
 use mathlib.Core.List.{List, [], _∷_, _++_}
@@ -14,12 +14,14 @@ use Rattle.model.specs.Read.{readNetlist, testRules, testOf}
 use Rattle.model.specs.Store.{headWords, emptyStore, firstWord}
 use Rattle.model.specs.Calls.{testCall, wordsOf, workWords}
 use Rattle.model.specs.Report.{auditCall}
+use Rattle.model.specs.SinglePin.{pinsFitBefore, readNetlistBy}
 use Rattle.model.specs.Encode.{headerBytes, gateBytes, outputBytes, testBytes}
 
 -- Questions about a netlist file
 pub data Question : Type 0 where
   netCounts : Question
   paths : Question
+  pathsBefore : Question
   pathNumber : ℕ → Question
   faultsOf : List ℕ → Question
   risingWork : List ℕ → Question
@@ -45,6 +47,8 @@ firstRuns ws = take (headWords + 2) ws ++ take 2 (drop (firstWord falling) ws)
 unfoldable pub reply : List ℕ → Question → Answer (List ℕ)
 reply netlist netCounts = readNetlist netlist >>= λ N. value (counts N)
 reply netlist paths = readNetlist netlist >>= λ N. value (pathTotal N ∷ [])
+-- as `paths`, with the pin rule before ticket 1
+reply netlist pathsBefore = readNetlistBy pinsFitBefore netlist >>= λ N. value (pathTotal N ∷ [])
 reply netlist (pathNumber k) = readNetlist netlist >>= λ N. value (wordsOf (pathOf N k))
 reply netlist (faultsOf rec) = readNetlist netlist >>= λ N. checks (testRules N rec) >> value (faultList N (testOf N rec) (numbersFrom 1 (pathTotal N)))
 reply netlist (risingWork rec) = readNetlist netlist >>= λ N. checks (testRules N rec) >> value (workingRuns N (testOf N rec) rising ∷ [])
@@ -91,6 +95,18 @@ reportOfThree testCount =
     0x52 ∷ 0x50 ∷ littleEndian 4 testCount ++ littleEndian 8 3 ++ littleEndian 2 1 ++ littleEndian 2 1 ++ littleEndian 8 1 ++ littleEndian 8 2
     ++ littleEndian 8 3 ++ littleEndian 8 3 ++ littleEndian 8 2 ++ littleEndian 8 3
 
+-- one input and one gate, which is the output, with all its pins from the input
+unfoldable pub oneGate : ℕ → ℕ → List ℕ
+oneGate kind pins = headerBytes 1 1 1 ++ gateBytes kind (replicate pins 0) ++ outputBytes 1
+
+-- inputs a, b; a gate of one pin from a, then AND of b and that gate. Path 1 leads to b: b's rise is detected where the gate is 1
+unfoldable pub besideOnePin : ℕ → List ℕ
+besideOnePin kind = headerBytes 2 2 1 ++ gateBytes kind (0 ∷ []) ++ gateBytes 3 (1 ∷ 2 ∷ []) ++ outputBytes 3
+
+-- b rises, a steady at `a`
+unfoldable pub bRises : ℕ → List ℕ
+bRises a = testBytes (a ∷ []) ((2 + a) ∷ [])
+
 pub record Row : Type 0 where
   pub netlist : List ℕ
   pub question : Question
@@ -121,4 +137,19 @@ unfoldable pub further : List Row
 further =
     row Q (audited (detectsNone ++ detectsFalling ++ detectsRising) (reportOfThree 3)) (value (1 ∷ 1 ∷ 3 ∷ 3 ∷ 2 ∷ 3 ∷ []))
     ∷ row Q (audited (detectsNone ++ detectsFalling ++ detectsRising) (reportOfThree 4)) (refused 72)
+    ∷ []
+
+-- Ticket 1: a gate of one pin was 14 and is taken; no pin and nine pins are 14, two pins of NOT too. NAND of one pin is NOT, and its pin is open
+unfoldable pub requested : List Row
+requested =
+    row (oneGate 3 1) pathsBefore (refused 14)
+    ∷ row (oneGate 3 1) paths (value (1 ∷ []))
+    ∷ row Q pathsBefore (value (3 ∷ []))
+    ∷ row (oneGate 8 0) paths (refused 14)
+    ∷ row (oneGate 8 9) paths (refused 14)
+    ∷ row (oneGate 2 2) paths (refused 14)
+    ∷ row (oneGate 5 1) (faultsOf (testBytes (1 ∷ []) (0 ∷ []))) (value (2 ∷ []))
+    ∷ row (besideOnePin 4) (faultsOf (bRises 0)) (value (1 ∷ []))
+    ∷ row (besideOnePin 4) (faultsOf (bRises 1)) (value [])
+    ∷ row (besideOnePin 7) (faultsOf (bRises 1)) (value (1 ∷ []))
     ∷ []

@@ -7,6 +7,7 @@ pub mod Runs
 pub mod Read
 pub mod Store
 pub mod Calls
+pub mod SinglePin
 pub mod Report
 pub mod Numbering
 pub mod Demand3

@@ -21,9 +21,9 @@ within low high n = leb low n && leb n high
 abbrev pub kindOf : ℕ → Kind
 kindOf k = getD (buffer ∷ buffer ∷ inverter ∷ and ∷ nand ∷ or ∷ nor ∷ xor ∷ xnor ∷ []) k buffer
 
--- the pin count for the kind: one for buffer and NOT, 2 to 8 for the others
+-- the pin count for the kind: one for buffer and NOT, 1 to 8 for the others
 abbrev pub pinsFit : ℕ → ℕ → Bool
-pinsFit kind n = (leb kind 2 && eqb n 1) || (leb 3 kind && within 2 8 n)
+pinsFit kind n = (leb kind 2 && eqb n 1) || (leb 3 kind && within 1 8 n)
 
 -- `n` nets of two bytes each
 abbrev pub netFields : ℕ → List ℕ → List ℕ

@@ -17,10 +17,10 @@ pub fit-one : (kind n : ℕ) → kind ≤ 2 → eqb n 1 ≡ pinsFit kind n
 fit-one kind n h = rw (le-leb kind 2 h, lt-leb 3 kind (omega arith)) (or-false (eqb n 1))
 
 module _ (kind n : ℕ) (h : 2 < kind) where
-  pub fit-two : n < 2 → false ≡ pinsFit kind n
-  fit-two l = rw (lt-leb kind 2 h, le-leb 3 kind (omega arith), lt-leb 2 n l) refl
+  pub fit-none : n < 1 → false ≡ pinsFit kind n
+  fit-none l = rw (lt-leb kind 2 h, le-leb 3 kind (omega arith), lt-leb 1 n l) refl
 
-  pub fit-more : 2 ≤ n → leb n 8 ≡ pinsFit kind n
-  fit-more l = rw (lt-leb kind 2 h, le-leb 3 kind (omega arith), le-leb 2 n l) refl
+  pub fit-more : 1 ≤ n → leb n 8 ≡ pinsFit kind n
+  fit-more l = rw (lt-leb kind 2 h, le-leb 3 kind (omega arith), le-leb 1 n l) refl
 
-pub ruleset fit-cases = (fit-one, fit-two, fit-more, needs)
+pub ruleset fit-cases = (fit-one, fit-none, fit-more, needs)

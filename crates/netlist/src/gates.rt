@@ -117,7 +117,7 @@ fn pin_count_fits(kind: usize, pins: usize) -> bool
     if kind <= 2 {
         return pins == 1;
     }
-    if pins < 2 {
+    if pins < 1 {
         return false;
     }
     pins <= 8

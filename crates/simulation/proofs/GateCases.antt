@@ -58,8 +58,8 @@ module _ (kind pins packed : ℕ) (h : PackedPins kind pins packed) where
   one-pin : kind ≤ 2 → pins ≡ 1
   one-pin k =
       ⊎-elim (λ t. eqb→eq pins 1 (and-right (leb kind 2) (eqb pins 1) t))
-      (λ t. absurd (omega (arith, leb→le 3 kind (and-left (leb 3 kind) (within 2 8 pins) t))))
-      (or-cases (leb kind 2 && eqb pins 1) (leb 3 kind && within 2 8 pins) (h .fits))
+      (λ t. absurd (omega (arith, leb→le 3 kind (and-left (leb 3 kind) (within 1 8 pins) t))))
+      (or-cases (leb kind 2 && eqb pins 1) (leb 3 kind && within 1 8 pins) (h .fits))
 
   pub value-1 : kind ≡ 1 → not (eqb packed 0) ≡ gateValue (kindOf kind) (bitsIn pins packed)
   value-1 e =
