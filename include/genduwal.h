@@ -1,4 +1,4 @@
-/* Genduwal for C and C++: netlists, path numbers, tests, stores of tested faults, reports and their audit.
+/* Genduwal for C and C++: netlists, also from .bench text, path numbers, tests, stores of tested faults, reports and their audit.
  *
  * Link target/staticlib/libexports.a (rt staticlib exports), on Linux x86-64; it needs memcpy and memset of the C library alone.
  *
@@ -14,7 +14,7 @@
  *
  * Refusals, in the order in which they are looked for:
  *   1  store not 4,098 words                     2  working memory under 8,192 words
- *   3  path buffer under 513 words               4  report buffer under 32,802 bytes
+ *   3  path buffer under 513 words               4  report buffer under 32,802 bytes, netlist buffer under 10,484 bytes
  *  10  netlist: header cut off or its mark      11  inputs, gates, nets or outputs out of range
  *  12  gate cut off or its mark                 13  kind of gate
  *  14  pin count for the kind                   15  pin not from a lower net
@@ -30,6 +30,8 @@
  *  60  no such path or fault number             61  words are not a path of the netlist
  *  70  report under 34 bytes or its mark        71  report's length
  *  72  another byte of the report differs
+ *  80  .bench text: a line of another form      81  unknown or twice defined name or output
+ *  82  number of inputs, gates, both together, outputs or pins out of range
  *
  * Kinds 1 and 2 (buffer, NOT) have one pin, kinds 3 to 8 (AND, NAND, OR, NOR, XOR, XNOR) 1 to 8. With one pin AND, OR and XOR act as a
  * buffer, NAND, NOR and XNOR as NOT, and the pin is open.
@@ -44,11 +46,13 @@
 extern "C" {
 #endif
 
-/* Words of a store, least words of working memory and of a path buffer, least bytes of a report buffer, words of a survey. */
+/* Words of a store, least words of working memory and of a path buffer, least bytes of a report buffer and of a buffer for a netlist file,
+ * words of a survey. */
 #define GENDUWAL_STORE_WORDS 4098
 #define GENDUWAL_WORK_WORDS 8192
 #define GENDUWAL_PATH_WORDS 513
 #define GENDUWAL_REPORT_BYTES 32802
+#define GENDUWAL_NETLIST_BYTES 10484
 #define GENDUWAL_SURVEY_WORDS 516
 
 /* The survey of a netlist. answer: inputs, gates, outputs, paths, then the count of paths of each of 512 nets, zero past the last net.
@@ -128,6 +132,12 @@ uint32_t genduwal_audit_piece(const uint8_t *netlist, size_t netlist_len, const 
  * Refusals: 1, 10 to 15, 17 to 21, 33, first if it is not 0, 40 to 42, 70 to 72. */
 uint32_t genduwal_audit_end(const uint8_t *netlist, size_t netlist_len, uint64_t bytes, uint32_t first, const uint8_t *report,
                             size_t report_len, uint64_t *store, size_t store_len);
+
+/* Converts a circuit in ISCAS .bench text, of any length, to a netlist file. netlist is at least 10,484 bytes; those past the file, or all of
+ * them if the call is refused, stay as they were. answer: the file's length in bytes. genduwal_survey takes every file so made, unless a
+ * count (17) or their sum (21) passes 2^62.
+ * Refusals: 4, then the lowest of 80, 81, 82 on the first bad line, at the text's end 81, 82. */
+uint32_t genduwal_bench_to_netlist(const uint8_t *text, size_t text_len, uint8_t *netlist, size_t netlist_len, uint64_t answer[1]);
 
 #ifdef __cplusplus
 }

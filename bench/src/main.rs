@@ -1,8 +1,10 @@
 //! The verified library beside its unverified twin: equal answers, and the processor time of both.
 //! Arguments: the folder of circuits, the file for the results, and `--quick` for one repeat with 10,000 records.
 
+mod bench_twin;
 mod compare;
 mod loads;
+mod texts;
 mod timing;
 mod twin;
 mod verified;
@@ -23,6 +25,9 @@ distinct: different records of the audit's load, which has taken records only; t
 
 const CIRCUITS_HEAD: &str = "\
 circuit      gates          T  records distinct  runs |  audit ms   twin ms ratio |  test ns  twin ns ratio     50     51 | survey ns  twin ns ratio";
+
+const TEXT_HEAD: &str = "\
+gates  names bytes | text bytes |  convert us  twin us ratio | hashed us ratio";
 
 const GROWTH_HEAD: &str = "circuit      gates          T  records distinct  runs |  audit ms   twin ms ratio";
 
@@ -234,6 +239,31 @@ impl Bench {
             self.growth("runs", &case);
         }
     }
+
+    /// How the time of a conversion grows with the text: gates of eight pins, names of 4 and of 16 bytes.
+    fn by_text(&mut self) {
+        println!("\nThe converter from .bench text: gates of eight pins; the twin looks names up one after the other, or by a hash table\n{TEXT_HEAD}");
+        for gates in [64, 128, 256, 511] {
+            for bytes in [4, 16] {
+                let text = texts::gates_of_eight(gates, bytes, &mut self.random);
+                self.both.compared += texts::compare(text.as_bytes(), &mut self.random);
+                let [twin, hashed] = texts::time(text.as_bytes(), self.repeats);
+                println!(
+                    "{gates:5} {bytes:12} | {:10} | {} | {:9.1} {:5.2}",
+                    text.len(),
+                    twin.columns(1e3, 10, 1),
+                    hashed.twin / 1e3,
+                    hashed.ratio()
+                );
+                for (call, times) in [("convert", twin), ("convert hashed", hashed)] {
+                    let Times { verified, twin } = times;
+                    let ratio = times.ratio();
+                    writeln!(self.results, "texts,{call},names{bytes},{gates},,,,,{},{verified:.1},{twin:.1},{ratio:.3}", self.repeats)
+                        .expect("a line");
+                }
+            }
+        }
+    }
 }
 
 /// The tables, in turn, then the results file.
@@ -255,6 +285,7 @@ fn main() {
     bench.by_records();
     bench.by_gates();
     bench.by_runs();
+    bench.by_text();
     std::fs::write(&words[2], &bench.results).expect("the results file");
     println!("\n{} answers, stores and reports compared: all equal", bench.both.compared);
 }

@@ -45,6 +45,13 @@ unsafe extern "C" {
         work: *mut u64,
         work_words: usize,
     ) -> u32;
+    fn genduwal_bench_to_netlist(
+        text: *const u8,
+        text_bytes: usize,
+        netlist: *mut u8,
+        netlist_bytes: usize,
+        answer: *mut u64,
+    ) -> u32;
 }
 
 /// An answer, unless the call was refused.
@@ -134,4 +141,12 @@ pub fn audit(netlist: &[u8], tests: &[u8], report: &[u8], store: &mut [u64], wor
         )
     };
     answer(refusal, ())
+}
+
+/// The converter from .bench text: the length of the netlist file.
+pub fn convert(text: &[u8], netlist: &mut [u8]) -> Result<usize, u32> {
+    let mut length = 0;
+    let refusal =
+        unsafe { genduwal_bench_to_netlist(text.as_ptr(), text.len(), netlist.as_mut_ptr(), netlist.len(), &mut length) };
+    answer(refusal, length as usize)
 }

@@ -161,6 +161,20 @@ static void show_path(uint64_t number)
         printf("number %llu\n", (unsigned long long)answer[0]);
 }
 
+/* Q as .bench text: the inputs a and b are nets 0 and 1, the gates c and y nets 2 and 3, so that the netlist file is Q's 28 bytes. The second
+ * text uses a name that no line before defines: refused 81. */
+static void show_text(const char *text)
+{
+    uint8_t netlist[GENDUWAL_NETLIST_BYTES];
+    uint64_t answer[1];
+    uint32_t code = genduwal_bench_to_netlist((const uint8_t *)text, strlen(text), netlist, sizeof netlist, answer);
+    if (code != 0)
+        printf("text refused %u\n", (unsigned)code);
+    else
+        printf("text %llu bytes, %s\n", (unsigned long long)answer[0],
+               answer[0] == sizeof circuit && memcmp(netlist, circuit, sizeof circuit) == 0 ? "Q" : "another circuit");
+}
+
 int main(void)
 {
     show_survey();
@@ -181,5 +195,7 @@ int main(void)
     show_audit(length);
     show_pieces(tests, sizeof tests, length);
     show_path(2);
+    show_text("INPUT(a)\nINPUT(b)\nOUTPUT(y)\nc = AND(a, b)\ny = OR(c, b)\n");
+    show_text("INPUT(a)\nOUTPUT(y)\ny = OR(c, a)\n");
     return 0;
 }

@@ -7,6 +7,8 @@ use crate::answers::refused_by;
 use crate::answers::two;
 use crate::answers::unknown;
 use crate::cells;
+use bench_text::BenchAnswer;
+use bench_text::bench_to_netlist;
 use coverage::TestAnswer;
 use coverage::apply_test;
 use faults::Edge;
@@ -158,5 +160,14 @@ pub(crate) fn audit(
     match answer {
         AuditAnswer::Accepted => accepted(),
         AuditAnswer::Refused(why) => refused_by(why),
+    }
+}
+
+// The converter from .bench text: the length of the netlist file.
+pub(crate) fn bench(text: &[u8], netlist: &mut [u8]) -> Answer {
+    let answer = bench_to_netlist(text, netlist);
+    match answer {
+        BenchAnswer::Refused { why, line: _ } => refused_by(why),
+        BenchAnswer::Written(length) => one(length as u64),
     }
 }

@@ -4,6 +4,7 @@
 mod answers;
 mod calls;
 mod cells;
+mod converting;
 mod lines;
 mod names;
 mod netlists;

@@ -66,6 +66,8 @@ pub(crate) const WRITE: u64 = 0x7772697465;
 
 pub(crate) const AUDIT: u64 = 0x6175646974;
 
+pub(crate) const BENCH: u64 = 0x62656e6368;
+
 // Answers.
 pub(crate) const REFUSED: u64 = 0x72656675736564;
 

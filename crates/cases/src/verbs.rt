@@ -3,7 +3,9 @@ ghost use Prim.Native.Nat.{_≤_};
 use crate::answers::Answer;
 use crate::answers::unknown;
 use crate::calls;
+use crate::converting::ask_bench;
 use crate::names::AUDIT;
+use crate::names::BENCH;
 use crate::names::COUNTS;
 use crate::names::EMPTY;
 use crate::names::FALLING;
@@ -39,7 +41,7 @@ use crate::words::after_word;
 use crate::words::key_of;
 
 // The bytes in cells, as many as there are and as there is space for.
-fn load_bytes(cells: &[u64], bytes: &mut [u8]) {
+pub(crate) fn load_bytes(cells: &[u64], bytes: &mut [u8]) {
     let mut at = 0;
     while at < cells.len() {
         if bytes.len() <= at {
@@ -56,7 +58,7 @@ fn wide_byte(byte: u8) -> u64 {
 }
 
 // Bytes back into cells.
-fn save_bytes(bytes: &[u8], cells: &mut [u64]) {
+pub(crate) fn save_bytes(bytes: &[u8], cells: &mut [u64]) {
     let mut at = 0;
     while at < bytes.len() {
         if cells.len() <= at {
@@ -310,7 +312,7 @@ fn ask_report(
     ask_write(numbers, netlist, store, &mut cells[REPORT_START..end])
 }
 
-// Calls that write path or report.
+// Calls that write path or report; the converter writes its netlist file into the report.
 fn ask_writing(
     line: &[u8],
     netlist: &[u8],
@@ -327,11 +329,14 @@ fn ask_writing(
         let length = length_at(lengths, REPORT_PLACE);
         return ask_report(numbers, netlist, length, store, cells);
     }
+    if key == BENCH {
+        return ask_bench(numbers, lengths, cells);
+    }
     unknown()
 }
 
 // The end of a memory.
-fn end_of(start: usize, length: usize) -> usize
+pub(crate) fn end_of(start: usize, length: usize) -> usize
     requires { ⌜ start ≤ 65536 ⌝ }
     ensures { λ r. ⌜ start ≤ r ⌝ }
 {

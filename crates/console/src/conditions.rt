@@ -8,7 +8,8 @@ pub fn print_condition(fd: i32, why: Refusal) {
         Refusal::StoreLength
         | Refusal::WorkLength
         | Refusal::PathBufferLength
-        | Refusal::ReportBufferLength => print_memory(fd, why),
+        | Refusal::ReportBufferLength
+        | Refusal::NetlistBufferLength => print_memory(fd, why),
         Refusal::Header
         | Refusal::HeaderRange
         | Refusal::GateCut
@@ -29,6 +30,7 @@ pub fn print_condition(fd: i32, why: Refusal) {
         | Refusal::StoreRuns => print_store_and_work(fd, why),
         Refusal::NoSuchNumber | Refusal::NotAPath => print_questions(fd, why),
         Refusal::ReportMark | Refusal::ReportLength | Refusal::ReportBytes => print_report(fd, why),
+        Refusal::BenchLine | Refusal::BenchName | Refusal::BenchCount => print_bench(fd, why),
     }
 }
 
@@ -38,7 +40,8 @@ fn print_memory(fd: i32, why: Refusal) {
         Refusal::StoreLength => print(fd, b"The store has not 4,098 words.\n"),
         Refusal::WorkLength => print(fd, b"The working memory has under 8,192 words.\n"),
         Refusal::PathBufferLength => print(fd, b"The path buffer has under 513 words.\n"),
-        _ => print(fd, b"The report buffer has under 32,802 bytes.\n"),
+        Refusal::ReportBufferLength => print(fd, b"The report buffer has under 32,802 bytes.\n"),
+        _ => print(fd, b"The netlist buffer has under 10,484 bytes.\n"),
     }
 }
 
@@ -136,5 +139,23 @@ fn print_report(fd: i32, why: Refusal) {
             b"The report's length is not that of the runs that it states.\n",
         ),
         _ => print(fd, b"The report is not the true report of these tests.\n"),
+    }
+}
+
+// The conditions of .bench text.
+fn print_bench(fd: i32, why: Refusal) {
+    match why {
+        Refusal::BenchLine => print(
+            fd,
+            b"A line is neither INPUT(NAME), OUTPUT(NAME), NAME = KIND(NAME, ...), a # comment nor blank.\n",
+        ),
+        Refusal::BenchName => print(
+            fd,
+            b"A name is not defined on an earlier line or is defined twice, or an output is twice named or never defined.\n",
+        ),
+        _ => print(
+            fd,
+            b"A number of pins, inputs (1 to 64), gates (to 511), both (to 512) or outputs (1 to 64) is out of range.\n",
+        ),
     }
 }

@@ -45,6 +45,10 @@ use Rattle.pieces.specs.declared.PieceAnswer.{PieceAnswer}
 use Rattle.pieces.specs.declared.PieceAnswer.the-variants as piece
 use Rattle.pieces.specs.declared.EndAnswer.{EndAnswer}
 use Rattle.pieces.specs.declared.EndAnswer.the-variants as ending
+use Rattle.bench_text.specs.Calls.{benchOf, convertAnswer, convertBuffer}
+use Rattle.bench_text.specs.Converting.{ConvertTrue}
+use Rattle.bench_text.specs.declared.BenchAnswer.{BenchAnswer}
+use Rattle.bench_text.specs.declared.BenchAnswer.the-variants as bench
 use Rattle.exports.specs.Codes.{codeAnswer, Answered, allTaken, surveyWords, edgeWords, countWords, numberWord, boolWord}
 use Rattle.exports.proofs.CodeLaws.{code-refused, code-zero, answered-refused, answered-value}
 use Rattle.exports.proofs.NumberedLaws.{code-numbered, end-numbered}
@@ -158,6 +162,21 @@ module _ (res : WriteAnswer) (netlist ws : List ℕ) (testCount : ℕ) (buffer b
   write-buffer = t .buffer
 
 pub ruleset write-cases = (write-refused, write-taken, write-buffer, needs)
+
+-- the converter
+module _ (res : BenchAnswer) (text buffer buffer′ : List ℕ) (t : ConvertTrue res text buffer buffer′) where
+  pub bench-refused : (w : Refusal) (line code : ℕ) (found : List ℕ) → res ≡ bench.Refused w line → code ≡ refusalNumber w
+      → Answered (convertAnswer text buffer) numberWord code found found
+  bench-refused w line code found p q = answered-refused (convertAnswer text buffer) numberWord found w code q (sym (t .answer) ∙ ap benchOf p)
+
+  pub bench-taken : (n code : ℕ) (found left : List ℕ) → res ≡ bench.Written n → code ≡ 0 → left ≡ sets found 0 (numberWord n)
+      → Answered (convertAnswer text buffer) numberWord code found left
+  bench-taken n code found left p q l = rw (q, l) (answered-value (convertAnswer text buffer) numberWord found n (sym (t .answer) ∙ ap benchOf p))
+
+  pub bench-buffer : buffer′ ≡ convertBuffer text buffer
+  bench-buffer = t .buffer
+
+pub ruleset bench-cases = (bench-refused, bench-taken, bench-buffer, needs)
 
 -- the audit
 module _ (res : AuditAnswer) (netlist testFile report ws ws′ work work′ : List ℕ) (t : AuditTrue res netlist testFile report ws ws′ work work′) where

@@ -42,6 +42,10 @@ code-refused why.NotAPath = refl
 code-refused why.ReportMark = refl
 code-refused why.ReportLength = refl
 code-refused why.ReportBytes = refl
+code-refused why.NetlistBufferLength = refl
+code-refused why.BenchLine = refl
+code-refused why.BenchName = refl
+code-refused why.BenchCount = refl
 
 pub code-zero : codeAnswer 0 ≡ value tt
 unfolding codeAnswer

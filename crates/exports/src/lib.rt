@@ -1,4 +1,4 @@
-// The calls of document 01 for C: each returns 0, or the number of the refusal; a refused call leaves the answer words as they were.
+// The calls of the papers for C: each returns 0, or the number of the refusal; a refused call leaves the answer words as they were.
 mod answers;
 
 ghost use mathlib.Core.Path.{_≡_};
@@ -6,9 +6,11 @@ ghost use Rattle.model.specs.Calls.{surveyCall, emptyCall, emptiedStore, totals
 ghost use Rattle.model.specs.Report.{writerAnswer, writerBuffer, auditAnswer, auditStore};
 ghost use Rattle.pieces.specs.Steps.{beginAnswer, beginStore};
 ghost use Rattle.pieces.specs.Calls.{pieceAnswer, pieceLeft, PieceWork, endAnswer, endStore};
+ghost use Rattle.bench_text.specs.Calls.{convertAnswer, convertBuffer};
 ghost use Rattle.exports.specs.Codes.{codeAnswer, Answered, allTaken, surveyWords, edgeWords, countWords, numberWord, boolWord};
 use crate::answers::put_number;
 use crate::answers::put_survey;
+use bench_text::BenchAnswer;
 use coverage::TestAnswer;
 use faults::FaultNo;
 use faults::PathNo;
@@ -237,5 +239,22 @@ pub extern "C" fn genduwal_audit_end(
     match ended {
         EndAnswer::Refused(number) => number,
         EndAnswer::Accepted => 0,
+    }
+}
+
+// Converts .bench text to a netlist file in a lent buffer: the file's length.
+#[no_mangle]
+pub extern "C" fn genduwal_bench_to_netlist(
+    text: &[u8],
+    netlist: &mut [u8],
+    answer: &mut [u64; 1],
+) -> u32
+    ensures { λ r. ⌜ Answered (convertAnswer (now (text .entry)) (now (netlist .entry))) numberWord r (now (answer .entry)) (now (answer .exit)) ⌝ }
+    ensures { λ _. ⌜ now (netlist .exit) ≡ convertBuffer (now (text .entry)) (now (netlist .entry)) ⌝ }
+{
+    let converted = bench_text::bench_to_netlist(text, netlist);
+    match converted {
+        BenchAnswer::Refused { why, line: _ } => refusal_number(why),
+        BenchAnswer::Written(length) => put_number(length as u64, answer),
     }
 }

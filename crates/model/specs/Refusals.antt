@@ -1,4 +1,4 @@
--- Document 01's number for each case of the code's `Refusal`.
+-- The papers' number for each case of the code's `Refusal`.
 -- Assumes nothing.
 use Prim.Native.Nat.{ℕ}
 use Rattle.model.specs.declared.Refusal.{Refusal}
@@ -34,3 +34,7 @@ refusalNumber why.NotAPath = 61
 refusalNumber why.ReportMark = 70
 refusalNumber why.ReportLength = 71
 refusalNumber why.ReportBytes = 72
+refusalNumber why.NetlistBufferLength = 4
+refusalNumber why.BenchLine = 80
+refusalNumber why.BenchName = 81
+refusalNumber why.BenchCount = 82

@@ -1,4 +1,4 @@
-// What the crates share: document 01's refusals, and the sizes that it names. What the calls mean stands in specs/.
+// What the crates share: the papers' refusals, and the sizes that they name. What the calls mean stands in specs/.
 ghost use mathlib.Core.Path.{_≡_};
 ghost use Rattle.model.specs.Refusals.{refusalNumber};
 
@@ -24,7 +24,7 @@ pub const REPORT_BYTES: usize = 32802;
 // No count and no total passes this: 2^62.
 pub const MAX_COUNT: u64 = 0x4000_0000_0000_0000;
 
-// Why a call is refused, a case for each condition of document 01's table.
+// Why a call is refused, a case for each condition of document 01's table, then for those of document 02.
 pub enum Refusal {
     StoreLength,
     WorkLength,
@@ -55,9 +55,13 @@ pub enum Refusal {
     ReportMark,
     ReportLength,
     ReportBytes,
+    NetlistBufferLength,
+    BenchLine,
+    BenchName,
+    BenchCount,
 }
 
-// Document 01's number of a refusal.
+// The papers' number of a refusal.
 pub fn refusal_number(why: Refusal) -> u32
     ensures { λ r. ⌜ r ≡ refusalNumber why ⌝ }
 {
@@ -91,5 +95,9 @@ pub fn refusal_number(why: Refusal) -> u32
         Refusal::ReportMark => 70,
         Refusal::ReportLength => 71,
         Refusal::ReportBytes => 72,
+        Refusal::NetlistBufferLength => 4,
+        Refusal::BenchLine => 80,
+        Refusal::BenchName => 81,
+        Refusal::BenchCount => 82,
     }
 }

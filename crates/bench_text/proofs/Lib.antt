@@ -1,0 +1,26 @@
+-- Laws that the proofs of several functions, or of later crates, cite.
+pub mod PartLaws
+pub mod LineLaws
+pub mod ByteCases
+pub mod TokenLaws
+pub mod ExamplesHold
+pub mod ValueLaws
+pub mod KeyLaws
+pub mod PlaceLaws
+pub mod CircuitLaws
+pub mod JudgeLaws
+pub mod JudgeCases
+pub mod LineCases
+pub mod TextCases
+pub mod WriteLaws
+pub mod OutputLaws
+pub mod WholeLaws
+pub mod EndLaws
+pub mod EndCases
+pub mod FileCases
+pub mod FitLaws
+pub mod BytesLaws
+pub mod ReadBack
+pub mod SurveyTakes
+pub mod StateLaws
+pub mod StateCases

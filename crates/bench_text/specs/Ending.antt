@@ -1,0 +1,42 @@
+-- What the functions that judge the end of a text answer, by the keys in lent words.
+-- Assumes nothing.
+use Prim.Native.Nat.{ℕ, zero, suc, _+_}
+use mathlib.Core.Path.{_≡_}
+use mathlib.Core.Bool.{Bool, true, _&&_}
+use mathlib.Core.List.{List, []}
+use lib.Dec.{ltb}
+use lib.ListN.{getD}
+use Rattle.model.specs.Base.{refused}
+use Rattle.model.specs.Refusals.{refusalNumber}
+use Rattle.bench_text.specs.Text.{tokensOf, statementOf, linesOf, isIn}
+use Rattle.bench_text.specs.Circuit.{outputDefined, undefinedFrom, converted, refusedLine}
+use Rattle.bench_text.specs.Reading.{Named}
+use Rattle.bench_text.specs.Judging.{pairNet, keyKnown}
+use Rattle.bench_text.specs.Converting.{TextSound}
+use Rattle.bench_text.specs.declared.judging.NameCounts.{NameCounts}
+use Rattle.bench_text.specs.declared.ending.EndAnswer.{EndAnswer}
+use Rattle.bench_text.specs.declared.ending.EndAnswer.the-variants as end
+
+-- `n` keys, the first at word `at`, are all defined
+unfoldable pub pairsKnown : List ℕ → ℕ → List ℕ → ℕ → List ℕ → ℕ → ℕ → Bool
+pairsKnown is i gs g os zero at = true
+pairsKnown is i gs g os (suc n) at = ltb (pairNet is i gs g (getD os at 0) (getD os (at + 1) 0)) (i + g) && pairsKnown is i gs g os n (at + 2)
+
+-- the words hold exactly these names
+abbrev pub Knows : List ℕ → ℕ → List ℕ → ℕ → List (List ℕ) → Type 0
+Knows is i gs g names = (x : List ℕ) → Named x → keyKnown is i gs g x ≡ isIn x names
+
+pub record OutputTold (r : Bool) (line is : List ℕ) (i : ℕ) (gs : List ℕ) (g : ℕ) : Type 0 where
+  pub told : (names : List (List ℕ)) → Knows is i gs g names → r ≡ outputDefined names (statementOf (tokensOf line))
+
+pub record LineTold (r : ℕ) (text is : List ℕ) (i : ℕ) (gs : List ℕ) (g : ℕ) : Type 0 where
+  pub told : (names : List (List ℕ)) → Knows is i gs g names → r ≡ undefinedFrom names 1 (linesOf text)
+
+-- a text that is refused, and the line
+pub record RefusedAt (number line : ℕ) (text : List ℕ) : Type 0 where
+  pub answer : converted text ≡ refused number
+  pub place : line ≡ refusedLine text
+
+abbrev pub EndTrue : EndAnswer → List ℕ → List ℕ → List ℕ → List ℕ → NameCounts → Type 0
+EndTrue end.Sound text is gs os n = TextSound text is gs os n
+EndTrue (end.Refused w line) text is gs os n = RefusedAt (refusalNumber w) line text

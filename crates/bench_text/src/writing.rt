@@ -1,0 +1,233 @@
+// The netlist file of a circuit, written from the text and from the keys of its names.
+ghost use mathlib.Core.Path.{_≡_};
+ghost use mathlib.Core.Bool.{true};
+ghost use Prim.Native.Nat.{_+_, _*_, _≤_};
+ghost use lib.ListN.{length};
+ghost use lib.Seq.{sets};
+ghost use Rattle.model.specs.Encode.{headerBytes};
+ghost use Rattle.bench_text.specs.Text.{tokensOf, statementOf, linesOf};
+ghost use Rattle.bench_text.specs.Judging.{NamesRoom};
+ghost use Rattle.bench_text.specs.Converting.{TextSound, FileWritten};
+ghost use Rattle.bench_text.specs.Writing.{PinsThere, PinsPut, GatePut, lineBytes, linesBytes, FewPins, AllFewPins, BytesPut, oneOutput, keyOutputs};
+use crate::judging::NameCounts;
+use crate::keys::find_key;
+use crate::keys::net_at;
+use crate::lines::next_line;
+use crate::statements::GateParts;
+use crate::statements::LineStatement;
+use crate::statements::PinRead;
+use crate::statements::read_pin;
+use crate::statements::read_statement;
+use records::inner::put;
+
+// Writes the nets of a gate's pins, which begin at a position of its line.
+fn put_pins(
+    out: &mut [u8],
+    to_place: usize,
+    line: &[u8],
+    gate: GateParts,
+    inputs: &[u64],
+    input_count: usize,
+    gates: &[u64],
+    gate_count: usize,
+)
+    requires { ⌜ NamesRoom (now inputs) «input_count» (now gates) «gate_count» ⌝ }
+    requires { ⌜ PinsThere (now line) (gate .at) (gate .pins) ⌝ }
+    requires { ⌜ «to_place» + 2 * gate .pins ≤ length (now out) ⌝ }
+    ensures { λ _. ⌜ PinsPut (now (out .entry)) (now (out .exit)) «to_place» (now (line .entry)) (gate .at) (now (inputs .entry)) «input_count» (now (gates .entry)) «gate_count» ⌝ }
+{
+    let mut write = to_place;
+    let mut place = gate.at;
+    let mut more = true;
+    while more {
+        let pin = read_pin(line, place);
+        match pin {
+            PinRead::Other => {
+                return;
+            }
+            PinRead::Pin {
+                from,
+                to,
+                next,
+                more: again,
+            } => {
+                let net = net_at(line, from, to, inputs, input_count, gates, gate_count);
+                put(out, write, 2, net as u64);
+                place = next;
+                more = again;
+            }
+        }
+        write += 2;
+    }
+}
+
+// Writes a gate's record.
+fn put_gate(
+    out: &mut [u8],
+    to_place: usize,
+    line: &[u8],
+    gate: GateParts,
+    inputs: &[u64],
+    input_count: usize,
+    gates: &[u64],
+    gate_count: usize,
+)
+    requires { ⌜ NamesRoom (now inputs) «input_count» (now gates) «gate_count» ⌝ }
+    requires { ⌜ PinsThere (now line) (gate .at) (gate .pins) ⌝ }
+    requires { ⌜ («to_place» + 4 + 2 * gate .pins ≤ length (now out)) × (gate .kind ≤ 8) × (gate .pins ≤ 8) ⌝ }
+    ensures { λ _. ⌜ GatePut (now (out .entry)) (now (out .exit)) «to_place» (now (line .entry)) gate (now (inputs .entry)) «input_count» (now (gates .entry)) «gate_count» ⌝ }
+{
+    put(out, to_place, 2, 0x5447);
+    put(out, to_place + 2, 1, gate.kind as u64);
+    put(out, to_place + 3, 1, gate.pins as u64);
+    put_pins(
+        out,
+        to_place + 4,
+        line,
+        gate,
+        inputs,
+        input_count,
+        gates,
+        gate_count,
+    );
+}
+
+// Writes the record of a line's gate, if it has one; the place after it.
+fn put_line(
+    out: &mut [u8],
+    to_place: usize,
+    line: &[u8],
+    inputs: &[u64],
+    input_count: usize,
+    gates: &[u64],
+    gate_count: usize,
+) -> usize
+    requires { ⌜ NamesRoom (now inputs) «input_count» (now gates) «gate_count» ⌝ }
+    requires { ⌜ FewPins (statementOf (tokensOf (now line))) ⌝ }
+    requires { ⌜ «to_place» + length (lineBytes (now inputs) «input_count» (now gates) «gate_count» (statementOf (tokensOf (now line)))) ≤ length (now out) ⌝ }
+    ensures { λ r. ⌜ BytesPut r (now (out .entry)) (now (out .exit)) «to_place» (lineBytes (now (inputs .entry)) «input_count» (now (gates .entry)) «gate_count» (statementOf (tokensOf (now (line .entry))))) ⌝ }
+{
+    let statement = read_statement(line);
+    match statement {
+        LineStatement::Blank => to_place,
+        LineStatement::Other => to_place,
+        LineStatement::Input { from: _, to: _ } => to_place,
+        LineStatement::Output { from: _, to: _ } => to_place,
+        LineStatement::Gate(gate) => {
+            put_gate(
+                out,
+                to_place,
+                line,
+                gate,
+                inputs,
+                input_count,
+                gates,
+                gate_count,
+            );
+            to_place + 4 + 2 * gate.pins
+        }
+    }
+}
+
+// Writes the records of the gates of a text; the place after them.
+pub(crate) fn put_lines(
+    out: &mut [u8],
+    to_place: usize,
+    text: &[u8],
+    inputs: &[u64],
+    input_count: usize,
+    gates: &[u64],
+    gate_count: usize,
+) -> usize
+    requires { ⌜ NamesRoom (now inputs) «input_count» (now gates) «gate_count» ⌝ }
+    requires { ⌜ AllFewPins (linesOf (now text)) ⌝ }
+    requires { ⌜ «to_place» + length (linesBytes (now inputs) «input_count» (now gates) «gate_count» (linesOf (now text))) ≤ length (now out) ⌝ }
+    ensures { λ r. ⌜ BytesPut r (now (out .entry)) (now (out .exit)) «to_place» (linesBytes (now (inputs .entry)) «input_count» (now (gates .entry)) «gate_count» (linesOf (now (text .entry)))) ⌝ }
+{
+    let mut write = to_place;
+    let mut at = 0;
+    while at < text.len() {
+        let ends = next_line(text, at);
+        let stop = ends.stop;
+        let line = &text[at..stop];
+        write = put_line(out, write, line, inputs, input_count, gates, gate_count);
+        at = ends.next;
+    }
+    write
+}
+
+// Writes an output's record, if it is one; the place after it.
+fn put_output(out: &mut [u8], to_place: usize, net: usize, listed: bool) -> usize
+    requires { ⌜ «to_place» + length (oneOutput listed net) ≤ length (now out) ⌝ }
+    ensures { λ r. ⌜ BytesPut r (now (out .entry)) (now (out .exit)) «to_place» (oneOutput listed net) ⌝ }
+{
+    if listed {
+        put(out, to_place, 2, 0x554F);
+        put(out, to_place + 2, 2, net as u64);
+        return to_place + 4;
+    }
+    to_place
+}
+
+// Writes the records of the outputs among n names, the first of which has net `first`; the place after them.
+pub(crate) fn put_outputs(
+    out: &mut [u8],
+    to_place: usize,
+    words: &[u64],
+    n: usize,
+    first: usize,
+    outputs: &[u64],
+    output_count: usize,
+) -> usize
+    requires { ⌜ (2 * n ≤ length (now words)) × (2 * «output_count» ≤ length (now outputs)) × (first + n ≤ 1024) ⌝ }
+    requires { ⌜ «to_place» + length (keyOutputs (now outputs) «output_count» (now words) n 0 first) ≤ length (now out) ⌝ }
+    ensures { λ r. ⌜ BytesPut r (now (out .entry)) (now (out .exit)) «to_place» (keyOutputs (now (outputs .entry)) «output_count» (now (words .entry)) n 0 first) ⌝ }
+{
+    let mut write = to_place;
+    let mut left = n;
+    let mut at: usize = 0;
+    let mut net = first;
+    while 0 < left {
+        let low = words[at];
+        let high = words[at + 1];
+        let place = find_key(outputs, output_count, low, high);
+        write = put_output(out, write, net, place < output_count);
+        at += 2;
+        net += 1;
+        left -= 1;
+    }
+    write
+}
+
+// Writes the header.
+pub(crate) fn put_header(out: &mut [u8], counts: NameCounts)
+    requires { ⌜ 8 ≤ length (now out) ⌝ }
+    ensures { λ _. ⌜ now (out .exit) ≡ sets (now (out .entry)) 0 (headerBytes (counts .inputs) (counts .gates) (counts .outputs)) ⌝ }
+{
+    put(out, 0, 2, 0x4C4E);
+    put(out, 2, 2, counts.inputs as u64);
+    put(out, 4, 2, counts.gates as u64);
+    put(out, 6, 2, counts.outputs as u64);
+}
+
+// Writes the netlist file of a text that is sound, and gives its length.
+pub(crate) fn put_netlist(
+    netlist: &mut [u8],
+    text: &[u8],
+    inputs: &[u64],
+    gates: &[u64],
+    outputs: &[u64],
+    counts: NameCounts,
+) -> usize
+    requires { ⌜ 10484 ≤ length (now netlist) ⌝ }
+    requires { ⌜ TextSound (now text) (now inputs) (now gates) (now outputs) counts ⌝ }
+    ensures { λ r. ⌜ FileWritten r (now (text .entry)) (now (netlist .entry)) (now (netlist .exit)) ⌝ }
+{
+    let i = counts.inputs;
+    let g = counts.gates;
+    let o = counts.outputs;
+    put_header(netlist, counts);
+    let after = put_lines(netlist, 8, text, inputs, i, gates, g);
+    let next = put_outputs(netlist, after, inputs, i, 0, outputs, o);
+    put_outputs(netlist, next, gates, g, i, outputs, o)
+}

@@ -1,0 +1,14 @@
+-- `bench_to_netlist::text_buffer` meets its contract, by the law of a repeated value's length.
+-- Assumes nothing.
+use borrow.Author.Needs.{needs}
+use mathlib.Core.Path.{sym}
+use Prim.Native.Nat.{ℕ}
+use lib.ListN.{length-replicate}
+use Rattle.bench_to_netlist.proofs.text_buffer.Statement.{statement}
+use Rattle.bench_to_netlist.proofs.text_buffer.Tie as tie
+
+returns : tie.Need-returns
+returns c = sym (length-replicate {A = ℕ} 2097153 0)
+
+pub text-buffer-spec : {M : Type 1} → statement M
+text-buffer-spec = tie.close (tie.spec returns)
