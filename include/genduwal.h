@@ -15,6 +15,7 @@
  * Refusals, in the order in which they are looked for:
  *   1  store not 4,098 words                     2  working memory under 8,192 words
  *   3  path buffer under 513 words               4  report buffer under 32,802 bytes, netlist buffer under 10,484 bytes
+ *   4  buffer of a load under 2,304 bytes       11  inputs of a load not 1 to 64
  *  10  netlist: header cut off or its mark      11  inputs, gates, nets or outputs out of range
  *  12  gate cut off or its mark                 13  kind of gate
  *  14  pin count for the kind                   15  pin not from a lower net
@@ -54,6 +55,9 @@ extern "C" {
 #define GENDUWAL_REPORT_BYTES 32802
 #define GENDUWAL_NETLIST_BYTES 10484
 #define GENDUWAL_SURVEY_WORDS 516
+
+/* Least bytes of a buffer for one vector's records of a load. */
+#define GENDUWAL_LOAD_BYTES 2304
 
 /* The survey of a netlist. answer: inputs, gates, outputs, paths, then the count of paths of each of 512 nets, zero past the last net.
  * Refusals: 10 to 15, 17 to 21. */
@@ -138,6 +142,12 @@ uint32_t genduwal_audit_end(const uint8_t *netlist, size_t netlist_len, uint64_t
  * count (17) or their sum (21) passes 2^62.
  * Refusals: 4, then the lowest of 80, 81, 82 on the first bad line, at the text's end 81, 82. */
 uint32_t genduwal_bench_to_netlist(const uint8_t *text, size_t text_len, uint8_t *netlist, size_t netlist_len, uint64_t answer[1]);
+
+/* A test load that anyone can repeat: draws a vector from a state (at first the seed) and writes its test records, for input 0 upward a rising
+ * test and a falling one. answer: the state afterwards, to be handed to the next call, and the bytes written. records is at least 2,304 bytes;
+ * those past the records stay as they were, and all of them where the call is refused.
+ * Refusals: 4, 11. */
+uint32_t genduwal_load(uint32_t state, uint32_t inputs, uint8_t *records, size_t records_len, uint64_t answer[2]);
 
 #ifdef __cplusplus
 }

@@ -1,5 +1,5 @@
 //! The verified library beside its unverified twin: equal answers, and the processor time of both.
-//! Arguments: the folder of circuits, the file for the results, and `--quick` for one repeat with 10,000 records.
+//! Arguments: the folder of circuits, the file for the results, `--quick` for one repeat with 10,000 records, `--load` for the load call alone.
 
 mod bench_twin;
 mod compare;
@@ -8,6 +8,7 @@ mod texts;
 mod timing;
 mod twin;
 mod verified;
+mod writer;
 
 use compare::Both;
 use loads::{Load, Memory, Random};
@@ -30,6 +31,8 @@ const TEXT_HEAD: &str = "\
 gates  names bytes | text bytes |  convert us  twin us ratio | hashed us ratio";
 
 const GROWTH_HEAD: &str = "circuit      gates          T  records distinct  runs |  audit ms   twin ms ratio";
+
+const LOADS_HEAD: &str = "inputs |  load MB/s  twin MB/s ratio";
 
 /// How much to measure, and what was measured.
 struct Bench {
@@ -266,11 +269,31 @@ impl Bench {
     }
 }
 
+/// The load call by inputs: equal answers, then bytes per second of processor time. The lines of the results file.
+fn loads_by_inputs(repeats: usize) -> String {
+    let compared = writer::compare();
+    println!("\nThe load call by inputs, {compared} answers and buffers compared\n{LOADS_HEAD}");
+    let mut results = String::new();
+    for inputs in writer::INPUTS {
+        let (times, bytes) = writer::time(inputs, repeats);
+        let Times { verified, twin } = times;
+        let speed = |time: f64| bytes as f64 / time * 1e3;
+        println!("{inputs:6} | {:10.0} {:10.0} {:5.2}", speed(verified), speed(twin), times.ratio());
+        writeln!(results, "loads,load,{inputs} inputs,,,,,,{repeats},{verified:.1},{twin:.1},{:.3}", times.ratio())
+            .expect("a line");
+    }
+    results
+}
+
 /// The tables, in turn, then the results file.
 fn main() {
     let words: Vec<String> = std::env::args().collect();
     let quick = words.iter().any(|word| word == "--quick");
     let (repeats, records) = if quick { (1, 10_000) } else { (9, 100_000) };
+    if words.iter().any(|word| word == "--load") {
+        loads_by_inputs(repeats);
+        return;
+    }
     let mut bench = Bench {
         folder: words[1].clone(),
         repeats,
@@ -286,6 +309,8 @@ fn main() {
     bench.by_gates();
     bench.by_runs();
     bench.by_text();
+    let loads = loads_by_inputs(repeats);
+    bench.results.push_str(&loads);
     std::fs::write(&words[2], &bench.results).expect("the results file");
     println!("\n{} answers, stores and reports compared: all equal", bench.both.compared);
 }

@@ -52,6 +52,7 @@ unsafe extern "C" {
         netlist_bytes: usize,
         answer: *mut u64,
     ) -> u32;
+    fn genduwal_load(state: u32, inputs: u32, records: *mut u8, records_bytes: usize, answer: *mut u64) -> u32;
 }
 
 /// An answer, unless the call was refused.
@@ -149,4 +150,11 @@ pub fn convert(text: &[u8], netlist: &mut [u8]) -> Result<usize, u32> {
     let refusal =
         unsafe { genduwal_bench_to_netlist(text.as_ptr(), text.len(), netlist.as_mut_ptr(), netlist.len(), &mut length) };
     answer(refusal, length as usize)
+}
+
+/// The load call: the state afterwards, and the bytes written.
+pub fn load(state: u32, inputs: u32, records: &mut [u8]) -> Result<(u32, usize), u32> {
+    let mut words = [0; 2];
+    let refusal = unsafe { genduwal_load(state, inputs, records.as_mut_ptr(), records.len(), words.as_mut_ptr()) };
+    answer(refusal, (words[0] as u32, words[1] as usize))
 }

@@ -175,6 +175,23 @@ static void show_text(const char *text)
                answer[0] == sizeof circuit && memcmp(netlist, circuit, sizeof circuit) == 0 ? "Q" : "another circuit");
 }
 
+/* Two vectors of a load for 3 inputs, from seed 1: the state goes on from call to call. A vector has 6 records of 4 bytes; the first is printed. */
+static void show_load(void)
+{
+    static uint8_t load[GENDUWAL_LOAD_BYTES];
+    uint64_t answer[2] = {1, 0};
+    for (int vector = 1; vector <= 2; vector++) {
+        uint32_t code = genduwal_load((uint32_t)answer[0], 3, load, sizeof load, answer);
+        if (code != 0) {
+            printf("load refused %u\n", (unsigned)code);
+            return;
+        }
+        printf("load %d state %llu bytes %llu first %02X %02X %02X %02X\n", vector, (unsigned long long)answer[0], (unsigned long long)answer[1],
+               load[0], load[1], load[2], load[3]);
+    }
+    printf("load of 65 inputs refused %u\n", (unsigned)genduwal_load(1, 65, load, sizeof load, answer));
+}
+
 int main(void)
 {
     show_survey();
@@ -197,5 +214,6 @@ int main(void)
     show_path(2);
     show_text("INPUT(a)\nINPUT(b)\nOUTPUT(y)\nc = AND(a, b)\ny = OR(c, b)\n");
     show_text("INPUT(a)\nOUTPUT(y)\ny = OR(c, a)\n");
+    show_load();
     return 0;
 }

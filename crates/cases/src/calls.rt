@@ -15,6 +15,7 @@ use faults::Edge;
 use faults::FaultAnswer;
 use faults::FaultNo;
 use faults::PathNo;
+use load::LoadAnswer;
 use netlist::SurveyAnswer;
 use paths::NumberAnswer;
 use paths::PathAnswer;
@@ -169,5 +170,24 @@ pub(crate) fn bench(text: &[u8], netlist: &mut [u8]) -> Answer {
     match answer {
         BenchAnswer::Refused { why, line: _ } => refused_by(why),
         BenchAnswer::Written(length) => one(length as u64),
+    }
+}
+
+// The load call: the state afterwards, and the bytes written. State and inputs have 32 bits.
+pub(crate) fn write_load(state: u64, inputs: u64, records: &mut [u8]) -> Answer {
+    if 4294967295 < state {
+        return unknown();
+    }
+    if 4294967295 < inputs {
+        return unknown();
+    }
+    let first = (state % 4294967296) as u32;
+    let answer = load::write_load(first, (inputs % 4294967296) as u32, records);
+    match answer {
+        LoadAnswer::Written {
+            state: after,
+            length,
+        } => two(after as u64, length as u64),
+        LoadAnswer::Refused(why) => refused_by(why),
     }
 }

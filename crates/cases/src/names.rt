@@ -68,6 +68,8 @@ pub(crate) const AUDIT: u64 = 0x6175646974;
 
 pub(crate) const BENCH: u64 = 0x62656e6368;
 
+pub(crate) const LOAD: u64 = 0x6c6f6164;
+
 // Answers.
 pub(crate) const REFUSED: u64 = 0x72656675736564;
 

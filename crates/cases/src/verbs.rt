@@ -13,6 +13,7 @@ use crate::names::FAULT;
 use crate::names::FIND;
 use crate::names::FIRST;
 use crate::names::HOLDS;
+use crate::names::LOAD;
 use crate::names::NUMBER;
 use crate::names::RISING;
 use crate::names::SURVEY;
@@ -255,6 +256,33 @@ fn ask_write(numbers: Numbers, netlist: &[u8], store: &[u64], cells: &mut [u64])
     unknown()
 }
 
+// The load call, from cells and back.
+fn load_in(state: u64, inputs: u64, records: &mut [u8], cells: &mut [u64]) -> Answer {
+    let length = cells.len();
+    if records.len() < length {
+        return unknown();
+    }
+    load_bytes(cells, records);
+    let answer = calls::write_load(state, inputs, &mut records[0..length]);
+    save_bytes(records, cells);
+    answer
+}
+
+// `load`, with a state and a number of inputs, on the cells of the report: the records go there.
+fn ask_load(numbers: Numbers, length: usize, cells: &mut [u64]) -> Answer {
+    let mut records = [0u8; 65536];
+    let end = end_of(REPORT_START, length);
+    if cells.len() < end {
+        return unknown();
+    }
+    let state = number_at(numbers, 0);
+    let inputs = number_at(numbers, 1);
+    if are(numbers, 2) {
+        return load_in(state, inputs, &mut records, &mut cells[REPORT_START..end]);
+    }
+    unknown()
+}
+
 // Calls that only read.
 fn ask_reading(line: &[u8], netlist: &[u8], store: &[u64], path: &[u64]) -> Answer {
     let key = key_of(line);
@@ -312,7 +340,7 @@ fn ask_report(
     ask_write(numbers, netlist, store, &mut cells[REPORT_START..end])
 }
 
-// Calls that write path or report; the converter writes its netlist file into the report.
+// Calls that write path, report or the records of a load; the converter writes its netlist file into the report.
 fn ask_writing(
     line: &[u8],
     netlist: &[u8],
@@ -331,6 +359,9 @@ fn ask_writing(
     }
     if key == BENCH {
         return ask_bench(numbers, lengths, cells);
+    }
+    if key == LOAD {
+        return ask_load(numbers, length_at(lengths, REPORT_PLACE), cells);
     }
     unknown()
 }

@@ -11,6 +11,7 @@ use Rattle.model.specs.Base.{Answer, refused, value, _>>=_, _>>_, passes, after
 use Rattle.model.specs.Store.{ByEdge}
 use Rattle.model.specs.Calls.{Survey, FaultCounts}
 use Rattle.pieces.specs.Calls.{RecordsSaid}
+use Rattle.load.specs.Calls.{Handed}
 
 -- A C function's code: 0 says that the call was taken, any other number that it was refused with this number.
 -- A promise `codeAnswer code ≡ call` also says that no refusal has the number 0: no code stands for `refused 0`
@@ -49,3 +50,7 @@ numberWord n = n ∷ []
 -- 1 for true, 0 for false
 abbrev pub boolWord : Bool → List ℕ
 boolWord b = cond b 1 0 ∷ []
+
+-- the state afterwards, then the bytes written
+abbrev pub loadWords : Handed → List ℕ
+loadWords h = h .state ∷ h .length ∷ []

@@ -5,15 +5,18 @@ ghost use mathlib.Core.Path.{_≡_};
 ghost use Rattle.model.specs.Calls.{surveyCall, emptyCall, emptiedStore, totalsCall, faultCall, pathToNumberCall, numberToPathAnswer, numberToPathBuffer, testAnswer, testStore, WorkAfter};
 ghost use Rattle.model.specs.Report.{writerAnswer, writerBuffer, auditAnswer, auditStore};
 ghost use Rattle.pieces.specs.Steps.{beginAnswer, beginStore};
+ghost use Rattle.load.specs.Calls.{loadAnswer, loadBuffer};
 ghost use Rattle.pieces.specs.Calls.{pieceAnswer, pieceLeft, PieceWork, endAnswer, endStore};
 ghost use Rattle.bench_text.specs.Calls.{convertAnswer, convertBuffer};
 ghost use Rattle.exports.specs.Codes.{codeAnswer, Answered, allTaken, surveyWords, edgeWords, countWords, numberWord, boolWord};
+ghost use Rattle.exports.specs.Codes.{loadWords};
 use crate::answers::put_number;
 use crate::answers::put_survey;
 use bench_text::BenchAnswer;
 use coverage::TestAnswer;
 use faults::FaultNo;
 use faults::PathNo;
+use load::LoadAnswer;
 use model::refusal_number;
 use netlist::SurveyAnswer;
 use paths::NumberAnswer;
@@ -256,5 +259,30 @@ pub extern "C" fn genduwal_bench_to_netlist(
     match converted {
         BenchAnswer::Refused { why, line: _ } => refusal_number(why),
         BenchAnswer::Written(length) => put_number(length as u64, answer),
+    }
+}
+
+// Writes the records of one vector of a load, drawn from a state: the state afterwards, and the bytes written.
+#[no_mangle]
+pub extern "C" fn genduwal_load(
+    state: u32,
+    inputs: u32,
+    records: &mut [u8],
+    answer: &mut [u64; 2],
+) -> u32
+    ensures { λ r. ⌜ Answered (loadAnswer state inputs (now (records .entry))) loadWords r (now (answer .entry)) (now (answer .exit)) ⌝ }
+    ensures { λ _. ⌜ now (records .exit) ≡ loadBuffer state inputs (now (records .entry)) ⌝ }
+{
+    let written = load::write_load(state, inputs, records);
+    match written {
+        LoadAnswer::Refused(why) => refusal_number(why),
+        LoadAnswer::Written {
+            state: after,
+            length,
+        } => {
+            answer[0] = after as u64;
+            answer[1] = length as u64;
+            0
+        }
     }
 }

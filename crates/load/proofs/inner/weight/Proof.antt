@@ -1,0 +1,16 @@
+-- `load::inner::weight` meets its contract: the shifted 1 does not leave the word.
+-- Assumes nothing.
+use native.Mathlib.Omega.{arith}
+use Rattle.load.proofs.DrawSteps.{weight-is}
+use borrow.Author.Needs.{needs}
+use Rattle.load.proofs.inner.weight.Statement.{statement}
+use Rattle.load.proofs.inner.weight.Tie as tie
+
+shl-result : tie.Need-shl-result
+shl-result c = search needs
+
+returns : tie.Need-returns
+returns c = weight-is (c .args .input) (omega (arith, c .pre))
+
+pub weight-spec : {M : Type 1} → statement M
+weight-spec = tie.close (tie.spec shl-result returns)

@@ -1,0 +1,55 @@
+-- What the load's functions promise: document 01's number and values for each case of their answers, and the lent bytes afterwards.
+-- Assumes nothing.
+use mathlib.Core.Path.{_≡_}
+use mathlib.Core.List.{List}
+use mathlib.Core.Option.{Option, none, some}
+use Prim.Native.Nat.{ℕ, _+_, _*_, _≤_, _<_}
+use lib.ListN.{length}
+use lib.Seq.{sets}
+use Rattle.model.specs.Base.{Answer, refused, value}
+use Rattle.model.specs.Read.{vectorBytes}
+use Rattle.model.specs.Refusals.{refusalNumber}
+use Rattle.load.specs.Load.{stateAfter, drawn, wordOf, vectorRecords}
+use Rattle.load.specs.Calls.{Handed, loadAnswer, loadBuffer, Request}
+use Rattle.load.specs.declared.LoadAnswer.{LoadAnswer}
+use Rattle.load.specs.declared.LoadAnswer.the-variants as load
+use Rattle.load.specs.declared.Asked.{Asked}
+use Rattle.load.specs.declared.Asked.the-variants as asked
+use Rattle.load.specs.declared.inner.Drawn.{Drawn}
+use Rattle.load.specs.declared.inner.Filled.{Filled}
+
+-- the load call: the state afterwards, and the length of the records
+abbrev pub loadedOf : LoadAnswer → Answer Handed
+loadedOf (load.Written s n) = value (record { state = s; length = n })
+loadedOf (load.Refused w) = refused (refusalNumber w)
+
+-- The load call: its answer, and every byte of the buffer afterwards
+pub record LoadTrue (r : LoadAnswer) (state inputs : ℕ) (found left : List ℕ) : Type 0 where
+  pub answer : loadedOf r ≡ loadAnswer state inputs found
+  pub buffer : left ≡ loadBuffer state inputs found
+
+-- what load.bin asks for
+abbrev pub askedOf : Asked → Option Request
+askedOf (asked.Load s n i) = some (record { seed = s; vectors = n; inputs = i })
+askedOf asked.Nothing = none
+
+-- a drawn vector as a number, input j in bit j, and the state afterwards
+pub record DrawnTrue (r : Drawn) (inputs state : ℕ) : Type 0 where
+  pub vectorIs : r .vector ≡ wordOf (drawn inputs state)
+  pub stateIs : r .state ≡ stateAfter inputs state
+
+-- the bytes of a test record, and of one vector's records: a rising test and a falling one for each input
+abbrev pub recordSize : ℕ → ℕ
+recordSize inputs = 2 + 2 * vectorBytes inputs
+
+abbrev pub vectorSize : ℕ → ℕ
+vectorSize inputs = inputs * (2 * recordSize inputs)
+
+-- A buffer is filled with the records of the next vectors: of as many as are left or as fit, and of one at the least where one is left
+pub record FilledTrue (r : Filled) (state inputs left : ℕ) (found bytes : List ℕ) : Type 0 where
+  pub written : bytes ≡ sets found 0 (vectorRecords inputs (r .vectors) state)
+  pub stateIs : r .state ≡ stateAfter (r .vectors * inputs) state
+  pub lengthIs : r .length ≡ r .vectors * vectorSize inputs
+  pub inside : r .length ≤ length found
+  pub few : r .vectors ≤ left
+  pub some : 0 < left → 0 < r .vectors

@@ -1,0 +1,58 @@
+-- The load call, and what the program make_load writes, each as a function of what it is handed.
+-- Names: state is the state handed over, inputs the number of inputs, buffer the lent bytes, bs the bytes of load.bin.
+-- Assumes nothing.
+use mathlib.Core.Bool.{true, false}
+use mathlib.Core.List.{List, [], _∷_, _++_}
+use mathlib.Core.Option.{Option, none, some}
+use Prim.Native.Nat.{ℕ}
+use lib.Dec.{leb, eqb}
+use lib.ListN.{length, drop}
+use Rattle.model.specs.Base.{Answer, value, _>>=_, _>>_, Rule, checks, after, field}
+use Rattle.model.specs.Read.{within}
+use Rattle.load.specs.Load.{stateAfter, loadRecords, vectorRecords}
+
+-- bytes of a buffer for one vector's records, at the least: 128 records of 18 bytes
+abbrev pub loadBufferBytes : ℕ
+loadBufferBytes = 2304
+
+-- a buffer under 2,304 bytes is 4, then an input count outside 1 to 64 is 11
+abbrev pub loadRules : ℕ → List ℕ → List Rule
+loadRules inputs buffer = (4, leb loadBufferBytes (length buffer)) ∷ (11, within 1 64 inputs) ∷ []
+
+-- One call writes one vector's records
+unfoldable pub loadCall : ℕ → ℕ → List ℕ → Answer (List ℕ)
+loadCall state inputs buffer = checks (loadRules inputs buffer) >> value (loadRecords inputs state)
+
+-- What a call that is not refused hands back: the state afterwards, and the length of the records
+pub record Handed : Type 0 where
+  pub state : ℕ
+  pub length : ℕ
+
+unfoldable pub loadAnswer : ℕ → ℕ → List ℕ → Answer Handed
+loadAnswer state inputs buffer = loadCall state inputs buffer >>= λ r. value (record { state = stateAfter inputs state; length = length r })
+
+-- nothing past the records is written, and nothing when refused
+unfoldable pub loadBuffer : ℕ → ℕ → List ℕ → List ℕ
+loadBuffer state inputs buffer = after (loadCall state inputs buffer) buffer (λ r. r ++ drop (length r) buffer)
+
+-- load.bin, low byte first: seed and vectors of 4 bytes each, inputs of 2
+pub record Request : Type 0 where
+  pub seed : ℕ
+  pub vectors : ℕ
+  pub inputs : ℕ
+
+abbrev pub requestBytes : ℕ
+requestBytes = 10
+
+-- what load.bin asks for: nothing where it has another length
+unfoldable pub requestOf : List ℕ → Option Request
+requestOf bs =
+    elim (eqb (length bs) requestBytes) [
+      | true ↦ some (record { seed = field 0 4 bs; vectors = field 4 4 bs; inputs = field 8 2 bs })
+      | false ↦ none
+    ]
+
+-- What the program writes: the records of all vectors, the first from the seed; another length or a refusal writes nothing
+unfoldable pub programBytes : Option Request → List ℕ
+programBytes none = []
+programBytes (some r) = elim (within 1 64 (r .inputs)) [ true ↦ vectorRecords (r .inputs) (r .vectors) (r .seed) | false ↦ [] ]

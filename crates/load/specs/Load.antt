@@ -1,0 +1,79 @@
+-- A test load that anyone can repeat: the state and its steps, the vector that is drawn, its two tests per input, and their records.
+-- Names: s is a state, v a vector (a value for each input, input 0 first), j an input, e an edge.
+-- Assumes nothing.
+use mathlib.Core.Bool.{Bool, true, false, not}
+use mathlib.Core.List.{List, [], _∷_, _++_}
+use Prim.Native.Nat.{ℕ, zero, suc, _+_, _*_, _%_, _^_}
+use lib.ListN.{length, getD, set}
+use Rattle.model.specs.Base.{bit, littleEndian}
+use Rattle.model.specs.Detect.{Test}
+use Rattle.model.specs.Encode.{testBytes}
+use Rattle.model.specs.Path.{Edge, rising, falling}
+use Rattle.model.specs.Read.{vectorBytes}
+use Rattle.simulation.specs.Packed.{oneWhere}
+
+-- A step replaces state s by 1664525 times s plus 1013904223, modulo 2^32
+unfoldable pub nextState : ℕ → ℕ
+nextState s = (1664525 * s + 1013904223) % 2 ^ 32
+
+-- the state after `n` steps
+unfoldable pub stateAfter : ℕ → ℕ → ℕ
+stateAfter zero s = s
+stateAfter (suc n) s = stateAfter n (nextState s)
+
+-- the top bit of a state of 32 bits
+abbrev pub topBit : ℕ → Bool
+topBit s = bit s 31
+
+-- A vector of `n` inputs is drawn: the new state's top bit is the next input's value, input 0 first
+unfoldable pub drawn : ℕ → ℕ → List Bool
+drawn zero s = []
+drawn (suc n) s = topBit (nextState s) ∷ drawn n (nextState s)
+
+-- the value of an input after its edge
+abbrev pub finalValue : Edge → Bool
+finalValue rising = true
+finalValue falling = false
+
+-- a vector with one input inverted
+abbrev pub invertedAt : ℕ → List Bool → List Bool
+invertedAt j v = set v j (not (getD v j false))
+
+-- The test of an input and an edge: V2 is the vector with that input at its final value, V1 is V2 with it inverted
+unfoldable pub inputTest : List Bool → ℕ → Edge → Test
+inputTest v j e = record { v1 = invertedAt j (set v j (finalValue e)); v2 = set v j (finalValue e) }
+
+-- a rising test and a falling one for each of `n` inputs from input j upward
+unfoldable pub testsFrom : List Bool → ℕ → ℕ → List Test
+testsFrom v j zero = []
+testsFrom v j (suc n) = inputTest v j rising ∷ inputTest v j falling ∷ testsFrom v (suc j) n
+
+-- The tests of the vector that is drawn from state s for `n` inputs: two per input, for input 0 upward
+unfoldable pub loadTests : ℕ → ℕ → List Test
+loadTests n s = testsFrom (drawn n s) 0 n
+
+-- a vector as a number, input j in bit j
+unfoldable pub wordOf : List Bool → ℕ
+wordOf [] = 0
+wordOf (b ∷ v) = oneWhere b + 2 * wordOf v
+
+-- a vector in whole bytes: input j is bit j mod 8 of byte j / 8, and spare bits are zero (Passes.antt says so by document 01's own reading)
+abbrev pub packed : List Bool → List ℕ
+packed v = littleEndian (vectorBytes (length v)) (wordOf v)
+
+-- the record of a test, and the records of tests end to end
+unfoldable pub recordBytes : Test → List ℕ
+recordBytes t = testBytes (packed (t .v1)) (packed (t .v2))
+
+unfoldable pub fileBytes : List Test → List ℕ
+fileBytes [] = []
+fileBytes (t ∷ ts) = recordBytes t ++ fileBytes ts
+
+-- One vector's records
+unfoldable pub loadRecords : ℕ → ℕ → List ℕ
+loadRecords n s = fileBytes (loadTests n s)
+
+-- The records of so many vectors; the state goes on from vector to vector
+unfoldable pub vectorRecords : ℕ → ℕ → ℕ → List ℕ
+vectorRecords n zero s = []
+vectorRecords n (suc vectors) s = loadRecords n s ++ vectorRecords n vectors (stateAfter n s)

@@ -1,0 +1,176 @@
+// A vector drawn and its records written, one vector after another. Each caller proves what a function requires.
+ghost use mathlib.Core.List.{[], _∷_};
+ghost use mathlib.Core.Path.{_≡_};
+ghost use Prim.Native.Nat.{_+_, _-_, _*_, _/_, _%_, _^_, _≤_, _<_};
+ghost use lib.ListN.{length};
+ghost use lib.Seq.{sets};
+ghost use Rattle.model.specs.Base.{littleEndian, field};
+ghost use Rattle.model.specs.Encode.{testBytes};
+ghost use Rattle.simulation.specs.Packed.{oneWhere};
+ghost use Rattle.load.specs.Load.{topBit, stateAfter, loadRecords, vectorRecords};
+ghost use Rattle.load.specs.Answers.{DrawnTrue, FilledTrue, vectorSize};
+use crate::next_state;
+use records::inner::put;
+use records::inner::u16_at;
+use simulation::inner::test_record::vector_bytes;
+
+// A vector, input j in bit j, and the state after it was drawn.
+pub struct Drawn {
+    pub vector: u64,
+    pub state: u32,
+}
+
+// What a buffer was filled with: the number of vectors, the bytes of their records, and the state afterwards.
+pub struct Filled {
+    pub vectors: usize,
+    pub length: usize,
+    pub state: u32,
+}
+
+// The field of four bytes at a place.
+pub fn u32_at(s: &[u8], at: usize) -> u32
+    requires { ⌜ at + 3 < length (now s) ⌝ }
+    ensures { λ r. ⌜ r ≡ field at 4 (now (s .entry)) ⌝ }
+{
+    let low = u16_at(s, at);
+    let high = u16_at(s, at + 2);
+    (low + 65536 * high) as u32
+}
+
+// The bytes of one vector's records.
+pub fn vector_size(inputs: usize) -> usize
+    requires { ⌜ inputs ≤ 64 ⌝ }
+    ensures { λ r. ⌜ (r ≡ vectorSize inputs) × (r ≤ 2304) ⌝ }
+{
+    let bytes = vector_bytes(inputs);
+    inputs * (2 * (2 + 2 * bytes))
+}
+
+// The bit of an input.
+fn weight(input: usize) -> u64
+    requires { ⌜ input < 64 ⌝ }
+    ensures { λ r. ⌜ r ≡ 2 ^ input ⌝ }
+{
+    1u64 << (input as u64)
+}
+
+// A state's top bit as the value of an input.
+fn top_bit_at(state: u32, input: usize) -> u64
+    requires { ⌜ input < 64 ⌝ }
+    ensures { λ r. ⌜ r ≡ oneWhere (topBit state) * 2 ^ input ⌝ }
+{
+    (((state >> 31) & 1) as u64) << (input as u64)
+}
+
+// Draws a vector: a step before each input, whose value is the new state's top bit.
+pub fn draw_vector(state: u32, inputs: usize) -> Drawn
+    requires { ⌜ inputs ≤ 64 ⌝ }
+    ensures { λ r. ⌜ DrawnTrue r inputs state ⌝ }
+{
+    let mut vector: u64 = 0;
+    let mut last = state;
+    let mut input = 0;
+    while input < inputs {
+        let next = next_state(last);
+        vector += top_bit_at(next, input);
+        last = next;
+        input += 1;
+    }
+    Drawn {
+        vector,
+        state: last,
+    }
+}
+
+// A vector with one input at 0.
+fn lowered(vector: u64, bit: u64, input: usize) -> u64
+    requires { ⌜ bit ≡ 2 ^ input ⌝ }
+    ensures { λ r. ⌜ r ≡ vector - vector / 2 ^ input % 2 * 2 ^ input ⌝ }
+{
+    vector - (vector & bit)
+}
+
+// Writes the mark of a test record.
+fn put_mark(records: &mut [u8], at: usize)
+    requires { ⌜ at + 2 ≤ length (now records) ⌝ }
+    ensures { λ _. ⌜ now (records .exit) ≡ sets (now (records .entry)) at (0x54 ∷ 0x50 ∷ []) ⌝ }
+{
+    records[at] = 0x54;
+    records[at + 1] = 0x50;
+}
+
+// Writes the record of two vectors of so many bytes each.
+fn put_test(records: &mut [u8], at: usize, bytes: usize, first: u64, second: u64)
+    requires { ⌜ at + 2 + 2 * bytes ≤ length (now records) ⌝ }
+    ensures { λ _. ⌜ now (records .exit) ≡ sets (now (records .entry)) at (testBytes (littleEndian bytes first) (littleEndian bytes second)) ⌝ }
+{
+    put_mark(records, at);
+    put(records, at + 2, bytes, first);
+    put(records, at + 2 + bytes, bytes, second);
+}
+
+// Draws a vector from a state and writes its records from a place on: for input 0 upward the rising test, V1 with that input at 0 and V2 with it
+// at 1, then the falling one. The state afterwards.
+pub fn put_vector(state: u32, inputs: usize, records: &mut [u8], at: usize) -> u32
+    requires { ⌜ (inputs ≤ 64) × (at + vectorSize inputs ≤ length (now records)) ⌝ }
+    ensures { λ r. ⌜ r ≡ stateAfter inputs state ⌝ }
+    ensures { λ _. ⌜ now (records .exit) ≡ sets (now (records .entry)) at (loadRecords inputs state) ⌝ }
+{
+    let drawn = draw_vector(state, inputs);
+    let vector = drawn.vector;
+    let bytes = vector_bytes(inputs);
+    let size = 2 + 2 * bytes;
+    let mut place = at;
+    let mut input = 0;
+    while input < inputs {
+        let bit = weight(input);
+        let low = lowered(vector, bit, input);
+        let high = low + bit;
+        put_test(records, place, bytes, low, high);
+        put_test(records, place + size, bytes, high, low);
+        place += 2 * size;
+        input += 1;
+    }
+    drawn.state
+}
+
+// Writes the records of so many vectors, one after another from the first byte on. The state afterwards.
+pub fn put_vectors(state: u32, inputs: usize, vectors: usize, records: &mut [u8]) -> u32
+    requires { ⌜ (inputs ≤ 64) × (vectors * vectorSize inputs ≤ length (now records)) ⌝ }
+    ensures { λ r. ⌜ r ≡ stateAfter (vectors * inputs) state ⌝ }
+    ensures { λ _. ⌜ now (records .exit) ≡ sets (now (records .entry)) 0 (vectorRecords inputs vectors state) ⌝ }
+{
+    let size = vector_size(inputs);
+    let mut last = state;
+    let mut place = 0;
+    let mut left = vectors;
+    while 0 < left {
+        last = put_vector(last, inputs, records, place);
+        place += size;
+        left -= 1;
+    }
+    last
+}
+
+// The smaller of two numbers.
+fn least(a: usize, b: usize) -> usize
+    ensures { λ r. ⌜ (r ≤ a) × (r ≤ b) ⌝ }
+    ensures { λ r. ⌜ (0 < a → 0 < b → 0 < r) ⌝ }
+{
+    if a < b { a } else { b }
+}
+
+// Fills a buffer with the records of the next vectors: of as many as are left, or as fit.
+pub fn fill(state: u32, inputs: usize, left: usize, records: &mut [u8]) -> Filled
+    requires { ⌜ (1 ≤ inputs) × (inputs ≤ 64) × (2304 ≤ length (now records)) ⌝ }
+    ensures { λ r. ⌜ FilledTrue r state inputs left (now (records .entry)) (now (records .exit)) ⌝ }
+{
+    let size = vector_size(inputs);
+    let vectors = least(left, records.len() / size);
+    let after = put_vectors(state, inputs, vectors, records);
+    Filled {
+        vectors,
+        length: vectors * size,
+        state: after,
+    }
+}
