@@ -1,5 +1,4 @@
 pub mod PackedLaws
-pub mod Tables
 pub mod GateCases
 pub mod PackCases
 pub mod BitLaws

@@ -4,9 +4,10 @@ use mathlib.Core.Path.{_≡_, refl, subst, sym}
 use mathlib.Core.Bool.{Bool, true, false, _&&_, not, Bool·beq}
 use mathlib.Core.List.{List, [], _∷_}
 use mathlib.Core.Logic.{⊎-elim}
-use Prim.Native.Nat.{ℕ, zero, suc, _+_, _-_, _^_, _≤_, _<_}
+use Prim.Native.Nat.{ℕ, zero, suc, _+_, _-_, _/_, _%_, _^_, _≤_, _<_}
 use native.Mathlib.Nat.{not-suc-le-zero, le-of-suc-le-suc, eq-or-lt-of-le}
 use native.Mathlib.Omega.{arith}
+use lib.Bits.{bitAnd, bitXor}
 use lib.Dec.{T, eqb}
 use lib.ListN.{getD}
 use Rattle.model.specs.Base.{allOf, anyOf, bit}
@@ -37,6 +38,11 @@ same true true t = refl
 same true false t = absurd t
 same false true t = absurd t
 same false false t = refl
+
+-- a byte's upper four bits folded onto the lower four: bit n of 0x6996 is the parity of n
+pub folded-odd : (b : ℕ) → b < 256 → eqb (bitAnd (0x6996 / 2 ^ (bitXor b (b / 16) % 16)) 1) 1 ≡ parityOf b
+unfolding bitsIn parityOf
+folded-odd b l = same _ _ (below-at (λ c. Bool·beq (eqb (bitAnd (0x6996 / 2 ^ (bitXor c (c / 16) % 16)) 1) 1) (parityOf c)) 256 tt b l)
 
 module _ (n b : ℕ) (h : n ≤ 8) (l : b < 2 ^ n) where
   pub all-ones : eqb b (2 ^ n - 1) ≡ allOf (λ v. v) (bitsIn n b)

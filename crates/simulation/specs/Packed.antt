@@ -25,10 +25,6 @@ oneWhere false = 0
 unfoldable pub parityOf : ℕ → Bool
 parityOf b = odd (bitsIn 8 b)
 
--- a table with 1 at each byte that has an odd number of ones
-pub record ParityTable (table : List ℕ) : Type 0 where
-  pub entry : (b : ℕ) → b < 256 → eqb (getD table b 0) 1 ≡ parityOf b
-
 -- the pins of which every other pin is outside the set `c`: all of them where it is empty, its one pin where it has one, else none
 unfoldable pub openSet : ℕ → ℕ → ℕ
 openSet full c = elim (eqb c 0) [ true ↦ full | false ↦ elim (eqb (bitAnd c (c - 1)) 0) [ true ↦ c | false ↦ 0 ] ]

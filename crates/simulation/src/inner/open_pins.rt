@@ -51,7 +51,6 @@ pub fn open_masks(
     requires { ⌜ SomeCircuit (now netlist) (now positions) inputs nets ⌝ }
     ensures { λ r. ⌜ ((N : Netlist) (v : List Bool) → CircuitAt N (now (netlist .entry)) (now (positions .entry)) inputs nets → VectorIs N v vector → OpenMasks N v r) ⌝ }
 {
-    let parity = gates::parities();
     let mut values = input_values(vector, inputs);
     let mut masks = [0u8; 512];
     let mut net = inputs;
@@ -61,7 +60,7 @@ pub fn open_masks(
         let pins = netlist[at + 3];
         let packed = gates::pack(netlist, at, inner::wide(pins), &values);
         masks[net] = gates::open_pins(kind, pins, packed);
-        values[net] = one_where(gates::gate_value(kind, pins, packed, &parity));
+        values[net] = one_where(gates::gate_value(kind, pins, packed));
         net += 1;
     }
     masks

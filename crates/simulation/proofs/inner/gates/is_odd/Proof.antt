@@ -1,16 +1,20 @@
--- `simulation::inner::gates::is_odd` meets its contract: it reads the lent table's entry at the byte.
+-- `simulation::inner::gates::is_odd` meets its contract: its rule is computed at all 256 bytes at once.
 -- Assumes nothing.
 use borrow.Author.Needs.{needs}
+use Rattle.simulation.proofs.PackedLaws.{folded-odd}
 use Rattle.simulation.proofs.inner.gates.is_odd.Statement.{statement}
 use Rattle.simulation.proofs.inner.gates.is_odd.Tie as tie
 use Rattle.simulation.proofs.inner.gates.is_odd.Reads as reads
 use Rattle.simulation.proofs.inner.gates.is_odd.Lts as lts
 
-element-copy-out-result : tie.Need-element-copy-out-result
-element-copy-out-result c = search needs
+cast-result : tie.Need-cast-result
+cast-result c = search needs
+
+shr-result : tie.Need-shr-result
+shr-result c = search needs
 
 returns : tie.Need-returns
-returns c = c .before .pre .entry (c .before .args .packed) (search needs)
+returns c = folded-odd (c .args .packed) (search needs)
 
 pub is-odd-spec : {M : Type 1} → statement M
-is-odd-spec = tie.close (tie.spec element-copy-out-result returns)
+is-odd-spec = tie.close (tie.spec cast-result shr-result returns)
