@@ -36,6 +36,9 @@
  *
  * Kinds 1 and 2 (buffer, NOT) have one pin, kinds 3 to 8 (AND, NAND, OR, NOR, XOR, XNOR) 1 to 8. With one pin AND, OR and XOR act as a
  * buffer, NAND, NOR and XNOR as NOT, and the pin is open.
+ *
+ * An output that is an input net is a wire without a gate: it has no path and adds nothing to the paths of the outputs (21 and the survey).
+ * Where all outputs are wires there is no path: every path and fault number is 60. Words of a path without pins are 61.
  */
 #ifndef GENDUWAL_H
 #define GENDUWAL_H

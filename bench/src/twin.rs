@@ -166,8 +166,11 @@ fn read_outputs(mut part: &[u8], survey: &Survey, keep: &mut impl Keep) -> Resul
         if place >= survey.inputs + survey.gates || place < lowest {
             return Err(19);
         }
-        keep.output(net, total);
-        total += survey.counts[place];
+        // An output that is an input net is a wire without a gate: it has no path.
+        if place >= survey.inputs {
+            keep.output(net, total);
+            total += survey.counts[place];
+        }
         if total > MAX_COUNT {
             return Err(21);
         }

@@ -29,55 +29,55 @@ use Rattle.bench_text.proofs.ReadBack.{Read21, Read17, LowerPins, lower
 
 -- ---- outputs
 
-output-refused : (n nets : ℕ) (cs : List ℕ) (least s : ℕ) (bs : List ℕ) → checks (outputRules nets cs least s bs) ≡ refused 21 → readOutputs (suc n) nets cs least s bs ≡ refused 21
+output-refused : (n ins nets : ℕ) (cs : List ℕ) (least s : ℕ) (bs : List ℕ) → checks (outputRules ins nets cs least s bs) ≡ refused 21 → readOutputs (suc n) ins nets cs least s bs ≡ refused 21
 unfolding readOutputs
-output-refused n nets cs least s bs e = rw (e, readOutputs) refl
+output-refused n ins nets cs least s bs e = rw (e, readOutputs) refl
 
-output-taken : (n nets : ℕ) (cs : List ℕ) (least s : ℕ) (bs : List ℕ) → checks (outputRules nets cs least s bs) ≡ value tt
-    → readOutputs (suc n) nets cs least s bs ≡ (readOutputs n nets cs (suc (field 2 2 bs)) (s + outputCount cs (field 2 2 bs)) (drop 4 bs) >>= λ r. value (field 2 2 bs ∷ r .0, r .1))
+output-taken : (n ins nets : ℕ) (cs : List ℕ) (least s : ℕ) (bs : List ℕ) → checks (outputRules ins nets cs least s bs) ≡ value tt
+    → readOutputs (suc n) ins nets cs least s bs ≡ (readOutputs n ins nets cs (suc (field 2 2 bs)) (s + outputCount ins cs (field 2 2 bs)) (drop 4 bs) >>= λ r. value (field 2 2 bs ∷ r .0, r .1))
 unfolding readOutputs
-output-taken n nets cs least s bs e = rw (e, readOutputs) refl
+output-taken n ins nets cs least s bs e = rw (e, readOutputs) refl
 
-output-rules : (o nets : ℕ) (cs : List ℕ) (least s : ℕ) (rest : List ℕ) → least ≤ o → o < nets → nets ≤ 512
-    → checks (outputRules nets cs least s (outputBytes o ++ rest)) ≡ (check 21 (leb (s + outputCount cs (field 2 2 (outputBytes o ++ rest))) maxCount) >> value tt)
+output-rules : (o ins nets : ℕ) (cs : List ℕ) (least s : ℕ) (rest : List ℕ) → least ≤ o → o < nets → nets ≤ 512
+    → checks (outputRules ins nets cs least s (outputBytes o ++ rest)) ≡ (check 21 (leb (s + outputCount ins cs (field 2 2 (outputBytes o ++ rest))) maxCount) >> value tt)
 unfolding outputBytes
-output-rules o nets cs least s rest l h f =
+output-rules o ins nets cs least s rest l h f =
     let b = outputBytes o ++ rest in
     let e : field 2 2 b ≡ o = back o (omega arith) in
-    but-last ((18, leb 4 (length b) && marked 0x4F 0x55 b) ∷ (19, ltb (field 2 2 b) nets && leb least (field 2 2 b)) ∷ []) 21 (leb (s + outputCount cs (field 2 2 b)) maxCount) (
+    but-last ((18, leb 4 (length b) && marked 0x4F 0x55 b) ∷ (19, ltb (field 2 2 b) nets && leb least (field 2 2 b)) ∷ []) 21 (leb (s + outputCount ins cs (field 2 2 b)) maxCount) (
       both (leb 4 (length b)) (marked 0x4F 0x55 b) (le→leb 4 (length b) (omega arith)) tt,
       (both (ltb (field 2 2 b) nets) (leb least (field 2 2 b)) (lt→ltb (field 2 2 b) nets (omega arith)) (le→leb least (field 2 2 b) (omega arith)), tt),
     )
 
-output-join : (n o : ℕ) (os : List ℕ) (nets : ℕ) (cs : List ℕ) (least s : ℕ) (rest : List ℕ) → least ≤ o → o < nets → nets ≤ 512
-    → ((k : ℕ) → Read21 (readOutputs n nets cs (suc o) k rest) (os, [])) → Read21 (readOutputs (suc n) nets cs least s (outputBytes o ++ rest)) (o ∷ os, [])
+output-join : (n o : ℕ) (os : List ℕ) (ins nets : ℕ) (cs : List ℕ) (least s : ℕ) (rest : List ℕ) → least ≤ o → o < nets → nets ≤ 512
+    → ((k : ℕ) → Read21 (readOutputs n ins nets cs (suc o) k rest) (os, [])) → Read21 (readOutputs (suc n) ins nets cs least s (outputBytes o ++ rest)) (o ∷ os, [])
 unfolding Read21 outputBytes
-output-join n o os nets cs least s rest l h f ih =
+output-join n o os ins nets cs least s rest l h f ih =
     let bs = outputBytes o ++ rest in
     let e : field 2 2 bs ≡ o = back o (omega arith) in
-    let sum = s + outputCount cs (field 2 2 bs) in
+    let sum = s + outputCount ins cs (field 2 2 bs) in
     ⊎-elim
     (λ q.
-    let t : checks (outputRules nets cs least s bs) ≡ value tt = output-rules o nets cs least s rest l h f ∙ rw q refl in
-    let u : readOutputs (suc n) nets cs least s bs ≡ (readOutputs n nets cs (suc o) sum rest >>= λ r. value (o ∷ r .0, r .1)) =
-    output-taken n nets cs least s bs t ∙ ap (λ (m : ℕ). readOutputs n nets cs (suc m) sum rest >>= λ r. value (m ∷ r .0, r .1)) e in
+    let t : checks (outputRules ins nets cs least s bs) ≡ value tt = output-rules o ins nets cs least s rest l h f ∙ rw q refl in
+    let u : readOutputs (suc n) ins nets cs least s bs ≡ (readOutputs n ins nets cs (suc o) sum rest >>= λ r. value (o ∷ r .0, r .1)) =
+    output-taken n ins nets cs least s bs t ∙ ap (λ (m : ℕ). readOutputs n ins nets cs (suc m) sum rest >>= λ r. value (m ∷ r .0, r .1)) e in
     ⊎-elim (λ r. inl (u ∙ rw r refl)) (λ r. inr (u ∙ rw r refl)) (ih sum))
-    (λ q. inl (output-refused n nets cs least s bs (output-rules o nets cs least s rest l h f ∙ rw q refl)))
-    (bool-cases (leb (s + outputCount cs (field 2 2 (outputBytes o ++ rest))) maxCount))
+    (λ q. inl (output-refused n ins nets cs least s bs (output-rules o ins nets cs least s rest l h f ∙ rw q refl)))
+    (bool-cases (leb (s + outputCount ins cs (field 2 2 (outputBytes o ++ rest))) maxCount))
 
-outputs-read : (os : List ℕ) (nets : ℕ) (cs : List ℕ) (least s : ℕ) → nets ≤ 512 → T (ascendingNets nets least os) → Read21 (readOutputs (length os) nets cs least s (outputRecords os)) (os, [])
+outputs-read : (os : List ℕ) (ins nets : ℕ) (cs : List ℕ) (least s : ℕ) → nets ≤ 512 → T (ascendingNets nets least os) → Read21 (readOutputs (length os) ins nets cs least s (outputRecords os)) (os, [])
 unfolding ascendingNets outputRecords readOutputs Read21
-outputs-read [] nets cs least s h t = inr refl
-outputs-read (o ∷ os) nets cs least s h t =
+outputs-read [] ins nets cs least s h t = inr refl
+outputs-read (o ∷ os) ins nets cs least s h t =
     let a = and3 (leb least o) (ltb o nets) (ascendingNets nets (suc o) os) t in
-    output-join (length os) o os nets cs least s (outputRecords os) (leb→le least o (a .0)) (ltb→lt o nets (a .1)) h (λ k. outputs-read os nets cs (suc o) k h (a .2))
+    output-join (length os) o os ins nets cs least s (outputRecords os) (leb→le least o (a .0)) (ltb→lt o nets (a .1)) h (λ k. outputs-read os ins nets cs (suc o) k h (a .2))
 
 -- ---- the file
 
 body : Answer (Unit {0}) → ℕ → ℕ → ℕ → List ℕ → Answer Netlist
 body h i g u rest =
     h >> readGates g (replicate i 1) rest
-    >>= λ gs. readOutputs u (i + g) (netByNet gateCount 0 (replicate i 1) (gs .0)) 0 0 (gs .1)
+    >>= λ gs. readOutputs u i (i + g) (netByNet gateCount 0 (replicate i 1) (gs .0)) 0 0 (gs .1)
     >>= λ o. checks ((20, eqb (length (o .1)) 0) ∷ [])
     >> value (record { inputs = i; gates = gs .0; outputs = o .0 })
 
@@ -116,11 +116,11 @@ module _ (i g u : ℕ) (rest : List ℕ) where
   body-gates e = rw e refl
 
   module _ (gs : List Gate) (rest′ : List ℕ) (e : readGates g (replicate i 1) rest ≡ value (gs, rest′)) where
-    body-outputs : readOutputs u (i + g) (netByNet gateCount 0 (replicate i 1) gs) 0 0 rest′ ≡ refused 21 → body (value tt) i g u rest ≡ refused 21
+    body-outputs : readOutputs u i (i + g) (netByNet gateCount 0 (replicate i 1) gs) 0 0 rest′ ≡ refused 21 → body (value tt) i g u rest ≡ refused 21
     unfolding body
     body-outputs q = rw (e, q) refl
 
-    body-whole : (os : List ℕ) → readOutputs u (i + g) (netByNet gateCount 0 (replicate i 1) gs) 0 0 rest′ ≡ value (os, [])
+    body-whole : (os : List ℕ) → readOutputs u i (i + g) (netByNet gateCount 0 (replicate i 1) gs) 0 0 rest′ ≡ value (os, [])
         → body (value tt) i g u rest ≡ value (record { inputs = i; gates = gs; outputs = os })
     unfolding body
     body-whole os q = rw (e, q) refl
@@ -157,8 +157,8 @@ circuit-taken c l a =
     ⊎-elim
     (λ r. inr (inr (h ∙ body-outputs I G U rest gs (outputRecords os) q r)))
     (λ r. inl (h ∙ body-whole I G U rest gs (outputRecords os) q os r))
-    (subst (λ (n : ℕ). Read21 (readOutputs n (I + G) (netByNet gateCount 0 (replicate I 1) gs) 0 0 (outputRecords os)) (os, [])) count
-    (outputs-read os (I + G) (netByNet gateCount 0 (replicate I 1) gs) 0 0 (l .fewNets) (outputs-ascend (I + G) 0 (netNames c) (c .outputs) (names-fit c)))))
+    (subst (λ (n : ℕ). Read21 (readOutputs n I (I + G) (netByNet gateCount 0 (replicate I 1) gs) 0 0 (outputRecords os)) (os, [])) count
+    (outputs-read os I (I + G) (netByNet gateCount 0 (replicate I 1) gs) 0 0 (l .fewNets) (outputs-ascend (I + G) 0 (netNames c) (c .outputs) (names-fit c)))))
     (gates-read (netNames c) (c .gates) I (replicate I 1) (outputRecords os) ones (l .fewNets) (lower c l) (l .fits))
 
 -- The survey takes every result, unless its counts pass 2^62

@@ -22,7 +22,7 @@ use Rattle.runs.proofs.RunLaws.{cases}
 use Rattle.runs.proofs.WordLaws.{length-writeRuns, answer-fits}
 use Rattle.runs.proofs.Adding.{answer-count, answer-over, adds-count}
 use Rattle.coverage.proofs.AddLaws.{as-adds}
-use Rattle.coverage.specs.Parts.{parts, outAt, always, netPart, OutputsReady}
+use Rattle.coverage.specs.Parts.{parts, outAt, atGate, gateCounts, netPart, OutputsReady}
 use Rattle.coverage.specs.Scene.{Case, allRuns, Scene, Done, NetsAt, NetsMade}
 use Rattle.coverage.specs.Edges.{OutputsAt, EdgeAt, detected, working, Detects}
 use Rattle.coverage.proofs.OutLaws.{few-detected, working-all, outputs-ready, outputs-make}
@@ -78,10 +78,11 @@ module _ (K : Case) (file positions pathCounts masks : List ℕ) (edges inputs n
       same : length ws ≡ length ws₀
       same = adds-length ws₀ ws 0 maxRuns (allRuns K netCount) q (m .adds)
 
-      pub edge-outputs : OutputsReady file at outputs pathCounts starts ws
+      pub edge-outputs : OutputsReady file at inputs outputs pathCounts starts ws
       edge-outputs = outputs-ready K file positions pathCounts masks edges inputs netCount at outputs ws₀ a ws starts n same d
 
-      pub edge-detects : (ws′ : List ℕ) (r : Added) → Adds ws ws′ maxRuns maxRuns (addRuns [] (parts (netPart (outAt file at) always pathCounts starts ws) 0 outputs)) r
+      pub edge-detects : (ws′ : List ℕ) (r : Added)
+          → Adds ws ws′ maxRuns maxRuns (addRuns [] (parts (netPart (outAt file at) (atGate inputs (outAt file at)) (gateCounts inputs pathCounts) starts ws) 0 outputs)) r
           → Detects K ws₀ ws′ r
       edge-detects ws′ r x =
           let y : Adds ws ws′ maxRuns maxRuns (detected K) r =

@@ -4,6 +4,7 @@ pub mod PartLoop
 pub mod NetLaws
 pub mod NetsLoop
 pub mod OutLaws
+pub mod OutLoop
 pub mod EdgeLaws
 pub mod QuietLaws
 pub mod CoverLaws

@@ -52,11 +52,11 @@ use Rattle.coverage.proofs.WorkRules.{work-rules}
 
 -- What the tables of a legal netlist and the pins of a test say to the interval work
 module _ (N : Netlist) (netlist positions pathCounts : List ℕ) (inputs netCount outputs : ℕ) (c : CircuitTables N netlist positions pathCounts inputs netCount outputs) where
-  tables : Tables netlist positions pathCounts outputs
-  tables = record { netlist = N; isRead = c .legal; positionsAre = c .positionsAre; countsAre = c .countsAre; outputsAre = c .outputsAre }
+  tables : Tables netlist positions pathCounts inputs outputs
+  tables = record { netlist = N; isRead = c .legal; positionsAre = c .positionsAre; countsAre = c .countsAre; inputsAre = c .inputsAre; outputsAre = c .outputsAre }
 
   pub outputs-inside : 4 * outputs ≤ length netlist
-  outputs-inside = outputs-room netlist positions pathCounts outputs tables
+  outputs-inside = outputs-room netlist positions pathCounts inputs outputs tables
 
   pub few-outputs : outputs ≤ 64
   few-outputs = omega (arith, c .outputsAre, limits netlist N (c .legal) .fewOutputs)
@@ -75,7 +75,7 @@ module _ (N : Netlist) (netlist positions pathCounts : List ℕ) (inputs netCoun
   outputs-at = record {
     outputsAre = c .outputsAre;
     inFile = omega (arith, outputs-inside);
-    netsAt = λ o h. output-net-at netlist positions pathCounts outputs tables o (omega (arith, c .outputsAre));
+    netsAt = λ o h. output-net-at netlist positions pathCounts inputs outputs tables o (omega (arith, c .outputsAre));
   }
 
   module _ (t : Test) (masks : List ℕ) (rises falls : ℕ) (p : PinsOf N t masks rises falls) (work : List ℕ) (l : workWords ≤ length work) where

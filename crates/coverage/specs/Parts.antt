@@ -1,9 +1,10 @@
 -- The runs of one net after the other in the working words, and the parts that a gate's pins and the outputs add.
 -- Assumes nothing.
 use Prim.Native.Nat.{ℕ, zero, suc, _+_, _-_, _*_, _≤_, _<_, _^_}
-use mathlib.Core.Bool.{Bool, true}
+use mathlib.Core.Bool.{Bool}
 use mathlib.Core.List.{List, [], _∷_, _++_}
-use lib.ListN.{length, getD}
+use lib.Dec.{leb}
+use lib.ListN.{length, getD, drop, replicate}
 use Rattle.model.specs.Base.{field, bit}
 use Rattle.model.specs.Runs.{Run}
 use Rattle.model.specs.Store.{maxRuns}
@@ -36,9 +37,13 @@ pinAt file at p = field (at + 4 + 2 * p) 2 file
 abbrev pub outAt : List ℕ → ℕ → ℕ → ℕ
 outAt file at o = field (at + 4 * o + 2) 2 file
 
--- every place counts
-abbrev pub always : ℕ → Bool
-always p = true
+-- the place of an output at a gate's net: one at an input net, a wire without a gate, has no path
+abbrev pub atGate : ℕ → (ℕ → ℕ) → ℕ → Bool
+atGate inputs netOf o = leb inputs (netOf o)
+
+-- the counts with none at the input nets: how many paths an output at a net has
+unfoldable pub gateCounts : ℕ → List ℕ → List ℕ
+gateCounts inputs counts = replicate inputs 0 ++ drop inputs counts
 
 -- the runs of a net stand before run place `start`
 pub record NetReady (starts ws : List ℕ) (start net : ℕ) : Type 0 where
@@ -61,6 +66,6 @@ pub record GateReady (file : List ℕ) (at pins : ℕ) (counts starts ws : List 
   pub ready : PartsReady (pinAt file at) pins counts starts ws start (maxRuns - start)
 
 -- the records of the outputs lie in the file; the runs of all nets are before run place 1,024
-pub record OutputsReady (file : List ℕ) (at outputs : ℕ) (counts starts ws : List ℕ) : Type 0 where
+pub record OutputsReady (file : List ℕ) (at inputs outputs : ℕ) (counts starts ws : List ℕ) : Type 0 where
   pub inFile : at + 4 * outputs ≤ length file
-  pub ready : PartsReady (outAt file at) outputs counts starts ws maxRuns maxRuns
+  pub ready : PartsReady (outAt file at) outputs (gateCounts inputs counts) starts ws maxRuns maxRuns

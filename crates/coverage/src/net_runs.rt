@@ -3,13 +3,13 @@
 ghost use mathlib.Core.Path.{_≡_};
 ghost use mathlib.Core.List.{[], _∷_};
 ghost use Prim.Native.Nat.{ℕ, _+_, _-_, _*_, _<_, _≤_, _^_};
-ghost use lib.Dec.{eqb};
+ghost use lib.Dec.{eqb, leb};
 ghost use lib.ListN.{length};
 ghost use Rattle.model.specs.Base.{bit};
 ghost use Rattle.model.specs.Store.{maxRuns};
 ghost use Rattle.runs.specs.Runs.{run, addRuns, shiftRuns, onlyIf, runsInWords};
 ghost use Rattle.runs.specs.Answers.{Room, Adds};
-ghost use Rattle.coverage.specs.Parts.{parts, runsIn, pinAt, outAt, always, netPart, NetReady, GateReady, OutputsReady};
+ghost use Rattle.coverage.specs.Parts.{parts, runsIn, pinAt, outAt, atGate, gateCounts, netPart, NetReady, GateReady, OutputsReady};
 ghost use Rattle.coverage.specs.Edges.{EdgeAt, SomeEdgeAt, Detects};
 ghost use Rattle.coverage.specs.Scene.{Case, setRuns, NetAt, SomeNetAt, NetsAt, SomeNetsAt, NetsMade};
 use model::MAX_RUNS;
@@ -216,24 +216,45 @@ fn net_runs(
     Added::Count(start)
 }
 
+// Adds the runs of an output's net, shifted. An output at an input's net, a wire without a gate, has no path and adds none.
+fn add_output(
+    inputs: usize,
+    starts: &[u16; 513],
+    net: usize,
+    words: &mut [u64],
+    count: usize,
+    offset: u64,
+) -> Added
+    requires { ⌜ Room (now words) maxRuns count maxRuns ⌝ }
+    requires { ⌜ NetReady (now starts) (now words) maxRuns net ⌝ }
+    requires { ⌜ offset ≤ 2 ^ 62 ⌝ }
+    ensures { λ r. ⌜ Adds (now (words .entry)) (now (words .exit)) maxRuns maxRuns (addRuns (runsInWords (now (words .entry)) maxRuns count) (onlyIf (leb inputs net) (shiftRuns offset (runsIn (now (starts .entry)) (now (words .entry)) net)))) r ⌝ }
+{
+    if net < inputs {
+        return Added::Count(count);
+    }
+    add_net(starts, net, words, MAX_RUNS, count, MAX_RUNS, offset)
+}
+
 // Makes the runs of the detected path numbers, output by output, in the second quarter of the words.
 fn out_runs(
     netlist: &[u8],
     at: usize,
+    inputs: usize,
     outputs: usize,
     counts: &[u64; 512],
     starts: &[u16; 513],
     words: &mut [u64],
 ) -> Added
-    requires { ⌜ OutputsReady (now netlist) at outputs (now counts) (now starts) (now words) ⌝ }
-    ensures { λ r. ⌜ Adds (now (words .entry)) (now (words .exit)) maxRuns maxRuns (addRuns [] (parts (netPart (outAt (now (netlist .entry)) at) always (now (counts .entry)) (now (starts .entry)) (now (words .entry))) 0 outputs)) r ⌝ }
+    requires { ⌜ OutputsReady (now netlist) at inputs outputs (now counts) (now starts) (now words) ⌝ }
+    ensures { λ r. ⌜ Adds (now (words .entry)) (now (words .exit)) maxRuns maxRuns (addRuns [] (parts (netPart (outAt (now (netlist .entry)) at) (atGate inputs (outAt (now (netlist .entry)) at)) (gateCounts inputs (now (counts .entry))) (now (starts .entry)) (now (words .entry))) 0 outputs)) r ⌝ }
 {
     let mut place = 0;
     let mut count = 0;
     let mut offset: u64 = 0;
     while place < outputs {
         let net = records::inner::u16_at(netlist, at + 4 * place + 2);
-        match add_net(starts, net, words, MAX_RUNS, count, MAX_RUNS, offset) {
+        match add_output(inputs, starts, net, words, count, offset) {
             Added::Count(c) => {
                 count = c;
             }
@@ -241,7 +262,7 @@ fn out_runs(
                 return Added::Full;
             }
         }
-        offset += counts[net];
+        offset += netlist::inner::output_paths(counts, inputs, net);
         place += 1;
     }
     Added::Count(count)
@@ -275,7 +296,7 @@ fn make_detected(
         &mut starts,
         words,
     ) {
-        Added::Count(_) => out_runs(netlist, at, outputs, counts, &starts, words),
+        Added::Count(_) => out_runs(netlist, at, inputs, outputs, counts, &starts, words),
         Added::Full => Added::Full,
     }
 }

@@ -65,12 +65,13 @@ gates-numbered (suc n) cs bs =
     let rules = gateRules (length cs) cs bs in
     step-numbered (checks rules >> _) (λ r. value (gateIn bs ∷ r .0, r .1)) (then-numbered (checks rules) _ (checks-numbered rules tt) (gates-numbered n _ _)) (λ r. tt)
 
-outputs-numbered : (n nets : ℕ) (cs : List ℕ) (least s : ℕ) (bs : List ℕ) → Numbered (readOutputs n nets cs least s bs)
+outputs-numbered : (n inputs nets : ℕ) (cs : List ℕ) (least s : ℕ) (bs : List ℕ) → Numbered (readOutputs n inputs nets cs least s bs)
 unfolding readOutputs
-outputs-numbered zero nets cs least s bs = tt
-outputs-numbered (suc n) nets cs least s bs =
-    let rules = outputRules nets cs least s bs in
-    step-numbered (checks rules >> _) (λ r. value (field 2 2 bs ∷ r .0, r .1)) (then-numbered (checks rules) _ (checks-numbered rules tt) (outputs-numbered n nets cs _ _ _)) (λ r. tt)
+outputs-numbered zero inputs nets cs least s bs = tt
+outputs-numbered (suc n) inputs nets cs least s bs =
+    let rules = outputRules inputs nets cs least s bs in
+    step-numbered (checks rules >> _) (λ r. value (field 2 2 bs ∷ r .0, r .1))
+    (then-numbered (checks rules) _ (checks-numbered rules tt) (outputs-numbered n inputs nets cs _ _ _)) (λ r. tt)
 
 netlist-numbered : (bs : List ℕ) → Numbered (readNetlist bs)
 unfolding readNetlist
@@ -78,8 +79,8 @@ netlist-numbered bs =
     let rules = headerRules bs in
     let gates = readGates (gatesIn bs) (inputCounts bs) (drop 8 bs) in
     step-numbered (checks rules >> gates) _ (then-numbered (checks rules) gates (checks-numbered rules tt) (gates-numbered (gatesIn bs) (inputCounts bs) (drop 8 bs)))
-    (λ g. step-numbered (readOutputs (outputsIn bs) (inputsIn bs + gatesIn bs) (netByNet gateCount 0 (inputCounts bs) (g .0)) 0 0 (g .1)) _
-    (outputs-numbered (outputsIn bs) (inputsIn bs + gatesIn bs) (netByNet gateCount 0 (inputCounts bs) (g .0)) 0 0 (g .1))
+    (λ g. step-numbered (readOutputs (outputsIn bs) (inputsIn bs) (inputsIn bs + gatesIn bs) (netByNet gateCount 0 (inputCounts bs) (g .0)) 0 0 (g .1)) _
+    (outputs-numbered (outputsIn bs) (inputsIn bs) (inputsIn bs + gatesIn bs) (netByNet gateCount 0 (inputCounts bs) (g .0)) 0 0 (g .1))
     (λ o. then-numbered (checks ((20, eqb (length (o .1)) 0) ∷ [])) _ (checks-numbered ((20, eqb (length (o .1)) 0) ∷ []) tt) tt))
 
 -- what the caller kept

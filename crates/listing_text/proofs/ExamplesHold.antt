@@ -5,7 +5,7 @@ use mathlib.Core.Bool.{_&&_}
 use mathlib.Core.List.{List}
 use Prim.Native.Nat.{ℕ}
 use lib.Dec.{T}
-use Rattle.model.specs.Netlist.{counts, pathTotal}
+use Rattle.model.specs.Netlist.{counts, outputCount, pathTotal}
 use Rattle.model.specs.Detect.{inNetSet, detects, allOpen, hasEdge, openPin, values, detectsNumber}
 use Rattle.model.specs.Path.{pathOf, pathAt, split}
 use Rattle.model.specs.Runs.{runsOf, runsFrom, addNumber, workingRuns, inRuns, size, howMany, howManyFrom, separatedRuns}
@@ -26,7 +26,7 @@ both : T (sameBytes (listingText Q threeTests) eightLines && sameBytes (listingT
 unfolding threeTests eightLines twoRefused refusedLines Q detectsNone detectsFalling detectsRising
     listingText listingOf storeLines totalsLines runLines listedRecords storeAfterAll recordLines recordLine refusedLine pathsLine
     digitsOf decimalText refusedText storeAfter returnedBy testStage tested storeRuns storeOf
-    readNetlist readGates readOutputs testOf counts pathTotal pathOf pathAt split detectsNumber detects allOpen hasEdge openPin values
+    readNetlist readGates readOutputs testOf counts outputCount pathTotal pathOf pathAt split detectsNumber detects allOpen hasEdge openPin values
     workingRuns inNetSet runsOf runsFrom addNumber separatedRuns inRuns howMany howManyFrom size
 both = tt
 

@@ -7,7 +7,7 @@ use Prim.Native.Nat.{ℕ, _<_}
 use lib.Dec.{T, eqb, eqb→eq}
 use lib.ListN.{length, getD}
 use Rattle.model.specs.Base.{Answer, refused, value, allOf}
-use Rattle.model.specs.Netlist.{counts, pathTotal}
+use Rattle.model.specs.Netlist.{counts, outputCount, pathTotal}
 use Rattle.model.specs.Path.{pathOf, pathAt, split, faultNumber}
 use Rattle.model.specs.Detect.{inNetSet, detects, allOpen, hasEdge, openPin, values, detectsNumber}
 use Rattle.model.specs.Runs.{runsOf, runsFrom, addNumber, workingRuns, inRuns, size, howMany, howManyFrom, separatedRuns}
@@ -18,7 +18,7 @@ use Rattle.model.specs.Report.{sameBytes, reportHead, reportRecord, test
 use Rattle.model.specs.Encode.{headerBytes, netBytes, gateBytes, outputBytes, testBytes}
 use Rattle.model.specs.SinglePin.{readGatesBy, readNetlistBy}
 use Rattle.model.specs.Examples.{Row, row, starred, further, requested, reply, faultIf, faultList, enoughWork, firstRuns, netCounts}
-use Rattle.model.specs.Examples.{Q, detectsNone, detectsFalling, detectsRising, chain, doubling, spread, aRises, reportOfThree, oneGate, besideOnePin, bRises}
+use Rattle.model.specs.Examples.{Q, detectsNone, detectsFalling, detectsRising, chain, doubling, spread, aRises, reportOfThree, outputsBytes, oneGate, besideOnePin, bRises, withOutputs, halves}
 use Rattle.model.proofs.ListLaws.{allOf-at}
 use Rattle.model.proofs.BoolLaws.{and-left, and-right}
 use Rattle.model.proofs.AnswerLaws.{same→}
@@ -42,15 +42,15 @@ right r = same (reply (r .netlist) (r .question)) (r .answer)
 all-right : T (allOf right starred && allOf right further)
 unfolding starred further right same row aRises spread doubling Q detectsNone detectsFalling detectsRising reportOfThree enoughWork firstRuns
     outputBytes headerBytes chain gateBytes netBytes testBytes reply faultList faultIf
-    readNetlist readGates readOutputs counts pathTotal pathOf pathAt split detectsNumber detects allOpen hasEdge openPin values faultNumber
+    readNetlist readGates readOutputs counts outputCount pathTotal pathOf pathAt split detectsNumber detects allOpen hasEdge openPin values faultNumber
     testOf workingRuns inNetSet runsOf runsFrom addNumber testCall testStage tested storeRuns separatedRuns inRuns howMany howManyFrom
     auditCall testAll storeOf reportRecord reportHead size
 all-right = tt
 
 all-requested : T (allOf right requested)
-unfolding requested right same row Q oneGate besideOnePin bRises outputBytes headerBytes gateBytes netBytes testBytes reply faultList faultIf
-    readNetlist readNetlistBy readGates readGatesBy readOutputs counts pathTotal pathOf pathAt split detectsNumber detects allOpen hasEdge openPin
-    values faultNumber testOf
+unfolding requested right same row Q oneGate besideOnePin bRises withOutputs halves chain detectsRising outputsBytes outputBytes headerBytes gateBytes netBytes testBytes reply faultList faultIf
+    readNetlist readNetlistBy readGates readGatesBy readOutputs counts outputCount pathTotal pathOf pathAt split detectsNumber detects allOpen hasEdge
+    openPin values faultNumber testOf
 all-requested = tt
 
 abbrev noRow : Row

@@ -24,3 +24,4 @@ pub mod FileLaws
 pub mod ReportNames
 pub mod ExamplesHold
 pub mod ReportsHold
+pub mod WiresHold

@@ -1,20 +1,20 @@
 -- A list built net by net: what it holds at each net.
 -- Assumes nothing.
 use mathlib.Core.Path.{_≡_, refl, ap, ap₂, sym, _∙_, subst}
-use mathlib.Core.Bool.{Bool, false}
+use mathlib.Core.Bool.{Bool, true, false}
 use mathlib.Core.List.{List, [], _∷_, _++_}
 use Prim.Native.Nat.{ℕ, zero, suc, _+_, _-_, _≤_, _<_}
 use native.Mathlib.Nat.{add-zero, add-suc, suc-add, le-of-suc-le-suc, not-suc-le-zero}
 use native.Mathlib.Omega.{arith}
-use lib.Dec.{T, ltb, ltb→lt}
+use lib.Dec.{T, ltb, ltb→lt, lt→ltb}
 use lib.ListN.{length, getD, replicate, length-append, length-replicate, getD-replicate, List·getD-append}
 use lib.Seq.{getD-append-seam}
 use Rattle.model.specs.Base.{allOf, sumOf}
-use Rattle.model.specs.Netlist.{Netlist, Gate, noGate, netByNet, atNets, counts, gateCount, pinsOf, nets, gateOf}
+use Rattle.model.specs.Netlist.{Netlist, Gate, noGate, netByNet, atNets, counts, gateCount, outputCount, pinsOf, nets, gateOf}
 use Rattle.model.specs.Detect.{values, gateValue}
 use Rattle.model.proofs.ListLaws.{allOf-head, allOf-tail}
 use Rattle.model.proofs.WellFormed.{lower}
-use Rattle.model.proofs.BoolLaws.{and-left, and-right}
+use Rattle.model.proofs.BoolLaws.{and-left, and-right, T→true, lt-false}
 
 module _ {A : Type 0} (f : Gate → List A → A) (d : A) where
   -- one more value
@@ -75,6 +75,20 @@ unfolding counts
 count-gate N t net h l =
     ap (λ i. getD (counts N) i 0) (omega (arith, length-replicate {A = ℕ} (N .inputs) 1))
     ∙ at-gate gateCount 0 (N .gates) (replicate (N .inputs) 1) (rw length-replicate t) (net - N .inputs) (omega arith)
+
+-- The paths that end at an output: none at an input net, the count of the net at a gate's
+pub output-count-wire : (inputs : ℕ) (cs : List ℕ) (net : ℕ) → net < inputs → outputCount inputs cs net ≡ 0
+unfolding outputCount
+output-count-wire inputs cs net h = rw (T→true (ltb net inputs) (lt→ltb net inputs h), outputCount) refl
+
+pub output-count-gate : (inputs : ℕ) (cs : List ℕ) (net : ℕ) → inputs ≤ net → outputCount inputs cs net ≡ getD cs net 0
+unfolding outputCount
+output-count-gate inputs cs net h = rw (lt-false (suc net) inputs (omega arith), outputCount) refl
+
+-- from a count under another name
+pub output-count-same : {i j : ℕ} (cs ds : List ℕ) (net : ℕ) → i ≡ j → getD cs net 0 ≡ getD ds net 0 → outputCount i cs net ≡ outputCount j ds net
+unfolding outputCount
+output-count-same cs ds net e d = ap₂ {C = ℕ} (λ k c. elim (ltb net k) [ true ↦ 0 | false ↦ c ]) e d
 
 -- The values: the vector at an input, the gate's function of its pins at a gate
 module _ (N : Netlist) (v : List Bool) (h : length v ≡ N .inputs) where

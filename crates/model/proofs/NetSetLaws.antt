@@ -65,12 +65,12 @@ module _ (N : Netlist) (w : WellFormed N) where
       (same-fuel net q q r (omega arith) (omega arith) (omega arith) m h)
 
   -- a path's fault of an edge, from its output's set
-  pub set-output : (t : Test) (e : Edge) (o r : ℕ) → o < length (N .outputs) → 1 ≤ r → r ≤ getD (counts N) (outputNet N o) 0
+  pub set-output : (t : Test) (e : Edge) (o r : ℕ) → o < length (N .outputs) → 1 ≤ r → r ≤ getD (outputCounts N) o 0
       → detectsNumber N t e (r + countsBefore o (outputCounts N)) ≡ inNetSet N t e (outputNet N o) r
   unfolding detectsNumber detects pathOf inNetSet
   set-output t e o r j m h =
       ap (λ s. allOpen N (openPin N t) (hasEdge t e) (outputNet N (s .0)) (pathAt N (outputNet N (s .0)) (outputNet N (s .0)) (s .1)))
-      (split-back (outputCounts N) o r (rw (length-outputCounts N w) j) m (rw (outputCounts-at N w o j) h))
+      (split-back (outputCounts N) o r (rw (length-outputCounts N w) j) m h)
 
   -- A number is in a net's set exactly when it is that of a partial path through open pins from an input that makes the edge
   pub set-means : (t : Test) (e : Edge) (net k : ℕ) → net < nets N → 1 ≤ k → k ≤ getD (counts N) net 0

@@ -11,13 +11,13 @@ use lib.Dec.{T, ltb, leb, ltb→lt, lt→ltb, nltb→le}
 use lib.ListN.{length, getD, length-map}
 use lib.Seq.{take-all}
 use Rattle.model.specs.Base.{allOf, sumOf}
-use Rattle.model.specs.Netlist.{Netlist, Gate, noGate, counts, pinsOf, pinNet, nets, isInput, pinCounts, outputCounts, outputNet, pathTotal}
+use Rattle.model.specs.Netlist.{Netlist, Gate, noGate, counts, pinsOf, pinNet, nets, isInput, pinCounts, outputCount, outputCounts, outputNet, pathTotal}
 use Rattle.model.specs.Path.{CircuitPath, countsBefore, split, validAt, numberAt, pathAt, valid, numberOf, pathOf}
 use Rattle.model.specs.Numbering.{PathNumbered}
 use Rattle.model.proofs.WellFormed.{lower, WellFormed, ascendingNets}
 use Rattle.model.proofs.BoolLaws.{and-left, and-right, le-true, lt-false, T→true, le-or-lt, and3, all3, le→not-ltb, both}
 use Rattle.model.proofs.ListLaws.{getD-map-in, allOf-at}
-use Rattle.model.proofs.NetLaws.{count-input, count-gate}
+use Rattle.model.proofs.NetLaws.{count-input, count-gate, output-count-wire, output-count-gate}
 
 -- which place a number falls into
 pub record Splits (cs : List ℕ) (k : ℕ) (s : ℕ × ℕ) : Type 0 where
@@ -187,21 +187,51 @@ module _ (N : Netlist) (w : WellFormed N) where
   output-net o h = ascending-at (nets N) (N .outputs) 0 (w .outputsOk) o h
 
   pub length-outputCounts : length (outputCounts N) ≡ length (N .outputs)
-  length-outputCounts = length-map (N .outputs) (λ n. getD (counts N) n 0)
+  length-outputCounts = length-map (N .outputs) (outputCount (N .inputs) (counts N))
 
-  pub outputCounts-at : (o : ℕ) → o < length (N .outputs) → getD (outputCounts N) o 0 ≡ getD (counts N) (outputNet N o) 0
-  outputCounts-at o h = getD-map-in (λ n. getD (counts N) n 0) (N .outputs) o 0 0 h
+  -- the count of an output: that of its net at a gate's net, none at an input net
+  pub outputCounts-is : (o : ℕ) → o < length (N .outputs) → getD (outputCounts N) o 0 ≡ outputCount (N .inputs) (counts N) (outputNet N o)
+  outputCounts-is o h = getD-map-in (outputCount (N .inputs) (counts N)) (N .outputs) o 0 0 h
+
+  pub outputCounts-at : (o : ℕ) → o < length (N .outputs) → N .inputs ≤ outputNet N o → getD (outputCounts N) o 0 ≡ getD (counts N) (outputNet N o) 0
+  outputCounts-at o h i = outputCounts-is o h ∙ output-count-gate (N .inputs) (counts N) (outputNet N o) i
+
+  pub outputCounts-none : (o : ℕ) → o < length (N .outputs) → outputNet N o < N .inputs → getD (outputCounts N) o 0 ≡ 0
+  outputCounts-none o h i = outputCounts-is o h ∙ output-count-wire (N .inputs) (counts N) (outputNet N o) i
+
+  -- an output that has a path is at a gate's net
+  pub output-gate : (o : ℕ) → o < length (N .outputs) → 1 ≤ getD (outputCounts N) o 0 → N .inputs ≤ outputNet N o
+  output-gate o h m = ⊎-elim (λ i. i) (λ i. absurd (omega (arith, outputCounts-none o h i))) (le-or-lt (N .inputs) (outputNet N o))
+
+  -- a partial path has a pin exactly where its net is a gate's
+  pins-gate : (net : ℕ) (ps : List ℕ) → T (ltb 0 (length ps)) → T (validAt N net ps) → N .inputs ≤ net
+  unfolding validAt
+  pins-gate net [] s v = absurd s
+  pins-gate net (p ∷ ps) s v = nltb→le net (N .inputs) (and3 (not (isInput N net)) (ltb p (length (pinsOf N net))) (validAt N (pinNet N net p) ps) v .0)
+
+  gate-pins : (net : ℕ) (ps : List ℕ) → N .inputs ≤ net → T (validAt N net ps) → T (ltb 0 (length ps))
+  unfolding validAt
+  gate-pins net [] i v = absurd (omega (arith, ltb→lt net (N .inputs) v))
+  gate-pins net (p ∷ ps) i v = lt→ltb 0 (length (p ∷ ps)) (omega arith)
 
   pub valid-parts : (p : CircuitPath) → T (valid N p) → (p .output < length (N .outputs)) × T (validAt N (outputNet N (p .output)) (p .pins))
   unfolding valid
-  valid-parts p v = (
-    ltb→lt _ _ (and-left (ltb (p .output) (length (N .outputs))) (validAt N (outputNet N (p .output)) (p .pins)) v),
-    and-right (ltb (p .output) (length (N .outputs))) (validAt N (outputNet N (p .output)) (p .pins)) v,
-  )
+  valid-parts p v =
+      let q = and3 (ltb (p .output) (length (N .outputs))) (ltb 0 (length (p .pins))) (validAt N (outputNet N (p .output)) (p .pins)) v in
+      (ltb→lt _ _ (q .0), q .2)
 
-  of-valid : (p : CircuitPath) → p .output < length (N .outputs) → T (validAt N (outputNet N (p .output)) (p .pins)) → T (valid N p)
+  pub valid-gate : (p : CircuitPath) → T (valid N p) → N .inputs ≤ outputNet N (p .output)
   unfolding valid
-  of-valid p o v = both (ltb (p .output) (length (N .outputs))) (validAt N (outputNet N (p .output)) (p .pins)) (lt→ltb _ _ o) v
+  valid-gate p v =
+      let q = and3 (ltb (p .output) (length (N .outputs))) (ltb 0 (length (p .pins))) (validAt N (outputNet N (p .output)) (p .pins)) v in
+      pins-gate (outputNet N (p .output)) (p .pins) (q .1) (q .2)
+
+  of-valid : (p : CircuitPath) → p .output < length (N .outputs) → N .inputs ≤ outputNet N (p .output) → T (validAt N (outputNet N (p .output)) (p .pins))
+      → T (valid N p)
+  unfolding valid
+  of-valid p o i v =
+      all3 (ltb (p .output) (length (N .outputs))) (ltb 0 (length (p .pins))) (validAt N (outputNet N (p .output)) (p .pins))
+      (lt→ltb _ _ o) (gate-pins (outputNet N (p .output)) (p .pins) i v) v
 
   -- Numbers run from 1 to T
   pub numbers-bounds : (p : CircuitPath) → T (valid N p) → (1 ≤ numberOf N p) × (numberOf N p ≤ pathTotal N)
@@ -209,7 +239,8 @@ module _ (N : Netlist) (w : WellFormed N) where
   numbers-bounds p v =
       let q = valid-parts p v in
       let b = number-bounds (p .pins) (outputNet N (p .output)) (output-net (p .output) (q .0)) (q .1) in
-      omega (arith, b .0, b .1, outputCounts-at (p .output) (q .0), countsBefore-le (outputCounts N) (p .output) (rw length-outputCounts (q .0)))
+      let c = outputCounts-at (p .output) (q .0) (valid-gate p v) in
+      omega (arith, b .0, b .1, c, countsBefore-le (outputCounts N) (p .output) (rw length-outputCounts (q .0)))
 
   -- The path of a path's number is that path
   pub path-of-number : (p : CircuitPath) → T (valid N p) → pathOf N (numberOf N p) ≡ p
@@ -219,7 +250,7 @@ module _ (N : Netlist) (w : WellFormed N) where
       let b = number-bounds (p .pins) (outputNet N (p .output)) (output-net (p .output) (q .0)) (q .1) in
       ap {B = CircuitPath} (λ s. record { output = s .0; pins = pathAt N (outputNet N (s .0)) (outputNet N (s .0)) (s .1) })
       (split-back (outputCounts N) (p .output) (numberAt N (outputNet N (p .output)) (p .pins)) (rw length-outputCounts (q .0)) (b .0)
-      (rw (outputCounts-at (p .output) (q .0)) (b .1)))
+      (rw (outputCounts-at (p .output) (q .0) (valid-gate p v)) (b .1)))
       ∙ ap {B = CircuitPath} (λ r. record { output = p .output; pins = r })
       (path-back (p .pins) (outputNet N (p .output)) (outputNet N (p .output)) (omega arith) (output-net (p .output) (q .0)) (q .1))
 
@@ -229,6 +260,7 @@ module _ (N : Netlist) (w : WellFormed N) where
   number-of-path k l h =
       let s = splits (outputCounts N) k l h in
       let o : split (outputCounts N) k .0 < length (N .outputs) = rw length-outputCounts at (s .place) in
+      let g : N .inputs ≤ outputNet N (split (outputCounts N) k .0) = output-gate (split (outputCounts N) k .0) o (omega (arith, s .low, s .high)) in
       let b = number-back (outputNet N (split (outputCounts N) k .0)) (outputNet N (split (outputCounts N) k .0)) (split (outputCounts N) k .1)
-      (omega arith) (output-net _ o) (s .low) (omega (arith, s .high, outputCounts-at _ o)) in
-      record { isPath = of-valid _ o (b .isValid); number = omega (arith, b .sameNumber, s .whole) }
+      (omega arith) (output-net _ o) (s .low) (omega (arith, s .high, outputCounts-at _ o g)) in
+      record { isPath = of-valid _ o g (b .isValid); number = omega (arith, b .sameNumber, s .whole) }

@@ -3,14 +3,14 @@
 use mathlib.Core.Path.{_≡_, refl, ap, sym, _∙_, subst}
 use mathlib.Core.Bool.{Bool, _&&_}
 use mathlib.Core.Logic.{⊎-elim}
-use mathlib.Core.List.{List, [], _∷_, _++_}
+use mathlib.Core.List.{List, [], _∷_, _++_, map}
 use Prim.Native.Nat.{ℕ, zero, suc, _+_, _*_, _≤_}
 use native.Mathlib.Omega.{arith}
 use native.Mathlib.Numerals.{add-one}
 use lib.Dec.{T, ltb, leb, eqb, leb→le, le→leb, eqb→eq}
 use lib.ListN.{length, getD, drop, replicate, length-append, length-replicate}
 use Rattle.model.specs.Base.{Answer, value, _>>=_, _>>_, checks, allOf, field, sumOf}
-use Rattle.model.specs.Netlist.{Netlist, Gate, nets, netByNet, gateCount, atNets, counts, pathTotal, maxCount}
+use Rattle.model.specs.Netlist.{Netlist, Gate, nets, netByNet, gateCount, counts, outputCount, pathTotal, maxCount}
 use Rattle.model.specs.Read.{readGates, readOutputs, readNetlist, gateRules, outputRules, headerRules, gateIn, countIn, within, pinsFit, netFields, inputsIn, gatesIn, outputsIn, inputCounts}
 use Rattle.model.proofs.ListLaws.{allOf-head, allOf-tail, allOf-append}
 use Rattle.model.proofs.WellFormed.{WellFormed, lower, ascendingNets}
@@ -31,16 +31,17 @@ gates-lower (suc n) cs bs r e =
     (checks→ (gateRules (length cs) cs bs) (then-first (checks (gateRules (length cs) cs bs)) (readGates n cs′ bs′) (s .first)) .1 .1 .1 .1 .0)
     (rw q at ih))
 
-pub outputs-ok : (n nets : ℕ) (cs : List ℕ) (least s : ℕ) (bs : List ℕ) (r : List ℕ × List ℕ) → readOutputs n nets cs least s bs ≡ value r
+pub outputs-ok : (n inputs nets : ℕ) (cs : List ℕ) (least s : ℕ) (bs : List ℕ) (r : List ℕ × List ℕ) → readOutputs n inputs nets cs least s bs ≡ value r
     → T (ascendingNets nets least (r .0))
 unfolding readOutputs ascendingNets
-outputs-ok zero nets cs least s bs r e = subst (λ (x : List ℕ × List ℕ). T (ascendingNets nets least (x .0))) (value-inj e) tt
-outputs-ok (suc n) nets cs least s bs r e =
+outputs-ok zero inputs nets cs least s bs r e = subst (λ (x : List ℕ × List ℕ). T (ascendingNets nets least (x .0))) (value-inj e) tt
+outputs-ok (suc n) inputs nets cs least s bs r e =
     let o = field 2 2 bs in
-    let m = readOutputs n nets cs (suc o) (s + getD cs o 0) (drop 4 bs) in
-    let p = steps (checks (outputRules nets cs least s bs) >> m) (λ r. value (field 2 2 bs ∷ r .0, r .1)) e in
-    let ih = outputs-ok n nets cs (suc o) (s + getD cs o 0) (drop 4 bs) (p .got) (then-second (checks (outputRules nets cs least s bs)) m (p .first)) in
-    let q = checks→ (outputRules nets cs least s bs) (then-first (checks (outputRules nets cs least s bs)) m (p .first)) .1 .0 in
+    let rules = outputRules inputs nets cs least s bs in
+    let m = readOutputs n inputs nets cs (suc o) (s + outputCount inputs cs o) (drop 4 bs) in
+    let p = steps (checks rules >> m) (λ r. value (field 2 2 bs ∷ r .0, r .1)) e in
+    let ih = outputs-ok n inputs nets cs (suc o) (s + outputCount inputs cs o) (drop 4 bs) (p .got) (then-second (checks rules) m (p .first)) in
+    let q = checks→ rules (then-first (checks rules) m (p .first)) .1 .0 in
     subst (λ (x : List ℕ × List ℕ). T (ascendingNets nets least (x .0))) (value-inj (p .second))
     (all3 (leb least o) (ltb o nets) (ascendingNets nets (suc o) (p .got .0))
     (and-right (ltb o nets) (leb least o) q) (and-left (ltb o nets) (leb least o) q) ih)
@@ -84,14 +85,14 @@ unfolding readNetlist
 legal bs N e =
     let gs = readGates (gatesIn bs) (inputCounts bs) (drop 8 bs) in
     let os : List Gate × List ℕ → Answer (List ℕ × List ℕ) =
-    λ g. readOutputs (outputsIn bs) (inputsIn bs + gatesIn bs) (netByNet gateCount 0 (inputCounts bs) (g .0)) 0 0 (g .1) in
+    λ g. readOutputs (outputsIn bs) (inputsIn bs) (inputsIn bs + gatesIn bs) (netByNet gateCount 0 (inputCounts bs) (g .0)) 0 0 (g .1) in
     let end : List Gate × List ℕ → List ℕ × List ℕ → Answer Netlist =
     λ g o. checks ((20, eqb (length (o .1)) 0) ∷ []) >> value (record { inputs = inputsIn bs; gates = g .0; outputs = o .0 }) in
     let p = steps (checks (headerRules bs) >> gs) (λ g. os g >>= end g) e in
     let q = steps (os (p .got)) (end (p .got)) (p .second) in
     let h = checks→ (headerRules bs) (then-first (checks (headerRules bs)) gs (p .first)) .1 .0 in
     let l = gates-lower (gatesIn bs) (inputCounts bs) (drop 8 bs) (p .got) (then-second (checks (headerRules bs)) gs (p .first)) in
-    let o = outputs-ok (outputsIn bs) (inputsIn bs + gatesIn bs) (netByNet gateCount 0 (inputCounts bs) (p .got .0)) 0 0 (p .got .1) (q .got) (q .first) in
+    let o = outputs-ok (outputsIn bs) (inputsIn bs) (inputsIn bs + gatesIn bs) (netByNet gateCount 0 (inputCounts bs) (p .got .0)) 0 0 (p .got .1) (q .got) (q .first) in
     subst WellFormed (value-inj (then-second (checks ((20, eqb (length (q .got .1)) 0) ∷ [])) _ (q .second)))
     (record {
       someInput = and-left (leb 1 (inputsIn bs)) (leb (inputsIn bs) 64)
@@ -114,19 +115,20 @@ gates-fit (suc n) cs bs r e t =
     subst (λ (x : List Gate × List ℕ). T (allOf fits (netByNet gateCount 0 cs (x .0)))) (f .is)
     (gates-fit n (nextCounts cs bs) (nextBytes bs) (f .rest) (f .others) (allOf-append fits cs (countIn cs bs) t (f .passes .1 .1 .1 .1 .1 .0)))
 
-pub outputs-fit : (n nets : ℕ) (cs : List ℕ) (least s : ℕ) (bs : List ℕ) (r : List ℕ × List ℕ) → readOutputs n nets cs least s bs ≡ value r
-    → s ≤ maxCount → (length (r .0) ≡ n) × (s + sumOf (atNets cs 0 (r .0)) ≤ maxCount)
+pub outputs-fit : (n inputs nets : ℕ) (cs : List ℕ) (least s : ℕ) (bs : List ℕ) (r : List ℕ × List ℕ) → readOutputs n inputs nets cs least s bs ≡ value r
+    → s ≤ maxCount → (length (r .0) ≡ n) × (s + sumOf (map (outputCount inputs cs) (r .0)) ≤ maxCount)
 unfolding readOutputs
-outputs-fit zero nets cs least s bs r e h =
-    subst (λ (x : List ℕ × List ℕ). (length (x .0) ≡ 0) × (s + sumOf (atNets cs 0 (x .0)) ≤ maxCount)) (value-inj e) (refl, omega arith)
-outputs-fit (suc n) nets cs least s bs r e h =
+outputs-fit zero inputs nets cs least s bs r e h =
+    subst (λ (x : List ℕ × List ℕ). (length (x .0) ≡ 0) × (s + sumOf (map (outputCount inputs cs) (x .0)) ≤ maxCount)) (value-inj e) (refl, omega arith)
+outputs-fit (suc n) inputs nets cs least s bs r e h =
     let o = field 2 2 bs in
-    let m = readOutputs n nets cs (suc o) (s + getD cs o 0) (drop 4 bs) in
-    let p = steps (checks (outputRules nets cs least s bs) >> m) (λ r. value (field 2 2 bs ∷ r .0, r .1)) e in
-    let q = checks→ (outputRules nets cs least s bs) (then-first (checks (outputRules nets cs least s bs)) m (p .first)) .1 .1 .0 in
-    let ih = outputs-fit n nets cs (suc o) (s + getD cs o 0) (drop 4 bs) (p .got) (then-second (checks (outputRules nets cs least s bs)) m (p .first))
-    (leb→le (s + getD cs o 0) maxCount q) in
-    subst (λ (x : List ℕ × List ℕ). (length (x .0) ≡ suc n) × (s + sumOf (atNets cs 0 (x .0)) ≤ maxCount)) (value-inj (p .second))
+    let next = s + outputCount inputs cs o in
+    let rules = outputRules inputs nets cs least s bs in
+    let m = readOutputs n inputs nets cs (suc o) next (drop 4 bs) in
+    let p = steps (checks rules >> m) (λ r. value (field 2 2 bs ∷ r .0, r .1)) e in
+    let q = checks→ rules (then-first (checks rules) m (p .first)) .1 .1 .0 in
+    let ih = outputs-fit n inputs nets cs (suc o) next (drop 4 bs) (p .got) (then-second (checks rules) m (p .first)) (leb→le next maxCount q) in
+    subst (λ (x : List ℕ × List ℕ). (length (x .0) ≡ suc n) × (s + sumOf (map (outputCount inputs cs) (x .0)) ≤ maxCount)) (value-inj (p .second))
     (ap suc (ih .0), omega (arith, ih .1))
 
 -- What the code may rely on
@@ -153,7 +155,7 @@ unfolding readNetlist counts pathTotal
 limits bs N e =
     let gs = readGates (gatesIn bs) (inputCounts bs) (drop 8 bs) in
     let os : List Gate × List ℕ → Answer (List ℕ × List ℕ) =
-    λ g. readOutputs (outputsIn bs) (inputsIn bs + gatesIn bs) (netByNet gateCount 0 (inputCounts bs) (g .0)) 0 0 (g .1) in
+    λ g. readOutputs (outputsIn bs) (inputsIn bs) (inputsIn bs + gatesIn bs) (netByNet gateCount 0 (inputCounts bs) (g .0)) 0 0 (g .1) in
     let end : List Gate × List ℕ → List ℕ × List ℕ → Answer Netlist =
     λ g o. checks ((20, eqb (length (o .1)) 0) ∷ []) >> value (record { inputs = inputsIn bs; gates = g .0; outputs = o .0 }) in
     let p = steps (checks (headerRules bs) >> gs) (λ g. os g >>= end g) e in
@@ -163,7 +165,7 @@ limits bs N e =
     let g = then-second (checks (headerRules bs)) gs (p .first) in
     let l = gates-length (gatesIn bs) (inputCounts bs) (drop 8 bs) (p .got) g in
     let f = gates-fit (gatesIn bs) (inputCounts bs) (drop 8 bs) (p .got) g (ones-fit (inputsIn bs)) in
-    let o = outputs-fit (outputsIn bs) (inputsIn bs + gatesIn bs) (netByNet gateCount 0 (inputCounts bs) (p .got .0)) 0 0 (p .got .1) (q .got) (q .first) (omega arith) in
+    let o = outputs-fit (outputsIn bs) (inputsIn bs) (inputsIn bs + gatesIn bs) (netByNet gateCount 0 (inputCounts bs) (p .got .0)) 0 0 (p .got .1) (q .got) (q .first) (omega arith) in
     subst Limits (value-inj (then-second (checks ((20, eqb (length (q .got .1)) 0) ∷ [])) _ (q .second)))
     (record {
       someInput = leb→le 1 (inputsIn bs) (and-left (leb 1 (inputsIn bs)) (leb (inputsIn bs) 64) (h .0));

@@ -59,13 +59,14 @@ gates-over (suc n) cs bs =
     (over-then 2 (checks (gateRules (length cs) cs bs)) more (over-checks 2 (gateRules (length cs) cs bs) tt) (gates-over n _ _))
     (λ r. tt)
 
-outputs-over : (n nets : ℕ) (cs : List ℕ) (least s : ℕ) (bs : List ℕ) → RefusesOver 2 (readOutputs n nets cs least s bs)
+outputs-over : (n inputs nets : ℕ) (cs : List ℕ) (least s : ℕ) (bs : List ℕ) → RefusesOver 2 (readOutputs n inputs nets cs least s bs)
 unfolding readOutputs
-outputs-over zero nets cs least s bs = tt
-outputs-over (suc n) nets cs least s bs =
-    let more = readOutputs n nets cs (suc (field 2 2 bs)) (s + outputCount cs (field 2 2 bs)) (drop 4 bs) in
-    over-bind 2 (checks (outputRules nets cs least s bs) >> more) (λ r. value (field 2 2 bs ∷ r .0, r .1))
-    (over-then 2 (checks (outputRules nets cs least s bs)) more (over-checks 2 (outputRules nets cs least s bs) tt) (outputs-over n nets cs _ _ _))
+outputs-over zero inputs nets cs least s bs = tt
+outputs-over (suc n) inputs nets cs least s bs =
+    let rules = outputRules inputs nets cs least s bs in
+    let more = readOutputs n inputs nets cs (suc (field 2 2 bs)) (s + outputCount inputs cs (field 2 2 bs)) (drop 4 bs) in
+    over-bind 2 (checks rules >> more) (λ r. value (field 2 2 bs ∷ r .0, r .1))
+    (over-then 2 (checks rules) more (over-checks 2 rules tt) (outputs-over n inputs nets cs _ _ _))
     (λ r. tt)
 
 pub netlist-over : (bs : List ℕ) → RefusesOver 2 (readNetlist bs)
@@ -73,12 +74,12 @@ unfolding readNetlist
 netlist-over bs =
     let gs = readGates (gatesIn bs) (inputCounts bs) (drop 8 bs) in
     let os : List Gate × List ℕ → Answer (List ℕ × List ℕ) =
-    λ g. readOutputs (outputsIn bs) (inputsIn bs + gatesIn bs) (netByNet gateCount 0 (inputCounts bs) (g .0)) 0 0 (g .1) in
+    λ g. readOutputs (outputsIn bs) (inputsIn bs) (inputsIn bs + gatesIn bs) (netByNet gateCount 0 (inputCounts bs) (g .0)) 0 0 (g .1) in
     let end : List Gate × List ℕ → List ℕ × List ℕ → Answer Netlist =
     λ g o. checks ((20, eqb (length (o .1)) 0) ∷ []) >> value (record { inputs = inputsIn bs; gates = g .0; outputs = o .0 }) in
     over-bind 2 (checks (headerRules bs) >> gs) (λ g. os g >>= end g)
     (over-then 2 (checks (headerRules bs)) gs (over-checks 2 (headerRules bs) tt) (gates-over (gatesIn bs) (inputCounts bs) (drop 8 bs)))
-    (λ g. over-bind 2 (os g) (end g) (outputs-over _ _ _ _ _ _)
+    (λ g. over-bind 2 (os g) (end g) (outputs-over _ _ _ _ _ _ _)
     (λ o. over-then 2 (checks ((20, eqb (length (o .1)) 0) ∷ [])) _ (over-checks 2 ((20, eqb (length (o .1)) 0) ∷ []) tt) tt))
 
 -- Test, Store and Work

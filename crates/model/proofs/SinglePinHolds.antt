@@ -82,7 +82,7 @@ module _ (strict loose : ℕ → ℕ → Bool) (looser : (kind n : ℕ) → T (s
   netlist-too bs N e =
       let gs = readGatesBy strict (gatesIn bs) (inputCounts bs) (drop 8 bs) in
       let end : List Gate × List ℕ → Answer Netlist =
-      λ g. readOutputs (outputsIn bs) (inputsIn bs + gatesIn bs) (netByNet gateCount 0 (inputCounts bs) (g .0)) 0 0 (g .1)
+      λ g. readOutputs (outputsIn bs) (inputsIn bs) (inputsIn bs + gatesIn bs) (netByNet gateCount 0 (inputCounts bs) (g .0)) 0 0 (g .1)
       >>= λ o. checks ((20, eqb (length (o .1)) 0) ∷ []) >> value (record { inputs = inputsIn bs; gates = g .0; outputs = o .0 }) in
       let s = steps (checks (headerRules bs) >> gs) end e in
       let head : checks (headerRules bs) ≡ value tt =

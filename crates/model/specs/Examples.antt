@@ -4,7 +4,7 @@
 use mathlib.Core.Bool.{true, false}
 use mathlib.Core.List.{List, [], _∷_, _++_}
 use Prim.Native.Nat.{ℕ, zero, suc, _+_, _^_}
-use lib.ListN.{replicate, take, drop}
+use lib.ListN.{length, replicate, take, drop}
 use Rattle.model.specs.Base.{Answer, refused, value, _>>=_, _>>_, checks, numbersFrom, littleEndian}
 use Rattle.model.specs.Netlist.{Netlist, counts, pathTotal}
 use Rattle.model.specs.Path.{Edge, rising, falling, pathOf, faultNumber}
@@ -72,6 +72,11 @@ detectsFalling = 0x54 ∷ 0x50 ∷ 0x03 ∷ 0x01 ∷ []
 unfoldable pub detectsRising : List ℕ
 detectsRising = 0x54 ∷ 0x50 ∷ 0x00 ∷ 0x02 ∷ []
 
+-- outputs at these nets
+unfoldable pub outputsBytes : List ℕ → List ℕ
+outputsBytes [] = []
+outputsBytes (net ∷ nets) = outputBytes net ++ outputsBytes nets
+
 -- `n` gates of `pins` pins, each fed by the net before; the first is fed by `net`
 unfoldable pub chain : ℕ → ℕ → ℕ → ℕ → List ℕ
 chain kind pins net zero = []
@@ -103,6 +108,14 @@ oneGate kind pins = headerBytes 1 1 1 ++ gateBytes kind (replicate pins 0) ++ ou
 unfoldable pub besideOnePin : ℕ → List ℕ
 besideOnePin kind = headerBytes 2 2 1 ++ gateBytes kind (0 ∷ []) ++ gateBytes 3 (1 ∷ 2 ∷ []) ++ outputBytes 3
 
+-- Q with other outputs
+unfoldable pub withOutputs : List ℕ → List ℕ
+withOutputs outputs = headerBytes 2 2 (length outputs) ++ gateBytes 3 (0 ∷ 1 ∷ []) ++ gateBytes 5 (2 ∷ 1 ∷ []) ++ outputsBytes outputs
+
+-- one input, 61 gates AND(n, n) and a buffer of the last, so that nets 61 and 62 have 2^61 paths each; the input is an output, too
+unfoldable pub halves : List ℕ
+halves = headerBytes 1 62 3 ++ chain 3 2 0 61 ++ gateBytes 1 (61 ∷ []) ++ outputsBytes (0 ∷ 61 ∷ 62 ∷ [])
+
 -- b rises, a steady at `a`
 unfoldable pub bRises : ℕ → List ℕ
 bRises a = testBytes (a ∷ []) ((2 + a) ∷ [])
@@ -115,6 +128,7 @@ pub record Row : Type 0 where
 unfoldable pub row : List ℕ → Question → Answer (List ℕ) → Row
 row f q a = record { netlist = f; question = q; answer = a }
 
+-- with T of an input as output as ticket 5 of document 02 has it, 0 and not 1
 unfoldable pub starred : List Row
 starred =
     row Q netCounts (value (1 ∷ 1 ∷ 2 ∷ 3 ∷ []))
@@ -126,7 +140,7 @@ starred =
     ∷ row Q (faultsOf detectsRising) (value (5 ∷ []))
     ∷ row (doubling 62) paths (value (2 ^ 62 ∷ []))
     ∷ row (doubling 63) paths (refused 17)
-    ∷ row (headerBytes 1 0 1 ++ outputBytes 0) paths (value (1 ∷ []))
+    ∷ row (headerBytes 1 0 1 ++ outputBytes 0) paths (value (0 ∷ []))
     ∷ row (spread 2) (risingWork aRises) (value (293 ∷ []))
     ∷ row (spread 3) (risingWork aRises) (value (2341 ∷ []))
     ∷ row (spread 3) (newRising aRises) (refused 50)
@@ -139,7 +153,9 @@ further =
     ∷ row Q (audited (detectsNone ++ detectsFalling ++ detectsRising) (reportOfThree 4)) (refused 72)
     ∷ []
 
--- Ticket 1: a gate of one pin was 14 and is taken; no pin and nine pins are 14, two pins of NOT too. NAND of one pin is NOT, and its pin is open
+-- Ticket 1: a gate of one pin was 14 and is taken; no pin and nine pins are 14, two pins of NOT too. NAND of one pin is NOT, and its pin is open.
+-- Ticket 5: Q's inputs as outputs before its net 3 leave T, path numbers and faults as they are (after a gate's net an input net is 19, as output nets
+-- ascend); two outputs of 2^61 paths and a wire are legal
 unfoldable pub requested : List Row
 requested =
     row (oneGate 3 1) pathsBefore (refused 14)
@@ -152,4 +168,10 @@ requested =
     ∷ row (besideOnePin 4) (faultsOf (bRises 0)) (value (1 ∷ []))
     ∷ row (besideOnePin 4) (faultsOf (bRises 1)) (value [])
     ∷ row (besideOnePin 7) (faultsOf (bRises 1)) (value (1 ∷ []))
+    ∷ row (withOutputs (0 ∷ 1 ∷ 3 ∷ [])) netCounts (value (1 ∷ 1 ∷ 2 ∷ 3 ∷ []))
+    ∷ row (withOutputs (0 ∷ 1 ∷ 3 ∷ [])) paths (value (3 ∷ []))
+    ∷ row (withOutputs (0 ∷ 1 ∷ 3 ∷ [])) (pathNumber 1) (value (2 ∷ 2 ∷ 0 ∷ 0 ∷ []))
+    ∷ row (withOutputs (0 ∷ 1 ∷ 3 ∷ [])) (faultsOf detectsRising) (value (5 ∷ []))
+    ∷ row (withOutputs (0 ∷ 3 ∷ 1 ∷ [])) paths (refused 19)
+    ∷ row halves paths (value (2 ^ 62 ∷ []))
     ∷ []

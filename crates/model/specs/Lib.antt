@@ -11,6 +11,7 @@ pub mod SinglePin
 pub mod Report
 pub mod Numbering
 pub mod Demand3
+pub mod Wires
 pub mod Encode
 pub mod Examples
 pub mod Refusals

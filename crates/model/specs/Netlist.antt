@@ -1,7 +1,7 @@
 -- A netlist: inputs, gates and outputs, and the count of paths at each net.
 -- Nets 0 to inputs - 1 are the inputs; gate g (from 0) drives net inputs + g.
 -- Assumes nothing.
-use mathlib.Core.Bool.{Bool}
+use mathlib.Core.Bool.{Bool, true, false}
 use mathlib.Core.List.{List, [], _∷_, _++_, map}
 use Prim.Native.Nat.{ℕ, _+_, _-_, _^_}
 use lib.Dec.{ltb}
@@ -49,12 +49,12 @@ gateCount g ns = sumOf ns
 unfoldable pub counts : Netlist → List ℕ
 counts N = netByNet gateCount 0 (replicate (N .inputs) 1) (N .gates)
 
--- the number of paths that end at an output, which is at net `net`
-abbrev pub outputCount : List ℕ → ℕ → ℕ
-outputCount cs net = getD cs net 0
+-- the number of paths that end at an output, which is at net `net`: none where it is one of the `inputs` input nets, a wire without a gate
+unfoldable pub outputCount : ℕ → List ℕ → ℕ → ℕ
+outputCount inputs cs net = elim (ltb net inputs) [ true ↦ 0 | false ↦ getD cs net 0 ]
 
 abbrev pub outputCounts : Netlist → List ℕ
-outputCounts N = map (λ net. outputCount (counts N) net) (N .outputs)
+outputCounts N = map (outputCount (N .inputs) (counts N)) (N .outputs)
 
 -- document 01's T: the total over the outputs
 unfoldable pub pathTotal : Netlist → ℕ

@@ -26,9 +26,9 @@ unfoldable pub validAt : Netlist → ℕ → List ℕ → Bool
 validAt N net [] = isInput N net
 validAt N net (p ∷ ps) = not (isInput N net) && ltb p (length (pinsOf N net)) && validAt N (pinNet N net p) ps
 
--- it is a path of the netlist
+-- it is a path of the netlist: it has at least one pin, so that a wire from an input to an output is none
 unfoldable pub valid : Netlist → CircuitPath → Bool
-valid N p = ltb (p .output) (length (N .outputs)) && validAt N (outputNet N (p .output)) (p .pins)
+valid N p = ltb (p .output) (length (N .outputs)) && ltb 0 (length (p .pins)) && validAt N (outputNet N (p .output)) (p .pins)
 
 -- the counts before place `p`, without that of place `p` itself
 abbrev pub countsBefore : ℕ → List ℕ → ℕ

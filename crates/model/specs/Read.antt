@@ -57,20 +57,20 @@ readGates (suc n) cs bs =
     >> readGates n (cs ++ (countIn cs bs ∷ [])) (drop (4 + 2 * getD bs 3 0) bs)
     >>= λ r. value (gateIn bs ∷ r .0, r .1)
 
--- Output by output: the rules of one output, at a net from `least` to below `nets`. `s` is the sum so far
-abbrev pub outputRules : ℕ → List ℕ → ℕ → ℕ → List ℕ → List Rule
-outputRules nets cs least s bs =
+-- Output by output: the rules of one output, at a net from `least` to below `nets`; the nets below `inputs` are the inputs. `s` is the sum so far
+abbrev pub outputRules : ℕ → ℕ → List ℕ → ℕ → ℕ → List ℕ → List Rule
+outputRules inputs nets cs least s bs =
     (18, leb 4 (length bs) && marked 0x4F 0x55 bs)
     ∷ (19, ltb (field 2 2 bs) nets && leb least (field 2 2 bs))
-    ∷ (21, leb (s + outputCount cs (field 2 2 bs)) maxCount)
+    ∷ (21, leb (s + outputCount inputs cs (field 2 2 bs)) maxCount)
     ∷ []
 
 -- `n` outputs, each higher than the one before, and the bytes after them
-unfoldable pub readOutputs : ℕ → ℕ → List ℕ → ℕ → ℕ → List ℕ → Answer (List ℕ × List ℕ)
-readOutputs zero nets cs least s bs = value ([], bs)
-readOutputs (suc n) nets cs least s bs =
-    checks (outputRules nets cs least s bs)
-    >> readOutputs n nets cs (suc (field 2 2 bs)) (s + outputCount cs (field 2 2 bs)) (drop 4 bs)
+unfoldable pub readOutputs : ℕ → ℕ → ℕ → List ℕ → ℕ → ℕ → List ℕ → Answer (List ℕ × List ℕ)
+readOutputs zero inputs nets cs least s bs = value ([], bs)
+readOutputs (suc n) inputs nets cs least s bs =
+    checks (outputRules inputs nets cs least s bs)
+    >> readOutputs n inputs nets cs (suc (field 2 2 bs)) (s + outputCount inputs cs (field 2 2 bs)) (drop 4 bs)
     >>= λ r. value (field 2 2 bs ∷ r .0, r .1)
 
 -- I, G and U of the header
@@ -103,7 +103,7 @@ unfoldable pub readNetlist : List ℕ → Answer Netlist
 readNetlist bs =
     checks (headerRules bs)
     >> readGates (gatesIn bs) (inputCounts bs) (drop 8 bs)
-    >>= λ g. readOutputs (outputsIn bs) (inputsIn bs + gatesIn bs) (netByNet gateCount 0 (inputCounts bs) (g .0)) 0 0 (g .1)
+    >>= λ g. readOutputs (outputsIn bs) (inputsIn bs) (inputsIn bs + gatesIn bs) (netByNet gateCount 0 (inputCounts bs) (g .0)) 0 0 (g .1)
     >>= λ o. checks ((20, eqb (length (o .1)) 0) ∷ [])
     >> value (record { inputs = inputsIn bs; gates = g .0; outputs = o .0 })
 

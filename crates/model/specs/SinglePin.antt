@@ -50,7 +50,7 @@ unfoldable pub readNetlistBy : (ℕ → ℕ → Bool) → List ℕ → Answer Ne
 readNetlistBy fit bs =
     checks (headerRules bs)
     >> readGatesBy fit (gatesIn bs) (inputCounts bs) (drop 8 bs)
-    >>= λ g. readOutputs (outputsIn bs) (inputsIn bs + gatesIn bs) (netByNet gateCount 0 (inputCounts bs) (g .0)) 0 0 (g .1)
+    >>= λ g. readOutputs (outputsIn bs) (inputsIn bs) (inputsIn bs + gatesIn bs) (netByNet gateCount 0 (inputCounts bs) (g .0)) 0 0 (g .1)
     >>= λ o. checks ((20, eqb (length (o .1)) 0) ∷ [])
     >> value (record { inputs = inputsIn bs; gates = g .0; outputs = o .0 })
 

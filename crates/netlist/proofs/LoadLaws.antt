@@ -4,7 +4,7 @@
 use Prim.Native.Nat.{ℕ, zero, suc, _+_, _-_, _*_, _≤_, _<_}
 use mathlib.Core.Path.{_≡_, refl, sym, ap, ap₂, _∙_, subst}
 use mathlib.Core.Bool.{true}
-use mathlib.Core.List.{List, _++_}
+use mathlib.Core.List.{List, _++_, map}
 use native.Mathlib.Omega.{arith}
 use native.Mathlib.Nat.{add-zero, le-of-suc-le-suc, not-suc-le-zero}
 use borrow.Author.Needs.{needs}
@@ -12,7 +12,7 @@ use lib.Dec.{T, ltb}
 use lib.ListN.{length, getD, drop, replicate}
 use lib.Seq.{getD-drop, drop-drop}
 use Rattle.model.specs.Base.{Answer, refused, value, _>>=_, passes, allOf, field}
-use Rattle.model.specs.Netlist.{Netlist, Gate, noGate, nets, counts, pathTotal, gateOf, pinsOf, pinNet, outputNet, outputCounts, atNets}
+use Rattle.model.specs.Netlist.{Netlist, Gate, noGate, nets, counts, pathTotal, gateOf, pinsOf, pinNet, outputNet, outputCount, outputCounts}
 use Rattle.model.specs.Read.{readNetlist, gateIn, netFields, kindOf, within, pinsFit, gatesIn, inputCounts}
 use Rattle.model.specs.Refusals.{refusalNumber}
 use Rattle.model.specs.Calls.{padded, surveyCall, surveyOf}
@@ -28,7 +28,7 @@ use Rattle.netlist.specs.declared.SurveyAnswer.the-variants as survey
 use Rattle.netlist.specs.declared.NetlistSurvey.{NetlistSurvey}
 use Rattle.netlist.specs.declared.Surveyed.{Surveyed}
 use Rattle.netlist.specs.declared.inner.Loaded.{Loaded}
-use Rattle.netlist.proofs.PaddedLaws.{pad-getD, pad-pins}
+use Rattle.netlist.proofs.PaddedLaws.{pad-getD, pad-counts}
 use Rattle.netlist.proofs.PlaceLaws.{parts, records-in, gates-at, gate-at, start-in, kind-at, position-gate}
 use Rattle.netlist.proofs.OutputLaws.{outputs, below, output-at}
 
@@ -103,7 +103,7 @@ module _ (r : Loaded) (file : List ℕ) (t : LoadTrue r file) where
   pub loaded-legal : r .answer ≡ survey.Legal → LegalSurvey file (r .survey)
   loaded-legal l = legal-survey file (r .survey) (r .answer) (t .answer) (t .survey) l
 
-  pub loaded-tables : r .answer ≡ survey.Legal → Tables file (r .positions) (r .survey .counts) (r .survey .outputs)
+  pub loaded-tables : r .answer ≡ survey.Legal → Tables file (r .positions) (r .survey .counts) (r .survey .inputs) (r .survey .outputs)
   loaded-tables l =
       let is = loaded-legal l in
       record {
@@ -111,6 +111,7 @@ module _ (r : Loaded) (file : List ℕ) (t : LoadTrue r file) where
         isRead = is .isRead;
         positionsAre = t .positions ∙ ap (positionsOf file) (is .isRead);
         countsAre = is .countsAre;
+        inputsAre = is .inputsAre;
         outputsAre = is .outputsAre;
       }
 
@@ -174,7 +175,7 @@ module _ (file : List ℕ) (N : Netlist) (e : readNetlist file ≡ value N) wher
   count-is net h = pad-getD (counts N) net (omega (arith, length-counts N))
 
 -- The outputs of a legal netlist: the last bytes of its file
-module _ (file ps cs : List ℕ) (n : ℕ) (t : Tables file ps cs n) where
+module _ (file ps cs : List ℕ) (i n : ℕ) (t : Tables file ps cs i n) where
   abbrev N : Netlist
   N = t .netlist
 
@@ -196,7 +197,7 @@ module _ (file ps cs : List ℕ) (n : ℕ) (t : Tables file ps cs n) where
   pub output-net-at : (o : ℕ) → o < n → field (length file - 4 * n + 4 * o + 2) 2 file ≡ outputNet (t .netlist) o
   output-net-at o h = sym (output-at n (length file - 4 * n) file o h) ∙ ap (λ (x : List ℕ). getD x o 0) outputs-are
 
-  pub output-counts : atNets cs 0 (t .netlist .outputs) ≡ outputCounts (t .netlist)
+  pub output-counts : map (outputCount i cs) (t .netlist .outputs) ≡ outputCounts (t .netlist)
   output-counts =
       let a : allOf (λ p. ltb p (length (counts N))) (N .outputs) ≡ true = subst (λ m. allOf (λ p. ltb p m) (N .outputs) ≡ true) (sym (length-counts N)) (below (nets N) 0 (N .outputs) (legal file N (t .isRead) .outputsOk)) in
-      ap (λ (x : List ℕ). atNets x 0 (N .outputs)) (t .countsAre) ∙ pad-pins (counts N) (N .outputs) a
+      ap₂ (λ k (x : List ℕ). map (outputCount k x) (N .outputs)) (t .inputsAre) (t .countsAre) ∙ pad-counts (N .inputs) (counts N) (N .outputs) a

@@ -10,7 +10,7 @@ use lib.ListN.{length, getD, drop, take, length-drop}
 use lib.Seq.{drop-drop, getD-drop}
 use lib.Dec.{T, leb, ltb, leb→le, ltb→lt}
 use Rattle.model.specs.Base.{value, _>>_, checks, allOf, field, fromLittleEndian}
-use Rattle.model.specs.Netlist.{Netlist, Gate, netByNet, gateCount}
+use Rattle.model.specs.Netlist.{Netlist, Gate, netByNet, gateCount, outputCount}
 use Rattle.model.specs.Read.{readGates, readOutputs, outputRules, inputsIn, gatesIn, outputsIn, inputCounts, marked}
 use Rattle.model.proofs.AnswerLaws.{steps, then-first, then-second, checks→, value-inj}
 use Rattle.model.proofs.BoolLaws.{and-left, and3, T→true}
@@ -50,27 +50,30 @@ record Outs (n nets : ℕ) (s : List ℕ) (at : ℕ) (r : List ℕ × List ℕ) 
   inside : at + 4 * n ≤ length s
   outputs-in : OutputsIn s at n
 
-outs : (n nets : ℕ) (cs : List ℕ) (least t : ℕ) (s : List ℕ) (at : ℕ) (r : List ℕ × List ℕ) → nets ≤ 512 → at ≤ length s → readOutputs n nets cs least t (drop at s) ≡ value r → Outs n nets s at r
+outs : (n inputs nets : ℕ) (cs : List ℕ) (least t : ℕ) (s : List ℕ) (at : ℕ) (r : List ℕ × List ℕ) → nets ≤ 512 → at ≤ length s
+    → readOutputs n inputs nets cs least t (drop at s) ≡ value r → Outs n nets s at r
 unfolding readOutputs outputsFrom OutputsIn
-outs zero nets cs least t s at r b h e = let z : at ≡ at + 4 * 0 = omega arith in record {
+outs zero inputs nets cs least t s at r b h e = let z : at ≡ at + 4 * 0 = omega arith in record {
   outputs-are = ap (λ (x : List ℕ × List ℕ). x .0) (sym (value-inj e));
   rest-is = ap (λ (x : List ℕ × List ℕ). x .1) (sym (value-inj e)) ∙ ap (λ k. drop k s) z;
   inside = omega arith;
   outputs-in = h;
 }
-outs (suc n) nets cs least t s at r b h e =
+outs (suc n) inputs nets cs least t s at r b h e =
     let bs = drop at s in
     let o = field 2 2 bs in
-    let m = readOutputs n nets cs (suc o) (t + getD cs o 0) (drop 4 bs) in
-    let p = steps (checks (outputRules nets cs least t bs) >> m) (λ r. value (field 2 2 bs ∷ r .0, r .1)) e in
-    let a = checks→ (outputRules nets cs least t bs) (then-first (checks (outputRules nets cs least t bs)) m (p .first)) in
+    let rules = outputRules inputs nets cs least t bs in
+    let next = t + outputCount inputs cs o in
+    let m = readOutputs n inputs nets cs (suc o) next (drop 4 bs) in
+    let p = steps (checks rules >> m) (λ r. value (field 2 2 bs ∷ r .0, r .1)) e in
+    let a = checks→ rules (then-first (checks rules) m (p .first)) in
     let room = leb→le 4 (length bs) (and-left (leb 4 (length bs)) (marked 0x4F 0x55 bs) (a .0)) in
     let low = ltb→lt o nets (and-left (ltb o nets) (leb least o) (a .1 .0)) in
     let far : at + 4 ≤ length s = omega (arith, room, length-drop at s) in
     let d : drop 4 (drop at s) ≡ drop (at + 4) s = drop-drop 4 at s in
     let f : field 2 2 bs ≡ field (at + 2) 2 s = ap (λ (x : List ℕ). fromLittleEndian (take 2 x)) (drop-drop 2 at s) in
-    let ih = outs n nets cs (suc o) (t + getD cs o 0) s (at + 4) (p .got) b far
-    (subst (λ (x : List ℕ). readOutputs n nets cs (suc o) (t + getD cs o 0) x ≡ value (p .got)) d (then-second (checks (outputRules nets cs least t bs)) m (p .first))) in
+    let ih = outs n inputs nets cs (suc o) next s (at + 4) (p .got) b far
+    (subst (λ (x : List ℕ). readOutputs n inputs nets cs (suc o) next x ≡ value (p .got)) d (then-second (checks rules) m (p .first))) in
     let step : at + 4 + 4 * n ≡ at + 4 * suc n = omega arith in
     subst (Outs (suc n) nets s at) (value-inj (p .second))
     (record {
@@ -91,9 +94,10 @@ outputs bs N p =
     let few = few-nets bs N p in
     let r = gates-rest (gatesIn bs) (inputCounts bs) bs 8 (N .gates, p .afterGates) (long-file bs N p) (p .gatesRead) in
     let cs = netByNet gateCount 0 (inputCounts bs) (N .gates) in
-    let o = outs (outputsIn bs) (inputsIn bs + gatesIn bs) cs 0 0 bs (r .at) (N .outputs, p .afterOutputs) few (r .within)
-    (subst (λ (x : List ℕ). readOutputs (outputsIn bs) (inputsIn bs + gatesIn bs) cs 0 0 x ≡ value (N .outputs, p .afterOutputs)) (r .is) (p .outputsRead)) in
-    let n : length (N .outputs) ≡ outputsIn bs = outputs-fit (outputsIn bs) (inputsIn bs + gatesIn bs) cs 0 0 (p .afterGates) (N .outputs, p .afterOutputs) (p .outputsRead) (omega arith) .0 in
+    let o = outs (outputsIn bs) (inputsIn bs) (inputsIn bs + gatesIn bs) cs 0 0 bs (r .at) (N .outputs, p .afterOutputs) few (r .within)
+    (subst (λ (x : List ℕ). readOutputs (outputsIn bs) (inputsIn bs) (inputsIn bs + gatesIn bs) cs 0 0 x ≡ value (N .outputs, p .afterOutputs)) (r .is) (p .outputsRead)) in
+    let n : length (N .outputs) ≡ outputsIn bs =
+    outputs-fit (outputsIn bs) (inputsIn bs) (inputsIn bs + gatesIn bs) cs 0 0 (p .afterGates) (N .outputs, p .afterOutputs) (p .outputsRead) (omega arith) .0 in
     let last : length (drop (r .at + 4 * outputsIn bs) bs) ≡ 0 = ap (λ (x : List ℕ). length x) (sym (o .rest-is)) ∙ p .noMore in
     let at-is : r .at ≡ length bs - 4 * length (N .outputs) = omega (arith, last, length-drop (r .at + 4 * outputsIn bs) bs, o .inside) in
     record {

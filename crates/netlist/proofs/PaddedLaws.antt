@@ -2,7 +2,7 @@
 -- Assumes nothing.
 use Prim.Native.Nat.{ℕ, suc, _+_, _-_, _≤_, _<_}
 use mathlib.Core.Path.{_≡_, refl, ap, ap₂}
-use mathlib.Core.List.{List, [], _∷_, _++_, append-assoc}
+use mathlib.Core.List.{List, [], _∷_, _++_, map, append-assoc}
 use mathlib.Core.Bool.{true}
 use native.Mathlib.Omega.{arith}
 use borrow.Author.Tests.{ltb-true}
@@ -10,8 +10,9 @@ use lib.ListN.{length, getD, set, replicate, length-append, length-replicate, re
 use lib.Seq.{set-at}
 use lib.Dec.{ltb}
 use Rattle.model.specs.Base.{allOf, sumOf}
-use Rattle.model.specs.Netlist.{atNets}
+use Rattle.model.specs.Netlist.{atNets, outputCount}
 use Rattle.model.specs.Calls.{padded}
+use Rattle.model.proofs.NetLaws.{output-count-same}
 use Rattle.netlist.proofs.PartLaws.{both-left, both-right}
 
 pub pad-set : (cs : List ℕ) (net c : ℕ) → length cs ≡ net → net < 512 → set (padded cs) net c ≡ padded (cs ++ (c ∷ []))
@@ -34,6 +35,17 @@ pad-pins cs (p ∷ ps) h =
 
 pub pad-sum : (cs ps : List ℕ) → allOf (λ p. ltb p (length cs)) ps ≡ true → sumOf (atNets (padded cs) 0 ps) ≡ sumOf (atNets cs 0 ps)
 pad-sum cs ps h = ap sumOf (pad-pins cs ps h)
+
+-- the paths that end at outputs, likewise
+pub pad-count : (inputs : ℕ) (cs : List ℕ) (net : ℕ) → net < length cs → outputCount inputs (padded cs) net ≡ outputCount inputs cs net
+pad-count inputs cs net h = output-count-same (padded cs) cs net refl (pad-getD cs net h)
+
+pub pad-counts : (inputs : ℕ) (cs us : List ℕ) → allOf (λ p. ltb p (length cs)) us ≡ true
+    → map (outputCount inputs (padded cs)) us ≡ map (outputCount inputs cs) us
+pad-counts inputs cs [] h = refl
+pad-counts inputs cs (u ∷ us) h =
+    ap₂ (λ x xs. x ∷ xs) (pad-count inputs cs u (ltb-true u (length cs) (both-left (ltb u (length cs)) (allOf (λ p. ltb p (length cs)) us) h)))
+    (pad-counts inputs cs us (both-right (ltb u (length cs)) (allOf (λ p. ltb p (length cs)) us) h))
 
 pub ones-none : replicate 512 0 ≡ padded (replicate 0 1)
 unfolding padded

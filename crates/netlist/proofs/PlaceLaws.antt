@@ -86,7 +86,8 @@ pub record Parts (file : List ℕ) (N : Netlist) : Type 0 where
   pub afterGates : List ℕ
   pub gatesRead : readGates (gatesIn file) (inputCounts file) (drop 8 file) ≡ value (N .gates, afterGates)
   pub afterOutputs : List ℕ
-  pub outputsRead : readOutputs (outputsIn file) (inputsIn file + gatesIn file) (netByNet gateCount 0 (inputCounts file) (N .gates)) 0 0 afterGates ≡ value (N .outputs, afterOutputs)
+  pub outputsRead : readOutputs (outputsIn file) (inputsIn file) (inputsIn file + gatesIn file) (netByNet gateCount 0 (inputCounts file) (N .gates)) 0 0 afterGates
+      ≡ value (N .outputs, afterOutputs)
   pub noMore : length afterOutputs ≡ 0
 
 pub parts : (file : List ℕ) (N : Netlist) → readNetlist file ≡ value N → Parts file N
@@ -94,7 +95,7 @@ unfolding readNetlist
 parts bs N e =
     let gs = readGates (gatesIn bs) (inputCounts bs) (drop 8 bs) in
     let os : List Gate × List ℕ → Answer (List ℕ × List ℕ) =
-    λ g. readOutputs (outputsIn bs) (inputsIn bs + gatesIn bs) (netByNet gateCount 0 (inputCounts bs) (g .0)) 0 0 (g .1) in
+    λ g. readOutputs (outputsIn bs) (inputsIn bs) (inputsIn bs + gatesIn bs) (netByNet gateCount 0 (inputCounts bs) (g .0)) 0 0 (g .1) in
     let end : List Gate × List ℕ → List ℕ × List ℕ → Answer Netlist =
     λ g o. checks ((20, eqb (length (o .1)) 0) ∷ []) >> value (record { inputs = inputsIn bs; gates = g .0; outputs = o .0 }) in
     let p = steps (checks (headerRules bs) >> gs) (λ g. os g >>= end g) e in

@@ -2,14 +2,14 @@
 -- Assumes nothing.
 use Prim.Native.Nat.{ℕ, _+_, _≤_, _<_}
 use mathlib.Core.Path.{_≡_, refl, sym, ap, _∙_}
-use mathlib.Core.List.{List, [], _∷_}
+use mathlib.Core.List.{List, [], _∷_, map}
 use native.Mathlib.Omega.{arith}
 use borrow.Author.Needs.{needs}
 use borrow.Author.Tests.{eq-eqb, ne-eqb}
 use lib.ListN.{length, drop, replicate, length-drop, length-replicate}
 use lib.Dec.{leb, eqb, leb→le}
 use Rattle.model.specs.Base.{Answer, refused, value, _>>=_, _>>_, checks, sumOf}
-use Rattle.model.specs.Netlist.{Netlist, netByNet, gateCount, atNets, counts, pathTotal}
+use Rattle.model.specs.Netlist.{Netlist, netByNet, gateCount, counts, outputCount, pathTotal}
 use Rattle.model.specs.Read.{readNetlist, readGates, readOutputs, headerRules, marked, within, inputsIn, gatesIn, outputsIn}
 use Rattle.model.specs.Refusals.{refusalNumber}
 use Rattle.model.specs.Calls.{padded, surveyCall, surveyOf}
@@ -32,7 +32,7 @@ use Rattle.netlist.specs.declared.header.HeaderAnswer.the-variants as he
 use Rattle.netlist.specs.declared.header.Header.{Header}
 use Rattle.netlist.proofs.OutputCases.{outputs-pad}
 use Rattle.netlist.proofs.OutputLaws.{below}
-use Rattle.netlist.proofs.PaddedLaws.{pad-sum}
+use Rattle.netlist.proofs.PaddedLaws.{pad-counts}
 
 pub refused-surveys : (r : Surveyed) (w : Refusal) (s : List ℕ) → r ≡ refusedBy w → readNetlist s ≡ refused (refusalNumber w) → SurveyTrue r s
 unfolding surveyCall
@@ -42,16 +42,18 @@ refused-surveys r w s e h = record { answer = rw (e, h) refl; survey = rw (e, h)
 unfoldable pub body : List ℕ → ℕ → ℕ → ℕ → Answer Netlist
 body s i g u =
     readGates g (replicate i 1) (drop 8 s)
-    >>= λ x. readOutputs u (i + g) (netByNet gateCount 0 (replicate i 1) (x .0)) 0 0 (x .1)
+    >>= λ x. readOutputs u i (i + g) (netByNet gateCount 0 (replicate i 1) (x .0)) 0 0 (x .1)
     >>= λ o. checks ((20, eqb (length (o .1)) 0) ∷ [])
     >> value (record { inputs = i; gates = x .0; outputs = o .0 })
 
-from-array : (u n : ℕ) (array cs bs : List ℕ) → array ≡ padded cs → length cs ≡ n → readOutputs u n array 0 0 bs ≡ readOutputs u n cs 0 0 bs
-from-array u n array cs bs p e = rw (p, ← e) (outputs-pad u cs 0 0 bs)
+from-array : (u i n : ℕ) (array cs bs : List ℕ) → array ≡ padded cs → length cs ≡ n → readOutputs u i n array 0 0 bs ≡ readOutputs u i n cs 0 0 bs
+from-array u i n array cs bs p e = rw (p, ← e) (outputs-pad u i cs 0 0 bs)
 
 -- the sum over the outputs, out of the array
-total-from : (u n : ℕ) (array cs bs us rest : List ℕ) → array ≡ padded cs → length cs ≡ n → readOutputs u n cs 0 0 bs ≡ value (us, rest) → sumOf (atNets array 0 us) ≡ sumOf (atNets cs 0 us)
-total-from u n array cs bs us rest p e r = rw p (pad-sum cs us (below (length cs) 0 us (rw (← e) at (outputs-ok u n cs 0 0 bs (us, rest) r))))
+total-from : (u i n : ℕ) (array cs bs us rest : List ℕ) → array ≡ padded cs → length cs ≡ n → readOutputs u i n cs 0 0 bs ≡ value (us, rest)
+    → sumOf (map (outputCount i array) us) ≡ sumOf (map (outputCount i cs) us)
+total-from u i n array cs bs us rest p e r =
+    rw p (ap sumOf (pad-counts i cs us (below (length cs) 0 us (rw (← e) at (outputs-ok u i n cs 0 0 bs (us, rest) r)))))
 
 module _ (s array : List ℕ) (i g u : ℕ) (h : HeaderRead s i g u)
     (a : GatesAnswer) (ga : GatesAre a array s (replicate i 1) (readGates g (replicate i 1) (drop 8 s))) where
@@ -83,19 +85,19 @@ module _ (s array : List ℕ) (i g u : ℕ) (h : HeaderRead s i g u)
     count-many = omega (arith, length-netByNet gateCount 0 (done .gates) (replicate i 1), length-replicate {A = ℕ} i 1, many)
 
     -- the outputs, as the code reads them out of the array
-    same : readOutputs u (i + g) array 0 0 (drop at s) ≡ readOutputs u (i + g) cs 0 0 (drop at s)
+    same : readOutputs u i (i + g) array 0 0 (drop at s) ≡ readOutputs u i (i + g) cs 0 0 (drop at s)
     unfolding cs
-    same = from-array u (i + g) array cs (drop at s) (done .array-is) count-many
+    same = from-array u i (i + g) array cs (drop at s) (done .array-is) count-many
 
-    module _ (o : OutputsAnswer) (oa : OutputsAre o s array (readOutputs u (i + g) array 0 0 (drop at s))) where
+    module _ (o : OutputsAnswer) (oa : OutputsAre o s i array (readOutputs u i (i + g) array 0 0 (drop at s))) where
       pub body-outputs : (r : Surveyed) (w : Refusal) → o ≡ outputs.Refused w → r ≡ refusedBy w → SurveyTrue r s
       unfolding body cs
       body-outputs r w h e =
-          let x : readOutputs u (i + g) array 0 0 (drop at s) ≡ refused (refusalNumber w) = rw h at oa in
+          let x : readOutputs u i (i + g) array 0 0 (drop at s) ≡ refused (refusalNumber w) = rw h at oa in
           refused-surveys r w s e (opened ∙ rw (done .read, sym same ∙ x) refl)
 
       module _ (end total : ℕ) (f : o ≡ outputs.Done end total) where
-        last : OutputsEnd end total s array (readOutputs u (i + g) array 0 0 (drop at s))
+        last : OutputsEnd end total s i array (readOutputs u i (i + g) array 0 0 (drop at s))
         last = rw f at oa
 
         pub body-left : (r : Surveyed) → end < length s → r ≡ refusedBy why.BytesLeftOver → SurveyTrue r s
@@ -113,8 +115,8 @@ module _ (s array : List ℕ) (i g u : ℕ) (h : HeaderRead s i g u)
         pub body-legal : length s ≤ end → SurveyTrue (record { answer = survey.Legal; survey = record { counts = array; inputs = i; gates = g; outputs = u; total = total } }) s
         unfolding surveyCall surveyOf pathTotal counts cs
         body-legal h =
-            let n : u ≡ length (last .outputs) = sym (outputs-fit u (i + g) array 0 0 (drop at s) (last .outputs, drop end s) (last .read) (omega arith) .0) in
-            let t = last .total-is ∙ total-from u (i + g) array cs (drop at s) (last .outputs) (drop end s) (done .array-is) count-many (sym same ∙ last .read) in
+            let n : u ≡ length (last .outputs) = sym (outputs-fit u i (i + g) array 0 0 (drop at s) (last .outputs, drop end s) (last .read) (omega arith) .0) in
+            let t = last .total-is ∙ total-from u i (i + g) array cs (drop at s) (last .outputs) (drop end s) (done .array-is) count-many (sym same ∙ last .read) in
             let c = done .array-is in
             record { answer = rw (whole h) refl; survey = rw (whole h) (λ k. record { counts = c k; inputs = i; gates = sym many k; outputs = n k; total = t k }) }
 

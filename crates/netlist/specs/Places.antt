@@ -46,10 +46,11 @@ unfoldable pub OutputsIn : List ℕ → ℕ → ℕ → Type 0
 OutputsIn file at zero = at ≤ length file
 OutputsIn file at (suc n) = (at + 4 ≤ length file) × (field (at + 2) 2 file < maxNets) × OutputsIn file (at + 4) n
 
--- what an inner function is handed of a legal netlist's file: its gates' positions, its counts in an array of 512, its number of outputs
-pub record Tables (file ps cs : List ℕ) (outputs : ℕ) : Type 0 where
+-- what an inner function is handed of a legal netlist's file: its gates' positions, its counts in an array of 512, its numbers of inputs and outputs
+pub record Tables (file ps cs : List ℕ) (inputs outputs : ℕ) : Type 0 where
   pub netlist : Netlist
   pub isRead : readNetlist file ≡ value netlist
   pub positionsAre : ps ≡ positions file netlist
   pub countsAre : cs ≡ padded (counts netlist)
+  pub inputsAre : inputs ≡ netlist .inputs
   pub outputsAre : outputs ≡ length (netlist .outputs)

@@ -2,12 +2,12 @@
 -- Assumes nothing.
 use Prim.Native.Nat.{ℕ, _+_, _*_, _≤_, _<_}
 use mathlib.Core.Path.{_≡_}
-use mathlib.Core.List.{List}
+use mathlib.Core.List.{List, map}
 use mathlib.Core.Bool.{Bool}
 use lib.ListN.{length, getD, drop}
 use lib.Dec.{ltb}
 use Rattle.model.specs.Base.{Answer, refused, value, checks, allOf, sumOf, field, _>>_}
-use Rattle.model.specs.Netlist.{Gate, netByNet, gateCount, atNets, maxNets, maxCount}
+use Rattle.model.specs.Netlist.{Gate, netByNet, gateCount, atNets, outputCount, maxNets, maxCount}
 use Rattle.model.specs.Read.{headerRules, inputsIn, gatesIn, outputsIn, gateRules, countIn, outputRules, netFields}
 use Rattle.model.specs.Refusals.{refusalNumber}
 use Rattle.model.specs.Calls.{padded}
@@ -96,20 +96,20 @@ outputOf (output.Output n t) = value (record { net = n; total = t })
 outputOf (output.Refused w) = refused (refusalNumber w)
 
 -- Output by output: the rules of one output, then its net and the sum with its count
-unfoldable pub outputStep : ℕ → List ℕ → ℕ → ℕ → List ℕ → Answer OutputRead
-outputStep nets cs low total bs =
-    checks (outputRules nets cs low total bs) >> value (record { net = field 2 2 bs; total = total + getD cs (field 2 2 bs) 0 })
+unfoldable pub outputStep : ℕ → ℕ → List ℕ → ℕ → ℕ → List ℕ → Answer OutputRead
+outputStep inputs nets cs low total bs =
+    checks (outputRules inputs nets cs low total bs) >> value (record { net = field 2 2 bs; total = total + outputCount inputs cs (field 2 2 bs) })
 
 -- the outputs were read up to a position, with their sum
-pub record OutputsEnd (at total : ℕ) (file cs : List ℕ) (x : Answer (List ℕ × List ℕ)) : Type 0 where
+pub record OutputsEnd (at total : ℕ) (file : List ℕ) (inputs : ℕ) (cs : List ℕ) (x : Answer (List ℕ × List ℕ)) : Type 0 where
   pub outputs : List ℕ
   pub read : x ≡ value (outputs, drop at file)
-  pub total-is : total ≡ sumOf (atNets cs 0 outputs)
+  pub total-is : total ≡ sumOf (map (outputCount inputs cs) outputs)
   pub within : at ≤ length file
 
-abbrev pub OutputsAre : OutputsAnswer → List ℕ → List ℕ → Answer (List ℕ × List ℕ) → Type 0
-OutputsAre (outputs.Done at total) file cs x = OutputsEnd at total file cs x
-OutputsAre (outputs.Refused w) file cs x = x ≡ refused (refusalNumber w)
+abbrev pub OutputsAre : OutputsAnswer → List ℕ → ℕ → List ℕ → Answer (List ℕ × List ℕ) → Type 0
+OutputsAre (outputs.Done at total) file inputs cs x = OutputsEnd at total file inputs cs x
+OutputsAre (outputs.Refused w) file inputs cs x = x ≡ refused (refusalNumber w)
 
 -- the answer to a refused netlist
 abbrev pub refusedBy : Refusal → Surveyed

@@ -1,8 +1,9 @@
 // A survey with the positions of the gates' records, for our own crates.
 ghost use mathlib.Core.Path.{_≡_};
 ghost use mathlib.Core.List.{_++_};
-ghost use Prim.Native.Nat.{_+_, _≤_};
+ghost use Prim.Native.Nat.{_+_, _≤_, _<_};
 ghost use lib.ListN.{replicate};
+ghost use Rattle.model.specs.Netlist.{outputCount};
 ghost use Rattle.model.specs.Calls.{padded};
 ghost use Rattle.netlist.specs.Places.{RecordsIn, starts};
 ghost use Rattle.netlist.specs.Answers.{LoadTrue};
@@ -62,4 +63,15 @@ fn gate_positions(netlist: &[u8], inputs: usize, gates: usize) -> [u16; 512]
         left -= 1;
     }
     positions
+}
+
+// How many paths end at an output at this net: none at an input, where the output is a wire without a gate.
+pub fn output_paths(counts: &[u64; 512], inputs: usize, net: usize) -> u64
+    requires { ⌜ net < 512 ⌝ }
+    ensures { λ r. ⌜ r ≡ outputCount inputs (now (counts .entry)) net ⌝ }
+{
+    if net < inputs {
+        return 0;
+    }
+    counts[net]
 }

@@ -60,7 +60,7 @@ fn survey_body(netlist: &[u8], inputs: usize, gates: usize, outputs: usize) -> S
         GatesAnswer::Refused(why) => refuse(why),
         GatesAnswer::Done(at) => {
             let nets = inputs + gates;
-            let last = read_outputs(netlist, at, outputs, nets, &counts);
+            let last = read_outputs(netlist, at, outputs, inputs, nets, &counts);
             match last {
                 OutputsAnswer::Refused(why) => refuse(why),
                 OutputsAnswer::Done { at: end, total } => {

@@ -4,6 +4,7 @@ ghost use Prim.Native.Nat.{_^_, _≤_};
 ghost use lib.ListN.{length, drop};
 ghost use Rattle.model.specs.Read.{readOutputs};
 ghost use Rattle.netlist.specs.Reading.{outputOf, outputStep, OutputsAre};
+use crate::inner::output_paths;
 use model::MAX_COUNT;
 use model::Refusal;
 use records::inner::begins_with;
@@ -26,11 +27,12 @@ pub(crate) fn read_outputs(
     netlist: &[u8],
     from: usize,
     outputs: usize,
+    inputs: usize,
     nets: usize,
     counts: &[u64; 512],
 ) -> OutputsAnswer
     requires { ⌜ (from ≤ length (now netlist)) × (nets ≤ 512) ⌝ }
-    ensures { λ r. ⌜ OutputsAre r (now (netlist .entry)) (now (counts .entry)) (readOutputs outputs nets (now (counts .entry)) 0 0 (drop from (now (netlist .entry)))) ⌝ }
+    ensures { λ r. ⌜ OutputsAre r (now (netlist .entry)) inputs (now (counts .entry)) (readOutputs outputs inputs nets (now (counts .entry)) 0 0 (drop from (now (netlist .entry)))) ⌝ }
 {
     let mut left = outputs;
     let mut at = from;
@@ -38,7 +40,7 @@ pub(crate) fn read_outputs(
     let mut total: u64 = 0;
     while 0 < left {
         let part = &netlist[at..];
-        let output = read_output(part, nets, low, total, counts);
+        let output = read_output(part, inputs, nets, low, total, counts);
         match output {
             OutputAnswer::Output { net, total: next } => {
                 low = net + 1;
@@ -54,16 +56,17 @@ pub(crate) fn read_outputs(
     OutputsAnswer::Done { at, total }
 }
 
-// One output, from the part of the file that begins at its mark. It names a net from `low` to below `nets`.
+// One output, from the part of the file that begins at its mark. It names a net from `low` to below `nets`; those below `inputs` have no path.
 fn read_output(
     part: &[u8],
+    inputs: usize,
     nets: usize,
     low: usize,
     total: u64,
     counts: &[u64; 512],
 ) -> OutputAnswer
     requires { ⌜ (nets ≤ 512) × (total ≤ 2 ^ 62) ⌝ }
-    ensures { λ r. ⌜ outputOf r ≡ outputStep nets (now (counts .entry)) low total (now (part .entry)) ⌝ }
+    ensures { λ r. ⌜ outputOf r ≡ outputStep inputs nets (now (counts .entry)) low total (now (part .entry)) ⌝ }
 {
     let marked = begins_with(part, 4, 0x4F, 0x55);
     if !marked {
@@ -76,7 +79,7 @@ fn read_output(
     if net < low {
         return OutputAnswer::Refused(Refusal::OutputNet);
     }
-    let count = counts[net];
+    let count = output_paths(counts, inputs, net);
     if MAX_COUNT - total < count {
         return OutputAnswer::Refused(Refusal::TotalOverLimit);
     }

@@ -64,7 +64,7 @@ module _ (file : List ℕ) (k : ℕ) (ws : List ℕ) (h : 513 ≤ length ws) (r 
         high : k ≤ pathTotal (is .netlist)
         high = subst (λ m. k ≤ m) (is .totalIs) z
 
-        pub write-wanted : Wanted file (r .positions) (r .survey .counts) (r .survey .outputs) k
+        pub write-wanted : Wanted file (r .positions) (r .survey .counts) (r .survey .inputs) (r .survey .outputs) k
         write-wanted =
             let tables = loaded-tables r file t l in
             let same : is .netlist ≡ loaded-tables r file t l .netlist = value-inj (sym (is .isRead) ∙ loaded-tables r file t l .isRead) in
@@ -99,7 +99,7 @@ module _ (file ws : List ℕ) (r : Loaded) (t : LoadTrue r file) where
   read-netlist w l = rw (loaded-refused r file t w l) refl
 
   module _ (l : r .answer ≡ survey.Legal) where
-    pub read-tables : Tables file (r .positions) (r .survey .counts) (r .survey .outputs)
+    pub read-tables : Tables file (r .positions) (r .survey .counts) (r .survey .inputs) (r .survey .outputs)
     read-tables = loaded-tables r file t l
 
     module _ (k : ℕ) (f : (M : Netlist) → readNetlist file ≡ value M → k ≡ numberIn M ws) where

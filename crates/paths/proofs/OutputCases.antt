@@ -11,6 +11,7 @@ use lib.Seq.{drop-drop}
 use mir.Val.{Fits}
 use mir.Syntax.{w64}
 use Rattle.model.specs.Base.{sumOf, field, fromLittleEndian}
+use Rattle.model.specs.Netlist.{outputCount}
 use Rattle.model.specs.Path.{split}
 use Rattle.model.proofs.NumberLaws.{split-here, split-there}
 use Rattle.netlist.specs.Places.{outputsFrom, OutputsIn}
@@ -22,9 +23,10 @@ outs-step zero at s h = absurd (omega arith)
 outs-step (suc left) at s h =
     ap₂ (λ (a : List ℕ) (b : List ℕ). fromLittleEndian (take 2 a) ∷ outputsFrom left b) (drop-drop 2 at s) (drop-drop 4 at s) ∙ rw (sub-one (suc left)) refl
 
-counts-step : (left at : ℕ) (s cs : List ℕ) → 0 < left → countsFrom s cs left at ≡ getD cs (field (at + 2) 2 s) 0 ∷ countsFrom s cs (left - 1) (at + 4)
+counts-step : (left at : ℕ) (s : List ℕ) (inputs : ℕ) (cs : List ℕ) → 0 < left
+    → countsFrom s inputs cs left at ≡ outputCount inputs cs (field (at + 2) 2 s) ∷ countsFrom s inputs cs (left - 1) (at + 4)
 unfolding countsFrom
-counts-step left at s cs h = rw (outs-step left at s h) refl
+counts-step left at s inputs cs h = rw (outs-step left at s h) refl
 
 in-step : (left at : ℕ) (s : List ℕ) → 0 < left → OutputsIn s at left → (at + 4 ≤ length s) × (field (at + 2) 2 s < 512) × OutputsIn s (at + 4) (left - 1)
 unfolding OutputsIn
@@ -32,16 +34,16 @@ in-step zero at s h r = absurd (omega arith)
 in-step (suc left) at s h r = rw (sub-one (suc left)) r
 
 -- the state of the loop: the number among the outputs that are left
-pub record OutLeft (s cs : List ℕ) (left at place rest : ℕ) (n from i : ℕ) : Type 0 where
-  pub pin-is : split (countsFrom s cs n from) i .0 ≡ place + split (countsFrom s cs left at) rest .0
-  pub net-is : getD (outputsFrom n (drop from s)) (split (countsFrom s cs n from) i .0) 0 ≡ getD (outputsFrom left (drop at s)) (split (countsFrom s cs left at) rest .0) 0
-  pub number-is : split (countsFrom s cs n from) i .1 ≡ split (countsFrom s cs left at) rest .1
-  pub small : rest ≤ sumOf (countsFrom s cs left at)
+pub record OutLeft (s : List ℕ) (inputs : ℕ) (cs : List ℕ) (left at place rest : ℕ) (n from i : ℕ) : Type 0 where
+  pub pin-is : split (countsFrom s inputs cs n from) i .0 ≡ place + split (countsFrom s inputs cs left at) rest .0
+  pub net-is : getD (outputsFrom n (drop from s)) (split (countsFrom s inputs cs n from) i .0) 0 ≡ getD (outputsFrom left (drop at s)) (split (countsFrom s inputs cs left at) rest .0) 0
+  pub number-is : split (countsFrom s inputs cs n from) i .1 ≡ split (countsFrom s inputs cs left at) rest .1
+  pub small : rest ≤ sumOf (countsFrom s inputs cs left at)
 
-pub out-start : (s cs : List ℕ) (n from i : ℕ) → i ≤ sumOf (countsFrom s cs n from) → OutLeft s cs n from 0 i n from i
-out-start s cs n from i h = record { pin-is = omega arith; net-is = refl; number-is = refl; small = h }
+pub out-start : (s : List ℕ) (inputs : ℕ) (cs : List ℕ) (n from i : ℕ) → i ≤ sumOf (countsFrom s inputs cs n from) → OutLeft s inputs cs n from 0 i n from i
+out-start s inputs cs n from i h = record { pin-is = omega arith; net-is = refl; number-is = refl; small = h }
 
-module _ (s cs : List ℕ) (left at place rest n from i : ℕ) (more : 0 < left) (r : OutputsIn s at left) where
+module _ (s : List ℕ) (inputs : ℕ) (cs : List ℕ) (left at place rest n from i : ℕ) (more : 0 < left) (r : OutputsIn s at left) where
   pub out-room : at + 4 ≤ length s
   out-room = in-step left at s more r .0
 
@@ -60,44 +62,53 @@ module _ (s cs : List ℕ) (left at place rest n from i : ℕ) (more : 0 < left)
   pub out-net : (net : ℕ) → net ≡ field (at + 2) 2 s → net < 512
   out-net net e = omega (arith, in-step left at s more r .1)
 
-  here : (c net : ℕ) → net ≡ field (at + 2) 2 s → c ≡ getD cs net 0 → rest ≤ c → split (countsFrom s cs left at) rest ≡ (0, rest)
-  here c net en ec h = ap (λ (x : List ℕ). split x rest) (counts-step left at s cs more) ∙ split-here _ _ rest (omega (arith, ec, ap (λ k. getD cs k 0) en))
+  module _ (net : ℕ) (en : net ≡ field (at + 2) 2 s) where
+    count-is : outputCount inputs cs net ≡ outputCount inputs cs (field (at + 2) 2 s)
+    count-is = ap (outputCount inputs cs) en
 
-  taken : (net : ℕ) → net ≡ field (at + 2) 2 s → rest ≤ getD cs net 0 → OutLeft s cs left at place rest n from i → record { pin = place; net = net; number = rest } ≡ pickOutput s cs n from i
-  unfolding pickOutput
-  taken net en h l =
-      let z = here (getD cs net 0) net en refl h in
-      let a : split (countsFrom s cs left at) rest .0 ≡ 0 = ap (λ (x : ℕ × ℕ). x .0) z in
-      let p : place ≡ split (countsFrom s cs n from) i .0 = omega (arith, l .pin-is, a) in
-      let q : rest ≡ split (countsFrom s cs n from) i .1 = sym (l .number-is ∙ ap (λ (x : ℕ × ℕ). x .1) z) in
-      let t : net ≡ getD (outputsFrom n (drop from s)) (split (countsFrom s cs n from) i .0) 0 =
-      en ∙ sym (l .net-is ∙ ap₂ (λ (x : List ℕ) y. getD x y 0) (outs-step left at s more) a) in
-      λ k. record { pin = p k; net = t k; number = q k }
+    -- the number is at most the sum over the outputs left, of which this one is the first
+    among : OutLeft s inputs cs left at place rest n from i → rest ≤ sumOf (outputCount inputs cs (field (at + 2) 2 s) ∷ countsFrom s inputs cs (left - 1) (at + 4))
+    among l = subst (λ (x : List ℕ). rest ≤ sumOf x) (counts-step left at s inputs cs more) (l .small)
 
-  pub out-here : (net : ℕ) → net ≡ field (at + 2) 2 s → rest ≤ getD cs net 0 → OutLeft s cs left at place rest n from i → record { pin = place; net = net; number = rest } ≡ pickOutput s cs n from i
-  out-here net en h l = taken net en h l
+    here : rest ≤ outputCount inputs cs net → split (countsFrom s inputs cs left at) rest ≡ (0, rest)
+    here h = ap (λ (x : List ℕ). split x rest) (counts-step left at s inputs cs more) ∙ split-here _ _ rest (omega (arith, count-is))
 
-  pub out-last : (net : ℕ) → net ≡ field (at + 2) 2 s → left ≤ 1 → OutLeft s cs left at place rest n from i → record { pin = place; net = net; number = rest } ≡ pickOutput s cs n from i
-  unfolding countsFrom outputsFrom
-  out-last net en h l =
-      let one : left - 1 ≡ 0 = omega arith in
-      let b : rest ≤ sumOf (getD cs (field (at + 2) 2 s) 0 ∷ countsFrom s cs (left - 1) (at + 4)) = subst (λ (x : List ℕ). rest ≤ sumOf x) (counts-step left at s cs more) (l .small) in
-      let c : sumOf (countsFrom s cs (left - 1) (at + 4)) ≡ 0 = ap (λ k. sumOf (countsFrom s cs k (at + 4))) one in
-      taken net en (omega (arith, b, c, ap (λ k. getD cs k 0) en)) l
+    taken : rest ≤ outputCount inputs cs net → OutLeft s inputs cs left at place rest n from i
+        → record { pin = place; net = net; number = rest } ≡ pickOutput s inputs cs n from i
+    unfolding pickOutput
+    taken h l =
+        let z = here h in
+        let a : split (countsFrom s inputs cs left at) rest .0 ≡ 0 = ap (λ (x : ℕ × ℕ). x .0) z in
+        let p : place ≡ split (countsFrom s inputs cs n from) i .0 = omega (arith, l .pin-is, a) in
+        let q : rest ≡ split (countsFrom s inputs cs n from) i .1 = sym (l .number-is ∙ ap (λ (x : ℕ × ℕ). x .1) z) in
+        let t : net ≡ getD (outputsFrom n (drop from s)) (split (countsFrom s inputs cs n from) i .0) 0 =
+        en ∙ sym (l .net-is ∙ ap₂ (λ (x : List ℕ) y. getD x y 0) (outs-step left at s more) a) in
+        λ k. record { pin = p k; net = t k; number = q k }
 
-  pub out-again : (net : ℕ) → net ≡ field (at + 2) 2 s → getD cs net 0 < rest → OutLeft s cs left at place rest n from i → OutLeft s cs (left - 1) (at + 4) (place + 1) (rest - getD cs net 0) n from i
-  out-again net en h l =
-      let c : getD cs net 0 ≡ getD cs (field (at + 2) 2 s) 0 = ap (λ k. getD cs k 0) en in
-      let z : split (countsFrom s cs left at) rest ≡ (suc (split (countsFrom s cs (left - 1) (at + 4)) (rest - getD cs net 0) .0), split (countsFrom s cs (left - 1) (at + 4)) (rest - getD cs net 0) .1) =
-      ap (λ (x : List ℕ). split x rest) (counts-step left at s cs more ∙ ap (λ k. k ∷ countsFrom s cs (left - 1) (at + 4)) (sym c)) ∙ split-there (getD cs net 0) (countsFrom s cs (left - 1) (at + 4)) rest h in
-      let a = ap (λ (x : ℕ × ℕ). x .0) z in
-      let b : rest ≤ sumOf (getD cs (field (at + 2) 2 s) 0 ∷ countsFrom s cs (left - 1) (at + 4)) = subst (λ (x : List ℕ). rest ≤ sumOf x) (counts-step left at s cs more) (l .small) in
-      record {
-        pin-is = omega (arith, l .pin-is, a);
-        net-is = l .net-is ∙ ap₂ (λ (x : List ℕ) y. getD x y 0) (outs-step left at s more) a;
-        number-is = l .number-is ∙ ap (λ (x : ℕ × ℕ). x .1) z;
-        small = omega (arith, b, c);
-      }
+    pub out-last : left ≤ 1 → OutLeft s inputs cs left at place rest n from i → record { pin = place; net = net; number = rest } ≡ pickOutput s inputs cs n from i
+    unfolding countsFrom outputsFrom
+    out-last h l =
+        let one : left - 1 ≡ 0 = omega arith in
+        let c : sumOf (countsFrom s inputs cs (left - 1) (at + 4)) ≡ 0 = ap (λ k. sumOf (countsFrom s inputs cs k (at + 4))) one in
+        taken (omega (arith, among l, c, count-is)) l
+
+    module _ (count : ℕ) (ec : count ≡ outputCount inputs cs net) where
+      pub out-here : rest ≤ count → OutLeft s inputs cs left at place rest n from i → record { pin = place; net = net; number = rest } ≡ pickOutput s inputs cs n from i
+      out-here h l = taken (omega arith) l
+
+      pub out-again : count < rest → OutLeft s inputs cs left at place rest n from i → OutLeft s inputs cs (left - 1) (at + 4) (place + 1) (rest - count) n from i
+      out-again h l =
+          let c : count ≡ outputCount inputs cs (field (at + 2) 2 s) = ec ∙ count-is in
+          let others = countsFrom s inputs cs (left - 1) (at + 4) in
+          let z : split (countsFrom s inputs cs left at) rest ≡ (suc (split others (rest - count) .0), split others (rest - count) .1) =
+          ap (λ (x : List ℕ). split x rest) (counts-step left at s inputs cs more ∙ ap (λ k. k ∷ others) (sym c)) ∙ split-there count others rest h in
+          let a = ap (λ (x : ℕ × ℕ). x .0) z in
+          record {
+            pin-is = omega (arith, l .pin-is, a);
+            net-is = l .net-is ∙ ap₂ (λ (x : List ℕ) y. getD x y 0) (outs-step left at s more) a;
+            number-is = l .number-is ∙ ap (λ (x : ℕ × ℕ). x .1) z;
+            small = omega (arith, among l, c);
+          }
 
 pub ruleset out-cases = (out-start, out-room, out-read, out-at-fits, out-read-fits, out-next, out-net, out-here, out-last, out-again, needs)
 
@@ -111,20 +122,20 @@ take-le zero xs = omega arith
 take-le (suc n) [] = omega arith
 take-le (suc n) (x ∷ xs) = omega (arith, take-le n xs)
 
-pub record BeforeLeft (s cs : List ℕ) (left more at total whole : ℕ) : Type 0 where
-  pub whole-is : total + sumOf (take left (countsFrom s cs more at)) ≡ whole
+pub record BeforeLeft (s : List ℕ) (inputs : ℕ) (cs : List ℕ) (left more at total whole : ℕ) : Type 0 where
+  pub whole-is : total + sumOf (take left (countsFrom s inputs cs more at)) ≡ whole
   pub small : whole ≤ 2 ^ 62
   pub fewer : left ≤ more
 
-pub before-start : (s cs : List ℕ) (place outputs from : ℕ) → place ≤ outputs → sumOf (countsFrom s cs outputs from) ≤ 2 ^ 62
-    → BeforeLeft s cs place outputs from 0 (sumOf (take place (countsFrom s cs outputs from)))
-before-start s cs place outputs from h b = record { whole-is = omega arith; small = omega (arith, take-le place (countsFrom s cs outputs from)); fewer = h }
+pub before-start : (s : List ℕ) (inputs : ℕ) (cs : List ℕ) (place outputs from : ℕ) → place ≤ outputs → sumOf (countsFrom s inputs cs outputs from) ≤ 2 ^ 62
+    → BeforeLeft s inputs cs place outputs from 0 (sumOf (take place (countsFrom s inputs cs outputs from)))
+before-start s inputs cs place outputs from h b = record { whole-is = omega arith; small = omega (arith, take-le place (countsFrom s inputs cs outputs from)); fewer = h }
 
-pub before-end : (s cs : List ℕ) (left more at total whole : ℕ) → left ≤ 0 → BeforeLeft s cs left more at total whole → total ≡ whole
-before-end s cs zero more at total whole h l = omega (arith, l .whole-is)
-before-end s cs (suc left) more at total whole h l = absurd (omega arith)
+pub before-end : (s : List ℕ) (inputs : ℕ) (cs : List ℕ) (left more at total whole : ℕ) → left ≤ 0 → BeforeLeft s inputs cs left more at total whole → total ≡ whole
+before-end s inputs cs zero more at total whole h l = omega (arith, l .whole-is)
+before-end s inputs cs (suc left) more at total whole h l = absurd (omega arith)
 
-module _ (s cs : List ℕ) (left more at total whole : ℕ) (some : 0 < left) (r : OutputsIn s at more) (l : BeforeLeft s cs left more at total whole) where
+module _ (s : List ℕ) (inputs : ℕ) (cs : List ℕ) (left more at total whole : ℕ) (some : 0 < left) (r : OutputsIn s at more) (l : BeforeLeft s inputs cs left more at total whole) where
   some-more : 0 < more
   some-more = omega (arith, l .fewer)
 
@@ -147,16 +158,17 @@ module _ (s cs : List ℕ) (left more at total whole : ℕ) (some : 0 < left) (r
     pub before-net : net < 512
     before-net = omega (arith, in-step more at s some-more r .1)
 
-    step : total + getD cs net 0 + sumOf (take (left - 1) (countsFrom s cs (more - 1) (at + 4))) ≡ whole
-    step =
-        let c : getD cs net 0 ≡ getD cs (field (at + 2) 2 s) 0 = ap (λ k. getD cs k 0) en in
-        let z = ap (λ (x : List ℕ). sumOf (take left x)) (counts-step more at s cs some-more) in
-        omega (arith, l .whole-is, z, take-step left (getD cs (field (at + 2) 2 s) 0) (countsFrom s cs (more - 1) (at + 4)) some, c)
+    module _ (count : ℕ) (ec : count ≡ outputCount inputs cs net) where
+      step : total + count + sumOf (take (left - 1) (countsFrom s inputs cs (more - 1) (at + 4))) ≡ whole
+      step =
+          let c : count ≡ outputCount inputs cs (field (at + 2) 2 s) = ec ∙ ap (outputCount inputs cs) en in
+          let z = ap (λ (x : List ℕ). sumOf (take left x)) (counts-step more at s inputs cs some-more) in
+          omega (arith, l .whole-is, z, take-step left (outputCount inputs cs (field (at + 2) 2 s)) (countsFrom s inputs cs (more - 1) (at + 4)) some, c)
 
-    pub before-sum-fits : Fits w64 (total + getD cs net 0)
-    before-sum-fits = record { fits = omega (arith, step, l .small) }
+      pub before-sum-fits : Fits w64 (total + count)
+      before-sum-fits = record { fits = omega (arith, step, l .small) }
 
-    pub before-again : BeforeLeft s cs (left - 1) (more - 1) (at + 4) (total + getD cs net 0) whole
-    before-again = record { whole-is = step; small = l .small; fewer = omega (arith, l .fewer) }
+      pub before-again : BeforeLeft s inputs cs (left - 1) (more - 1) (at + 4) (total + count) whole
+      before-again = record { whole-is = step; small = l .small; fewer = omega (arith, l .fewer) }
 
 pub ruleset outputs-before-cases = (before-start, before-end, before-more, before-read, before-at-fits, before-read-fits, before-next, before-net, before-sum-fits, before-again, needs)

@@ -1,15 +1,15 @@
 -- The cases of reading a path, by what was found in its words.
 -- Assumes nothing.
 use mathlib.Core.Path.{_≡_, refl, ap, ap₂, sym, _∙_, subst}
-use mathlib.Core.Bool.{Bool, true, false}
+use mathlib.Core.Bool.{Bool, true, false, _&&_}
 use mathlib.Core.List.{List}
 use mathlib.Core.Logic.{⊎-elim}
 use Prim.Native.Nat.{ℕ, _+_, _-_, _*_, _^_, _<_, _≤_}
 use native.Mathlib.Omega.{arith}
 use borrow.Author.Needs.{needs}
 use borrow.Author.Tests.{le-leb, lt-leb, eq-eqb, ne-eqb, lt-ltb, le-ltb}
-use lib.Dec.{T}
-use lib.ListN.{getD, length, take, drop}
+use lib.Dec.{T, ltb, leb, eqb}
+use lib.ListN.{getD, length, take, drop, length-drop}
 use mir.Val.{Fits}
 use mir.Syntax.{w64}
 use Rattle.model.specs.Base.{value, sumOf, field}
@@ -33,7 +33,17 @@ use Rattle.paths.proofs.TableLaws.{four-fits, counts-from, tables-sound
 chosen : (v : Bool) (a : ℕ) → v ≡ false → 0 ≡ choose v a 0
 chosen v a e = rw e refl
 
-module _ (file ps cs : List ℕ) (n : ℕ) (r : Tables file ps cs n) where
+-- one of three tests fails
+middle-false : (a b c : Bool) → b ≡ false → (a && b && c) ≡ false
+middle-false true b c e = rw e refl
+middle-false false b c e = refl
+
+last-false : (a b c : Bool) → c ≡ false → (a && b && c) ≡ false
+last-false true true c e = e
+last-false true false c e = refl
+last-false false b c e = refl
+
+module _ (file ps cs : List ℕ) (i n : ℕ) (r : Tables file ps cs i n) where
   abbrev N : Netlist
   N = r .netlist
 
@@ -44,25 +54,34 @@ module _ (file ps cs : List ℕ) (n : ℕ) (r : Tables file ps cs n) where
   for-all ws x e M em = e ∙ ap (λ (y : Netlist). numberIn y ws) (value-inj (sym (r .isRead) ∙ em))
 
   pub net-read : (place : ℕ) → place < n → length file - 4 * n + 4 * place + 2 + 1 < length file
-  net-read place there = omega (arith, outputs-room file ps cs n r)
+  net-read place there = omega (arith, outputs-room file ps cs i n r)
 
-  pub total-small : sumOf (countsFrom file cs n (length file - 4 * n)) ≤ 2 ^ 62
+  pub total-small : sumOf (countsFrom file i cs n (length file - 4 * n)) ≤ 2 ^ 62
   unfolding pathTotal
-  total-small = subst (λ (x : List ℕ). sumOf x ≤ 2 ^ 62) (sym (counts-from file ps cs n r)) (limits file N (r .isRead) .totalFits)
+  total-small = subst (λ (x : List ℕ). sumOf x ≤ 2 ^ 62) (sym (counts-from file ps cs i n r)) (limits file N (r .isRead) .totalFits)
 
-  pub words-short : (ws : List ℕ) → length ws < 2 → (M : Netlist) → readNetlist file ≡ value M → 0 ≡ numberIn M ws
-  unfolding numberIn
-  words-short ws h = for-all ws 0 (rw (lt-leb 2 (length ws) h) refl)
+  -- fewer words have no pin
+  pub words-short : (ws : List ℕ) → length ws < 3 → (M : Netlist) → readNetlist file ≡ value M → 0 ≡ numberIn M ws
+  unfolding numberIn valid
+  words-short ws h =
+      let none : ltb 0 (length (drop 2 ws)) ≡ false = le-ltb 0 (length (drop 2 ws)) (omega (arith, length-drop 2 ws)) in
+      let out = ltb (getD ws 0 0) (length (N .outputs)) in
+      let rest = validAt N (outputNet N (getD ws 0 0)) (drop 2 ws) in
+      let bare : valid N (pathIn ws) ≡ false = middle-false out (ltb 0 (length (drop 2 ws))) rest none in
+      for-all ws 0 (chosen (isPath N ws) _ (last-false (leb 2 (length ws)) (eqb (length ws) (2 + getD ws 1 0)) (valid N (pathIn ws)) bare))
 
-  module _ (ws : List ℕ) (long : 2 ≤ length ws) (pins : ℕ) (ep : pins ≡ getD ws 1 0) where
+  module _ (ws : List ℕ) (long : 3 ≤ length ws) (pins : ℕ) (ep : pins ≡ getD ws 1 0) where
+    two : 2 ≤ length ws
+    two = omega arith
+
     pub words-long : (length ws ≡ 2 + pins → ⊥) → (M : Netlist) → readNetlist file ≡ value M → 0 ≡ numberIn M ws
     unfolding numberIn
-    words-long h = for-all ws 0 (rw (le-leb 2 (length ws) long, ← ep, ne-eqb (length ws) (2 + pins) h) refl)
+    words-long h = for-all ws 0 (rw (le-leb 2 (length ws) two, ← ep, ne-eqb (length ws) (2 + pins) h) refl)
 
     module _ (exact : length ws ≡ 2 + pins) (place : ℕ) (eo : place ≡ getD ws 0 0) where
       -- then the words are a path where it is valid
       is-valid : isPath N ws ≡ valid N (pathIn ws)
-      is-valid = rw (le-leb 2 (length ws) long, ← ep, eq-eqb (length ws) (2 + pins) exact) refl
+      is-valid = rw (le-leb 2 (length ws) two, ← ep, eq-eqb (length ws) (2 + pins) exact) refl
 
       pub words-output : n ≤ place → (M : Netlist) → readNetlist file ≡ value M → 0 ≡ numberIn M ws
       unfolding numberIn valid
@@ -73,7 +92,7 @@ module _ (file ps cs : List ℕ) (n : ℕ) (r : Tables file ps cs n) where
       module _ (there : place < n) where
         module _ (net : ℕ) (en : net ≡ field (length file - 4 * n + 4 * place + 2) 2 file) where
           net-is : net ≡ outputNet N (getD ws 0 0)
-          net-is = en ∙ output-net-at file ps cs n r place there ∙ ap (outputNet N) eo
+          net-is = en ∙ output-net-at file ps cs i n r place there ∙ ap (outputNet N) eo
 
           here : getD ws 0 0 < length (N .outputs)
           here = omega (arith, r .outputsAre)
@@ -96,7 +115,9 @@ module _ (file ps cs : List ℕ) (n : ℕ) (r : Tables file ps cs n) where
 
             valid-is : isPath N ws ≡ validAt N (outputNet N (getD ws 0 0)) (drop 2 ws)
             unfolding valid
-            valid-is = is-valid ∙ rw (lt-ltb (getD ws 0 0) (length (N .outputs)) here) refl
+            valid-is =
+                let some : 0 < length (drop 2 ws) = omega (arith, length-drop 2 ws) in
+                is-valid ∙ rw (lt-ltb (getD ws 0 0) (length (N .outputs)) here, lt-ltb 0 (length (drop 2 ws)) some) refl
 
             at-least : validAt N (outputNet N (getD ws 0 0)) (drop 2 ws) ≡ true → 1 ≤ numberAt N (outputNet N (getD ws 0 0)) (drop 2 ws)
             at-least v = number-bounds N w (drop 2 ws) (outputNet N (getD ws 0 0)) (output-net N w (getD ws 0 0) here) (true→T (validAt N (outputNet N (getD ws 0 0)) (drop 2 ws)) v) .0
@@ -113,17 +134,17 @@ module _ (file ps cs : List ℕ) (n : ℕ) (r : Tables file ps cs n) where
               v : validAt N (outputNet N (getD ws 0 0)) (drop 2 ws) ≡ true
               v = ⊎-elim (λ v. v) (λ v. absurd (some (rest-is ∙ rw v refl))) (bool-cases (validAt N (outputNet N (getD ws 0 0)) (drop 2 ws)))
 
-              whole-is : rest + sumOf (take place (countsFrom file cs n (length file - 4 * n))) ≡ numberOf N (pathIn ws)
+              whole-is : rest + sumOf (take place (countsFrom file i cs n (length file - 4 * n))) ≡ numberOf N (pathIn ws)
               unfolding numberOf
-              whole-is = ap₂ (λ x y. x + y) (rest-is ∙ rw v refl) (ap₂ (λ x (y : List ℕ). sumOf (take x y)) eo (counts-from file ps cs n r))
+              whole-is = ap₂ (λ x y. x + y) (rest-is ∙ rw v refl) (ap₂ (λ x (y : List ℕ). sumOf (take x y)) eo (counts-from file ps cs i n r))
 
               is-path : T (valid N (pathIn ws))
               is-path = true→T (valid N (pathIn ws)) (sym is-valid ∙ valid-is ∙ v)
 
-              pub words-fits : (b : ℕ) → b ≡ sumOf (take place (countsFrom file cs n (length file - 4 * n))) → Fits w64 (rest + b)
+              pub words-fits : (b : ℕ) → b ≡ sumOf (take place (countsFrom file i cs n (length file - 4 * n))) → Fits w64 (rest + b)
               words-fits b eb = record { fits = omega (arith, whole-is, eb, numbers-bounds N w (pathIn ws) is-path .1, limits file N (r .isRead) .totalFits) }
 
-              pub words-done : (b : ℕ) → b ≡ sumOf (take place (countsFrom file cs n (length file - 4 * n))) → (M : Netlist) → readNetlist file ≡ value M → rest + b ≡ numberIn M ws
+              pub words-done : (b : ℕ) → b ≡ sumOf (take place (countsFrom file i cs n (length file - 4 * n))) → (M : Netlist) → readNetlist file ≡ value M → rest + b ≡ numberIn M ws
               unfolding numberIn
               words-done b eb =
                   for-all ws (rest + b) (ap (λ x. rest + x) eb ∙ whole-is ∙ sym (ap (λ (c : Bool). choose c (numberOf N (pathIn ws)) 0) (valid-is ∙ v)))

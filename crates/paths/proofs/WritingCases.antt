@@ -16,7 +16,7 @@ use Rattle.model.specs.Path.{CircuitPath, pathOf, split, pathAt}
 use Rattle.model.specs.Read.{readNetlist}
 use Rattle.model.specs.Calls.{pathWritten, wordsOf}
 use Rattle.model.proofs.AnswerLaws.{value-inj}
-use Rattle.model.proofs.NumberLaws.{splits, output-net, length-outputCounts, outputCounts-at, number-of-path}
+use Rattle.model.proofs.NumberLaws.{splits, output-net, length-outputCounts, outputCounts-at, output-gate, number-of-path}
 use Rattle.model.proofs.PathCallLaws.{path-fits}
 use Rattle.model.proofs.ReadLaws.{legal, limits}
 use Rattle.model.proofs.WellFormed.{WellFormed}
@@ -82,7 +82,7 @@ length-blank : (n : ℕ) (ws : List ℕ) → n ≤ length ws → length (blank n
 unfolding blank
 length-blank n ws h = omega (arith, length-append (replicate n 0) (drop n ws), length-replicate {A = ℕ} n 0, length-drop n ws)
 
-module _ (file ps cs : List ℕ) (n k : ℕ) (r : Wanted file ps cs n k) where
+module _ (file ps cs : List ℕ) (i n k : ℕ) (r : Wanted file ps cs i n k) where
   abbrev N : Netlist
   N = r .tables .netlist
 
@@ -93,35 +93,35 @@ module _ (file ps cs : List ℕ) (n k : ℕ) (r : Wanted file ps cs n k) where
   w = legal file N isRead
 
   pub wanted-some : 0 < n
-  wanted-some = outputs-some file ps cs n (r .tables)
+  wanted-some = outputs-some file ps cs i n (r .tables)
 
   pub wanted-four : Fits w64 (4 * n)
-  wanted-four = four-fits file ps cs n (r .tables)
+  wanted-four = four-fits file ps cs i n (r .tables)
 
   pub wanted-room : 4 * n ≤ length file
-  wanted-room = outputs-room file ps cs n (r .tables)
+  wanted-room = outputs-room file ps cs i n (r .tables)
 
   pub wanted-outputs : OutputsIn file (length file - 4 * n) n
-  wanted-outputs = outputs-in file ps cs n (r .tables)
+  wanted-outputs = outputs-in file ps cs i n (r .tables)
 
-  out-counts : countsFrom file cs n (length file - 4 * n) ≡ outputCounts N
-  out-counts = counts-from file ps cs n (r .tables)
+  out-counts : countsFrom file i cs n (length file - 4 * n) ≡ outputCounts N
+  out-counts = counts-from file ps cs i n (r .tables)
 
-  pub wanted-small : k ≤ sumOf (countsFrom file cs n (length file - 4 * n))
+  pub wanted-small : k ≤ sumOf (countsFrom file i cs n (length file - 4 * n))
   unfolding pathTotal
   wanted-small = subst (λ (x : List ℕ). k ≤ sumOf x) (sym out-counts) (r .high)
 
   pub wanted-sound : Sound file ps
-  wanted-sound = tables-sound file ps cs n (r .tables)
+  wanted-sound = tables-sound file ps cs i n (r .tables)
 
-  module _ (o : Pick) (eo : o ≡ pickOutput file cs n (length file - 4 * n) k) where
+  module _ (o : Pick) (eo : o ≡ pickOutput file i cs n (length file - 4 * n) k) where
     pin-is : o .pin ≡ split (outputCounts N) k .0
     unfolding pickOutput
     pin-is = ap (λ (x : Pick). x .pin) eo ∙ ap (λ (x : List ℕ). split x k .0) out-counts
 
     net-is : o .net ≡ outputNet N (split (outputCounts N) k .0)
     unfolding pickOutput
-    net-is = ap (λ (x : Pick). x .net) eo ∙ ap₂ (λ (x : List ℕ) (y : List ℕ). getD x (split y k .0) 0) (outputs-are file ps cs n (r .tables)) out-counts
+    net-is = ap (λ (x : Pick). x .net) eo ∙ ap₂ (λ (x : List ℕ) (y : List ℕ). getD x (split y k .0) 0) (outputs-are file ps cs i n (r .tables)) out-counts
 
     number-is : o .number ≡ split (outputCounts N) k .1
     unfolding pickOutput
@@ -148,7 +148,8 @@ module _ (file ps cs : List ℕ) (n k : ℕ) (r : Wanted file ps cs n k) where
     unfolding pathOf pathTotal
     pins-are =
         let s = splits (outputCounts N) k (r .low) (r .high) in
-        let c = outputCounts-at N w (split (outputCounts N) k .0) place in
+        let g = output-gate N w (split (outputCounts N) k .0) place (omega (arith, s .low, s .high)) in
+        let c = outputCounts-at N w (split (outputCounts N) k .0) place g in
         ap₂ (λ (x : List ℕ) (y : List ℕ). pathFrom file x y (o .net + 1) (o .net) (o .number)) (r .tables .positionsAre) (r .tables .countsAre)
         ∙ path-is file N isRead (o .net) (o .number) net-low (omega (arith, s .low, number-is)) (omega (arith, s .high, number-is, c, ap (λ x. getD (counts N) x 0) net-is))
         ∙ ap₂ (λ x y. pathAt N x x y) net-is number-is

@@ -10,8 +10,8 @@ use Rattle.netlist.specs.Places.{Tables}
 use Rattle.paths.specs.Walk.{choose}
 
 -- a legal netlist's tables, and a number of one of its paths
-pub record Wanted (file ps cs : List ℕ) (outputs number : ℕ) : Type 0 where
-  pub tables : Tables file ps cs outputs
+pub record Wanted (file ps cs : List ℕ) (inputs outputs number : ℕ) : Type 0 where
+  pub tables : Tables file ps cs inputs outputs
   pub low : 1 ≤ number
   pub high : number ≤ pathTotal (tables .netlist)
 

@@ -36,7 +36,14 @@ pub fn path_to_number(netlist: &[u8], path: &[u16]) -> NumberAnswer
     match answer {
         SurveyAnswer::Refused(why) => NumberAnswer::Refused(why),
         SurveyAnswer::Legal => {
-            let number = read_path(netlist, &positions, &survey.counts, survey.outputs, path);
+            let number = read_path(
+                netlist,
+                &positions,
+                &survey.counts,
+                survey.inputs,
+                survey.outputs,
+                path,
+            );
             if number == 0 {
                 return NumberAnswer::Refused(Refusal::NotAPath);
             }
@@ -70,6 +77,7 @@ pub fn number_to_path(netlist: &[u8], number: PathNo, path: &mut [u16]) -> PathA
                 netlist,
                 &positions,
                 &survey.counts,
+                survey.inputs,
                 survey.outputs,
                 wanted,
                 path,

@@ -6,18 +6,20 @@ ghost use Rattle.model.specs.Base.{sumOf};
 ghost use Rattle.netlist.specs.Places.{OutputsIn};
 ghost use Rattle.paths.specs.Outputs.{countsFrom, pickOutput};
 use crate::pins::Pick;
+use netlist::inner::output_paths;
 use records::inner::u16_at;
 
 // The output that path `number` ends at, with its net and the number there. The outputs' records begin at `from`.
 pub(crate) fn pick_output(
     netlist: &[u8],
     counts: &[u64; 512],
+    inputs: usize,
     from: usize,
     outputs: usize,
     number: u64,
 ) -> Pick
-    requires { ⌜ (0 < outputs) × OutputsIn (now netlist) from outputs × (number ≤ sumOf (countsFrom (now netlist) (now counts) outputs from)) ⌝ }
-    ensures { λ r. ⌜ r ≡ pickOutput (now (netlist .entry)) (now (counts .entry)) outputs from number ⌝ }
+    requires { ⌜ (0 < outputs) × OutputsIn (now netlist) from outputs × (number ≤ sumOf (countsFrom (now netlist) inputs (now counts) outputs from)) ⌝ }
+    ensures { λ r. ⌜ r ≡ pickOutput (now (netlist .entry)) inputs (now (counts .entry)) outputs from number ⌝ }
 {
     let mut left = outputs;
     let mut at = from;
@@ -25,7 +27,7 @@ pub(crate) fn pick_output(
     let mut rest = number;
     while 1 < left {
         let net = u16_at(netlist, at + 2);
-        let count = counts[net];
+        let count = output_paths(counts, inputs, net);
         if rest <= count {
             return Pick {
                 pin: place,
@@ -50,12 +52,13 @@ pub(crate) fn pick_output(
 pub(crate) fn outputs_before(
     netlist: &[u8],
     counts: &[u64; 512],
+    inputs: usize,
     from: usize,
     outputs: usize,
     place: usize,
 ) -> u64
-    requires { ⌜ (place ≤ outputs) × OutputsIn (now netlist) from outputs × (sumOf (countsFrom (now netlist) (now counts) outputs from) ≤ 2 ^ 62) ⌝ }
-    ensures { λ r. ⌜ r ≡ sumOf (take place (countsFrom (now (netlist .entry)) (now (counts .entry)) outputs from)) ⌝ }
+    requires { ⌜ (place ≤ outputs) × OutputsIn (now netlist) from outputs × (sumOf (countsFrom (now netlist) inputs (now counts) outputs from) ≤ 2 ^ 62) ⌝ }
+    ensures { λ r. ⌜ r ≡ sumOf (take place (countsFrom (now (netlist .entry)) inputs (now (counts .entry)) outputs from)) ⌝ }
 {
     let mut left = place;
     let mut more = outputs;
@@ -63,7 +66,7 @@ pub(crate) fn outputs_before(
     let mut total: u64 = 0;
     while 0 < left {
         let net = u16_at(netlist, at + 2);
-        total += counts[net];
+        total += output_paths(counts, inputs, net);
         at += 4;
         more -= 1;
         left -= 1;

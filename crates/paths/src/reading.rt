@@ -15,18 +15,19 @@ use records::inner::u16_at;
 use records::inner::wide;
 use records::inner::wide_word;
 
-// The number of the path in the words of a legal netlist, or 0 where they are none.
+// The number of the path in the words of a legal netlist, or 0 where they are none. A path has at least one pin, so at least three words.
 pub(crate) fn read_path(
     netlist: &[u8],
     positions: &[u16; 512],
     counts: &[u64; 512],
+    inputs: usize,
     outputs: usize,
     words: &[u16],
 ) -> u64
-    requires { ⌜ Tables (now netlist) (now positions) (now counts) outputs ⌝ }
+    requires { ⌜ Tables (now netlist) (now positions) (now counts) inputs outputs ⌝ }
     ensures { λ r. ⌜ ((N : Netlist) → readNetlist (now (netlist .entry)) ≡ value N → r ≡ numberIn N (now (words .entry))) ⌝ }
 {
-    if words.len() < 2 {
+    if words.len() < 3 {
         return 0;
     }
     let pins = wide_word(words[1]);
@@ -43,7 +44,7 @@ pub(crate) fn read_path(
     if rest == 0 {
         return 0;
     }
-    rest + outputs_before(netlist, counts, from, outputs, place)
+    rest + outputs_before(netlist, counts, inputs, from, outputs, place)
 }
 
 // The number of the partial path of `net` whose pins are the words from `at` on, or 0 where they are none.

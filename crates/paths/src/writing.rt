@@ -20,15 +20,16 @@ pub(crate) fn write_path(
     netlist: &[u8],
     positions: &[u16; 512],
     counts: &[u64; 512],
+    inputs: usize,
     outputs: usize,
     number: u64,
     path: &mut [u16],
 )
-    requires { ⌜ Wanted (now netlist) (now positions) (now counts) outputs number × (pathWords ≤ length (now path)) ⌝ }
+    requires { ⌜ Wanted (now netlist) (now positions) (now counts) inputs outputs number × (pathWords ≤ length (now path)) ⌝ }
     ensures { λ r. ⌜ ((N : Netlist) → readNetlist (now (netlist .entry)) ≡ value N → now (path .exit) ≡ pathWritten (pathOf N number) (now (path .entry))) ⌝ }
 {
     let from = netlist.len() - 4 * outputs;
-    let out = pick_output(netlist, counts, from, outputs, number);
+    let out = pick_output(netlist, counts, inputs, from, outputs, number);
     clear(path);
     path[0] = out.pin as u16;
     let end = descend(netlist, positions, counts, out.net, out.number, path, 2);

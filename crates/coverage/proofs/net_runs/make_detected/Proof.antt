@@ -36,7 +36,7 @@ same-length c = search needs
 -- src/lib.rt:231:1
 returns : tie.Need-returns
 returns c = let a = c .before .before .before .before .before .before .before .before .before .before .before .before .before .before .args in
-    λ K e. edge-detects K (a .netlist .now) (a .positions .now) (a .counts .now) (a .masks .now) (a .edges) (a .inputs) (a .nets) (a .at) (a .outputs) (a .words .now) e (c .before .before .before .before .before .before .before .before .before .net-runs .last .1 .1 .1 .1 .1 .1 .1 .1 .0) (c .before .before .before .before .before .before .before .before .before .net-runs .last .1 .1 .1 .1 .1 .1 .1 .0) (c .before .before .before .before .before .before .before .before .before .net-runs .result) (c .before .before .before .before .before .before .before .before .before .net-runs .ensures K (edge-nets K (a .netlist .now) (a .positions .now) (a .counts .now) (a .masks .now) (a .edges) (a .inputs) (a .nets) (a .at) (a .outputs) (a .words .now) e _ refl)) (c .before .before .before .before .before .enum-told .given .0 .0) (c .before .before .before .before .before .enum-told .given .1) (c .before .before .out-runs .last .1 .1 .1 .1 .1 .0) (c .before .before .out-runs .result) (c .before .before .out-runs .ensures)
+    λ K e. edge-detects K (a .netlist .now) (a .positions .now) (a .counts .now) (a .masks .now) (a .edges) (a .inputs) (a .nets) (a .at) (a .outputs) (a .words .now) e (c .before .before .before .before .before .before .before .before .before .net-runs .last .1 .1 .1 .1 .1 .1 .1 .1 .0) (c .before .before .before .before .before .before .before .before .before .net-runs .last .1 .1 .1 .1 .1 .1 .1 .0) (c .before .before .before .before .before .before .before .before .before .net-runs .result) (c .before .before .before .before .before .before .before .before .before .net-runs .ensures K (edge-nets K (a .netlist .now) (a .positions .now) (a .counts .now) (a .masks .now) (a .edges) (a .inputs) (a .nets) (a .at) (a .outputs) (a .words .now) e _ refl)) (c .before .before .before .before .before .enum-told .given .0 .0) (c .before .before .before .before .before .enum-told .given .1) (c .before .before .out-runs .last .1 .1 .1 .1 .1 .1 .0) (c .before .before .out-runs .result) (c .before .before .out-runs .ensures)
 
 -- src/lib.rt:231:1
 same-length-2 : tie.Need-same-length-2

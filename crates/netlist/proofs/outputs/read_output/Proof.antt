@@ -20,11 +20,8 @@ returns-2 c = search output-cases
 returns-3 : tie.Need-returns-3
 returns-3 c = search output-cases
 
-mul-count : tie.Need-mul-count
-mul-count c = search needs
-
-element-copy-out-count : tie.Need-element-copy-out-count
-element-copy-out-count c = search needs
+output-paths-requires : tie.Need-output-paths-requires
+output-paths-requires c κs = search needs
 
 sub-if4 : tie.Need-sub-if4
 sub-if4 c = search needs
@@ -32,8 +29,8 @@ sub-if4 c = search needs
 returns-4 : tie.Need-returns-4
 returns-4 c = search output-cases
 
-add-t16 : tie.Need-add-t16
-add-t16 c = search needs
+add-t14 : tie.Need-add-t14
+add-t14 c = search needs
 
 returns-5 : tie.Need-returns-5
 returns-5 c = search output-cases
@@ -47,9 +44,8 @@ read-output-spec =
     u16-at-requires
     returns-2
     returns-3
-    mul-count
-    element-copy-out-count
+    output-paths-requires
     sub-if4
     returns-4
-    add-t16
+    add-t14
     returns-5)

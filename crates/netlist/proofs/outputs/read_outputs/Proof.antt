@@ -9,13 +9,13 @@ use Rattle.netlist.proofs.outputs.read_outputs.Statement.{statement}
 use Rattle.netlist.proofs.outputs.read_outputs.Tie as tie
 
 abbrev Inv-loop : tie.InvT-loop
-Inv-loop netlist from outputs nets counts left₀ at₀ low₀ total₀ left at low total =
+Inv-loop netlist from outputs inputs nets counts left₀ at₀ low₀ total₀ left at low total =
     (at ≤ length netlist)
     × (total ≤ 2 ^ 62)
-    × OutputsLeft left nets low total at counts netlist (readOutputs outputs nets counts 0 0 (drop from netlist))
+    × OutputsLeft left inputs nets low total at counts netlist (readOutputs outputs inputs nets counts 0 0 (drop from netlist))
 
 abbrev μ-loop : tie.MeasureT-loop
-μ-loop netlist from outputs nets counts left₀ at₀ low₀ total₀ left at low total = left
+μ-loop netlist from outputs inputs nets counts left₀ at₀ low₀ total₀ left at low total = left
 
 loop-holds : tie.Need-loop-holds Inv-loop μ-loop
 loop-holds c = search (outputs-start, needs)

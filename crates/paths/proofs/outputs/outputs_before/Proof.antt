@@ -8,10 +8,11 @@ use Rattle.paths.proofs.outputs.outputs_before.Statement.{statement}
 use Rattle.paths.proofs.outputs.outputs_before.Tie as tie
 
 abbrev Inv-loop : tie.InvT-loop
-Inv-loop netlist counts from outputs place left₀ more₀ at₀ total₀ left more at total = OutputsIn netlist at more × BeforeLeft netlist counts left more at total (sumOf (take place (countsFrom netlist counts outputs from)))
+Inv-loop netlist counts inputs from outputs place left₀ more₀ at₀ total₀ left more at total =
+    OutputsIn netlist at more × BeforeLeft netlist inputs counts left more at total (sumOf (take place (countsFrom netlist inputs counts outputs from)))
 
 abbrev μ-loop : tie.MeasureT-loop
-μ-loop netlist counts from outputs place left₀ more₀ at₀ total₀ left more at total = left
+μ-loop netlist counts inputs from outputs place left₀ more₀ at₀ total₀ left more at total = left
 
 loop-holds : tie.Need-loop-holds Inv-loop μ-loop
 loop-holds c = search outputs-before-cases
@@ -22,11 +23,8 @@ add-u16-at c = search outputs-before-cases
 u16-at-requires : tie.Need-u16-at-requires Inv-loop μ-loop
 u16-at-requires c κs = search outputs-before-cases
 
-mul-total : tie.Need-mul-total Inv-loop μ-loop
-mul-total c = search outputs-before-cases
-
-element-copy-out-total : tie.Need-element-copy-out-total Inv-loop μ-loop
-element-copy-out-total c = search outputs-before-cases
+output-paths-requires : tie.Need-output-paths-requires Inv-loop μ-loop
+output-paths-requires c κs = search outputs-before-cases
 
 add-total : tie.Need-add-total Inv-loop μ-loop
 add-total c = search outputs-before-cases
@@ -58,8 +56,7 @@ outputs-before-spec =
     loop-holds
     add-u16-at
     u16-at-requires
-    mul-total
-    element-copy-out-total
+    output-paths-requires
     add-total
     add-at
     sub-more

@@ -6,10 +6,11 @@ use Rattle.paths.proofs.outputs.pick_output.Statement.{statement}
 use Rattle.paths.proofs.outputs.pick_output.Tie as tie
 
 abbrev Inv-loop : tie.InvT-loop
-Inv-loop netlist counts from outputs number left₀ at₀ place₀ rest₀ left at place rest = (0 < left) × OutputsIn netlist at left × (place + left ≤ outputs) × OutLeft netlist counts left at place rest outputs from number
+Inv-loop netlist counts inputs from outputs number left₀ at₀ place₀ rest₀ left at place rest =
+    (0 < left) × OutputsIn netlist at left × (place + left ≤ outputs) × OutLeft netlist inputs counts left at place rest outputs from number
 
 abbrev μ-loop : tie.MeasureT-loop
-μ-loop netlist counts from outputs number left₀ at₀ place₀ rest₀ left at place rest = left
+μ-loop netlist counts inputs from outputs number left₀ at₀ place₀ rest₀ left at place rest = left
 
 loop-holds : tie.Need-loop-holds Inv-loop μ-loop
 loop-holds c = search out-cases
@@ -20,11 +21,8 @@ add-u16-at c = search out-cases
 u16-at-requires : tie.Need-u16-at-requires Inv-loop μ-loop
 u16-at-requires c κs = search out-cases
 
-mul-count : tie.Need-mul-count Inv-loop μ-loop
-mul-count c = search out-cases
-
-element-copy-out-count : tie.Need-element-copy-out-count Inv-loop μ-loop
-element-copy-out-count c = search out-cases
+output-paths-requires : tie.Need-output-paths-requires Inv-loop μ-loop
+output-paths-requires c κs = search out-cases
 
 returns : tie.Need-returns Inv-loop μ-loop
 returns c = search out-cases
@@ -65,8 +63,7 @@ pick-output-spec =
     loop-holds
     add-u16-at
     u16-at-requires
-    mul-count
-    element-copy-out-count
+    output-paths-requires
     returns
     sub-rest
     add-at
