@@ -22,6 +22,7 @@
  *  17  count of a net over 2^62                 18  output cut off or its mark
  *  19  no such net, or not higher               21  paths of the outputs over 2^62
  *  20  bytes left over after the netlist
+ *  83  class of tests neither 1 nor 2
  *  33  test file not whole records, or over 4,294,967,295 of them
  *  30  test record's length                     31  test record's mark
  *  32  spare bit set
@@ -35,7 +36,7 @@
  *  82  number of inputs, gates, both together, outputs or pins out of range
  *
  * Kinds 1 and 2 (buffer, NOT) have one pin, kinds 3 to 8 (AND, NAND, OR, NOR, XOR, XNOR) 1 to 8. With one pin AND, OR and XOR act as a
- * buffer, NAND, NOR and XNOR as NOT, and the pin is open.
+ * buffer, NAND, NOR and XNOR as NOT, and the pin is open (in class 2 where its net differs between V1 and V2).
  *
  * An output that is an input net is a wire without a gate: it has no path and adds nothing to the paths of the outputs (21 and the survey).
  * Where all outputs are wires there is no path: every path and fault number is 60. Words of a path without pins are 61.
@@ -62,6 +63,11 @@ extern "C" {
 /* Least bytes of a buffer for one vector's records of a load. */
 #define GENDUWAL_LOAD_BYTES 2304
 
+/* The classes of tests: a test detects a fault non-robustly, or robustly (so that no other delay hides the fault; by the rule of Lin and
+ * Reddy). Every robust fault of a test is also one of its non-robust faults. */
+#define GENDUWAL_NON_ROBUST 1
+#define GENDUWAL_ROBUST 2
+
 /* The survey of a netlist. answer: inputs, gates, outputs, paths, then the count of paths of each of 512 nets, zero past the last net.
  * Refusals: 10 to 15, 17 to 21. */
 uint32_t genduwal_survey(const uint8_t *netlist, size_t netlist_len, uint64_t answer[516]);
@@ -70,12 +76,12 @@ uint32_t genduwal_survey(const uint8_t *netlist, size_t netlist_len, uint64_t an
  * Refusals: 1. */
 uint32_t genduwal_empty(uint64_t *store, size_t store_len);
 
-/* Adds the faults that one test record detects to a store of 4,098 words. answer: new rising faults, new falling faults, rising faults then
- * held, falling faults then held. work is at least 8,192 words; the first 8,192 may hold anything afterwards, later ones stay as they were.
- * A refused call leaves the store as it was.
- * Refusals: 1, 2, 10 to 15, 17 to 21, 30 to 32, 40 to 42, 50, 51. */
-uint32_t genduwal_test(const uint8_t *netlist, size_t netlist_len, const uint8_t *test, size_t test_len, uint64_t *store, size_t store_len,
-                       uint64_t *work, size_t work_len, uint64_t answer[4]);
+/* Adds the faults that one test record detects in a class to a store of 4,098 words. answer: new rising faults, new falling faults, rising
+ * faults then held, falling faults then held. work is at least 8,192 words; the first 8,192 may hold anything afterwards, later ones stay as
+ * they were. A refused call leaves the store as it was. A store does not remember classes: calls on one store may be of unlike classes.
+ * Refusals: 1, 2, 10 to 15, 17 to 21, 83, 30 to 32, 40 to 42, 50, 51. */
+uint32_t genduwal_test(const uint8_t *netlist, size_t netlist_len, const uint8_t *test, size_t test_len, uint32_t test_class,
+                       uint64_t *store, size_t store_len, uint64_t *work, size_t work_len, uint64_t answer[4]);
 
 /* The faults that a store of 4,098 words holds. answer: rising faults, falling faults.
  * Refusals: 1, 10 to 15, 17 to 21, 40 to 42. */
@@ -102,13 +108,13 @@ uint32_t genduwal_number_to_path(const uint8_t *netlist, size_t netlist_len, uin
 uint32_t genduwal_write_report(const uint8_t *netlist, size_t netlist_len, const uint64_t *store, size_t store_len, uint32_t tests,
                                uint8_t *report, size_t report_len, uint64_t answer[1]);
 
-/* Judges a report: empties the store unread, takes the test records, which lie end to end in tests, in their order, and accepts (returns 0)
- * if the report is the one that the writer gives for the store then reached and the number of records. store is 4,098 words, of any content;
- * work is at least 8,192 words, used as by a test. An accepting call leaves the store that the tests reach, one refused with a number over 2
- * leaves it all zeros.
- * Refusals: 1, 2, 10 to 15, 17 to 21, 31 to 33, 50, 51, 70 to 72. */
+/* Judges a report: empties the store unread, takes the test records, which lie end to end in tests, in their order, all in one class, and
+ * accepts (returns 0) if the report is the one that the writer gives for the store then reached and the number of records. store is 4,098
+ * words, of any content; work is at least 8,192 words, used as by a test. An accepting call leaves the store that the tests reach, one
+ * refused with a number over 2 leaves it all zeros.
+ * Refusals: 1, 2, 10 to 15, 17 to 21, 83, 31 to 33, 50, 51, 70 to 72. */
 uint32_t genduwal_audit(const uint8_t *netlist, size_t netlist_len, const uint8_t *tests, size_t tests_len, const uint8_t *report,
-                        size_t report_len, uint64_t *store, size_t store_len, uint64_t *work, size_t work_len);
+                        size_t report_len, uint32_t test_class, uint64_t *store, size_t store_len, uint64_t *work, size_t work_len);
 
 /* The same audit with its test file in pieces, so that a file of any length is judged: the same answer and the same store as genduwal_audit
  * has for the pieces joined. A caller keeps two numbers, the bytes so far and the first refusal, 0 if there is none:
@@ -118,20 +124,20 @@ uint32_t genduwal_audit(const uint8_t *netlist, size_t netlist_len, const uint8_
  *    it. The first refusal is kept; once a piece is refused no other is handed over, but the bytes of all pieces are counted.
  * 3. genduwal_audit_end with these two numbers: its answer is that of the audit. If it is 33, that comes before the refusal of a record.
  *
- * The netlist is the same in all calls.
+ * The netlist is the same in all calls, and the class in the beginning and in all pieces.
  *
  * The beginning: empties the store unread. store is 4,098 words, of any content; work is at least 8,192 words, of which none is read. A call
  * refused with 1 or 2 leaves the store as it was, any other leaves it all zeros.
- * Refusals: 1, 2, 10 to 15, 17 to 21. */
-uint32_t genduwal_audit_begin(const uint8_t *netlist, size_t netlist_len, uint64_t *store, size_t store_len, const uint64_t *work,
-                              size_t work_len);
+ * Refusals: 1, 2, 10 to 15, 17 to 21, 83. */
+uint32_t genduwal_audit_begin(const uint8_t *netlist, size_t netlist_len, uint32_t test_class, uint64_t *store, size_t store_len,
+                              const uint64_t *work, size_t work_len);
 
 /* A piece: takes its records in their order; bytes after the last whole record are not looked at. answer: the number of records, all taken.
  * work is at least 8,192 words, used as by a test, and only once 40 to 42 are passed. A call refused with 1 or 2 leaves the store as it was,
  * with any other number all zeros.
- * Refusals: 1, 2, 10 to 15, 17 to 21, 40 to 42, then for one record after another 31, 32, 50, 51. */
-uint32_t genduwal_audit_piece(const uint8_t *netlist, size_t netlist_len, const uint8_t *piece, size_t piece_len, uint64_t *store,
-                              size_t store_len, uint64_t *work, size_t work_len, uint64_t answer[1]);
+ * Refusals: 1, 2, 10 to 15, 17 to 21, 83, 40 to 42, then for one record after another 31, 32, 50, 51. */
+uint32_t genduwal_audit_piece(const uint8_t *netlist, size_t netlist_len, const uint8_t *piece, size_t piece_len, uint32_t test_class,
+                              uint64_t *store, size_t store_len, uint64_t *work, size_t work_len, uint64_t answer[1]);
 
 /* The end: bytes is the length of the whole test file, first the number of the first refusal of a piece, or 0. Accepts (returns 0) if no
  * piece was refused and the report is the one that the writer gives for the store and the number of records in so many bytes. An accepting

@@ -42,10 +42,10 @@ impl Both {
     }
 
     /// One test call on both stores.
-    pub fn test(&mut self, netlist: &[u8], record: &[u8]) -> Result<[u64; 4], u32> {
+    pub fn test(&mut self, netlist: &[u8], record: &[u8], class: u32) -> Result<[u64; 4], u32> {
         let answers = (
-            verified::test(netlist, record, &mut self.verified.store, &mut self.verified.work),
-            self.twin.twin_test(netlist, record),
+            verified::test(netlist, record, class, &mut self.verified.store, &mut self.verified.work),
+            self.twin.twin_test(netlist, record, class),
         );
         assert_eq!(answers.0, answers.1, "answers of the test call differ");
         self.compared += 1;
@@ -53,10 +53,10 @@ impl Both {
     }
 
     /// The audit: the refusal's number, or 0.
-    pub fn audit(&mut self, netlist: &[u8], tests: &[u8], report: &[u8]) -> u32 {
+    pub fn audit(&mut self, netlist: &[u8], tests: &[u8], report: &[u8], class: u32) -> u32 {
         let answers = (
-            verified::audit(netlist, tests, report, &mut self.verified.store, &mut self.verified.work),
-            twin::audit(netlist, tests, report, &mut self.twin.store, &mut self.twin.work),
+            verified::audit(netlist, tests, report, class, &mut self.verified.store, &mut self.verified.work),
+            twin::audit(netlist, tests, report, class, &mut self.twin.store, &mut self.twin.work),
         );
         assert_eq!(answers.0, answers.1, "answers of the audit differ");
         self.same_stores("after an audit");
@@ -79,13 +79,13 @@ impl Both {
 }
 
 /// The test call over a load with the store going on: how many were refused with 50 and with 51.
-pub fn over_load(both: &mut Both, load: &Load) -> [usize; 2] {
+pub fn over_load(both: &mut Both, load: &Load, class: u32) -> [usize; 2] {
     both.set_stores(&[1; twin::STORE_WORDS]);
     verified::empty(&mut both.verified.store).unwrap();
     both.twin.store.fill(0);
     let mut refused = [0, 0];
     for (turn, record) in load.records().enumerate() {
-        match both.test(&load.netlist, record) {
+        match both.test(&load.netlist, record, class) {
             Ok(answer) if turn % 64 == 0 => {
                 assert_eq!(verified::totals(&load.netlist, &both.verified.store), Ok([answer[2], answer[3]]));
                 both.same_stores("over the load");
@@ -101,11 +101,11 @@ pub fn over_load(both: &mut Both, load: &Load) -> [usize; 2] {
 }
 
 /// The true report of a load, equal from both sides.
-pub fn true_report(both: &mut Both, load: &Load) -> Vec<u8> {
-    let accepted_by_none = both.audit(&load.netlist, &load.tests, &[]);
+pub fn true_report(both: &mut Both, load: &Load, class: u32) -> Vec<u8> {
+    let accepted_by_none = both.audit(&load.netlist, &load.tests, &[], class);
     assert_eq!(accepted_by_none, 70);
     for record in load.records() {
-        both.test(&load.netlist, record).expect("a taken record");
+        both.test(&load.netlist, record, class).expect("a taken record");
     }
     both.report(&load.netlist, load.records as u32, twin::REPORT_BYTES).expect("a report")
 }
@@ -117,59 +117,63 @@ fn changed(bytes: &[u8], at: usize, change: u8) -> Vec<u8> {
     copy
 }
 
-/// The refused audits of a load: 33, 31, 32, 70, 71, 72 and a netlist cut short.
-pub fn refused_audits(both: &mut Both, load: &Load, report: &[u8]) {
+/// The refused audits of a load: 83, 33, 31, 32, 70, 71, 72 and a netlist cut short.
+pub fn refused_audits(both: &mut Both, load: &Load, report: &[u8], class: u32) {
     let (netlist, tests) = (&load.netlist[..], &load.tests[..]);
     let middle = load.record_bytes * (load.records / 2);
     let spare = middle + load.record_bytes - 1;
     let more_runs = changed(report, 14, 1);
-    assert_eq!(both.audit(netlist, tests, report), 0);
-    assert_eq!(both.audit(netlist, &tests[..tests.len() - 1], report), 33);
-    assert_eq!(both.audit(netlist, &changed(tests, middle, 1), report), 31);
-    assert_eq!(both.audit(netlist, &changed(tests, middle + 1, 0x80), report), 31);
-    assert_eq!(both.audit(netlist, &changed(tests, spare, 0x80), report), 32);
-    assert_eq!(both.audit(netlist, tests, &report[..33]), 70);
-    assert_eq!(both.audit(netlist, tests, &changed(report, 0, 1)), 70);
-    assert_eq!(both.audit(netlist, tests, &more_runs), 71);
-    assert_eq!(both.audit(netlist, tests, &[report, &[0]].concat()), 71);
+    assert_eq!(both.audit(netlist, tests, report, class), 0);
+    assert_eq!(both.audit(netlist, &tests[..tests.len() - 1], report, class), 33);
+    assert_eq!(both.audit(netlist, &changed(tests, middle, 1), report, class), 31);
+    assert_eq!(both.audit(netlist, &changed(tests, middle + 1, 0x80), report, class), 31);
+    assert_eq!(both.audit(netlist, &changed(tests, spare, 0x80), report, class), 32);
+    assert_eq!(both.audit(netlist, tests, &report[..33], class), 70);
+    assert_eq!(both.audit(netlist, tests, &changed(report, 0, 1), class), 70);
+    assert_eq!(both.audit(netlist, tests, &more_runs, class), 71);
+    assert_eq!(both.audit(netlist, tests, &[report, &[0]].concat(), class), 71);
     for at in [2, 6, 18, 26, report.len() - 1] {
-        assert_eq!(both.audit(netlist, tests, &changed(report, at, 1)), 72);
+        assert_eq!(both.audit(netlist, tests, &changed(report, at, 1), class), 72);
+    }
+    for other in [0, 3, 49, u32::MAX] {
+        assert_eq!(both.audit(netlist, &tests[1..], report, other), 83);
     }
     let cut = netlist.len() - 1;
-    assert_eq!(both.audit(&netlist[..cut], tests, report), 18);
+    assert_eq!(both.audit(&netlist[..cut], tests, report, class), 18);
 }
 
 /// Lent memory of a wrong length: 1, 2 and 4.
 pub fn wrong_lengths(both: &mut Both, load: &Load, report: &[u8]) {
     let record = &load.tests[..load.record_bytes];
     both.set_stores(&[7; twin::STORE_WORDS - 1]);
-    assert_eq!(both.test(&load.netlist, record), Err(1));
-    assert_eq!(both.audit(&load.netlist, &load.tests, report), 1);
+    assert_eq!(both.test(&load.netlist, record, 1), Err(1));
+    assert_eq!(both.audit(&load.netlist, &load.tests, report, 1), 1);
     assert_eq!(both.report(&load.netlist, 1, twin::REPORT_BYTES), Err(1));
     assert_eq!(verified::empty(&mut both.verified.store), Err(1));
     both.set_stores(&[0; twin::STORE_WORDS]);
     assert_eq!(both.report(&load.netlist, 1, twin::REPORT_BYTES - 1), Err(4));
     both.verified.work.pop();
     both.twin.work.pop();
-    assert_eq!(both.test(&load.netlist, record), Err(2));
-    assert_eq!(both.audit(&load.netlist, &load.tests, report), 2);
+    assert_eq!(both.test(&load.netlist, record, 1), Err(2));
+    assert_eq!(both.audit(&load.netlist, &load.tests, report, 1), 2);
     both.verified.work.push(0);
     both.twin.work.push(0);
 }
 
-/// The test call on records and stores with one thing wrong: 30, 31, 32, 40, 41, 42.
+/// The test call on records and stores with one thing wrong: 83, 30, 31, 32, 40, 41, 42.
 pub fn refused_tests(both: &mut Both, load: &Load, store: &[u64], random: &mut Random) {
     let record = &load.tests[..load.record_bytes];
     both.set_stores(store);
-    assert_eq!(both.test(&load.netlist, &record[1..]), Err(30));
-    assert_eq!(both.test(&load.netlist, &changed(record, 0, 1)), Err(31));
-    assert_eq!(both.test(&load.netlist, &changed(record, record.len() - 1, 0x80)), Err(32));
+    assert_eq!(both.test(&load.netlist, &record[1..], 3), Err(83));
+    assert_eq!(both.test(&load.netlist, &record[1..], 1), Err(30));
+    assert_eq!(both.test(&load.netlist, &changed(record, 0, 1), 1), Err(31));
+    assert_eq!(both.test(&load.netlist, &changed(record, record.len() - 1, 0x80), 1), Err(32));
     for _ in 0..2000 {
         let mut broken = store.to_vec();
         let at = [0, 1, 2, 3, 2050, random.below(broken.len())][random.below(6)];
         broken[at] = [0, 1, 2, broken[at] + 1, broken[at].wrapping_sub(1), 1025, u64::MAX][random.below(7)];
         both.set_stores(&broken);
-        let _ = both.test(&load.netlist, record);
+        let _ = both.test(&load.netlist, record, 1);
         let _ = both.report(&load.netlist, 3, twin::REPORT_BYTES);
         both.same_stores("after a test on a broken store");
     }
@@ -212,15 +216,15 @@ pub fn limits(both: &mut Both) {
         assert_eq!(both.survey(&netlist_file(1, &chain, &[gates])), refused);
     }
     both.set_stores(&[0; twin::STORE_WORDS]);
-    assert_eq!(both.test(&xor_groups(1, 3), &[0x54, 0x50, 0, 1]), Ok([256, 0, 256, 0]));
-    assert_eq!(both.test(&xor_groups(1, 4), &[0x54, 0x50, 0, 1]), Err(50));
+    assert_eq!(both.test(&xor_groups(1, 3), &[0x54, 0x50, 0, 1], 1), Ok([256, 0, 256, 0]));
+    assert_eq!(both.test(&xor_groups(1, 4), &[0x54, 0x50, 0, 1], 1), Err(50));
     both.set_stores(&[0; twin::STORE_WORDS]);
     let five = xor_groups(5, 3);
     for group in 0..5u64 {
         let record = crate::loads::record(10, 0, 1 << (2 * group));
         let held = 256 * (group + 1);
         let expected = if group < 4 { Ok([256, 0, held, 0]) } else { Err(51) };
-        assert_eq!(both.test(&five, &record), expected);
+        assert_eq!(both.test(&five, &record, 1), expected);
         both.same_stores("of five groups");
     }
     both.survey(&adder_chain(96));

@@ -39,8 +39,8 @@ impl Memory {
     }
 
     /// The twin's test call.
-    pub fn twin_test(&mut self, netlist: &[u8], record: &[u8]) -> Result<[u64; 4], u32> {
-        twin::test(netlist, record, &mut self.store, &mut self.work)
+    pub fn twin_test(&mut self, netlist: &[u8], record: &[u8], class: u32) -> Result<[u64; 4], u32> {
+        twin::test(netlist, record, class, &mut self.store, &mut self.work)
     }
 }
 
@@ -103,13 +103,26 @@ pub fn mixed(netlist: &[u8], inputs: usize, count: usize) -> Load {
     Load::new(netlist, taken.concat(), inputs)
 }
 
-/// A record that the store takes: of the mixed kinds, or of one moved input, or else a repeat of a taken record.
+/// A store for each class of the load.
+pub type Memories = Vec<(u32, Memory)>;
+
+/// Whether each class's store takes a record; where one does not, all stay as they were.
+fn all_take(memories: &mut Memories, netlist: &[u8], record: &[u8]) -> bool {
+    let before: Vec<Vec<u64>> = memories.iter().map(|(_, memory)| memory.store.clone()).collect();
+    let taken = memories.iter_mut().all(|(class, memory)| memory.twin_test(netlist, record, *class).is_ok());
+    if !taken {
+        memories.iter_mut().zip(before).for_each(|((_, memory), store)| memory.store = store);
+    }
+    taken
+}
+
+/// A record that each class's store takes: of the mixed kinds, or of one moved input, or else a repeat of a taken record.
 fn next_taken(
     netlist: &[u8],
     inputs: usize,
     turn: usize,
     taken: &[Vec<u8>],
-    memory: &mut Memory,
+    memories: &mut Memories,
     random: &mut Random,
 ) -> Vec<u8> {
     for attempt in 0..8 {
@@ -119,7 +132,7 @@ fn next_taken(
             let v2 = random.next();
             record(inputs, v2 ^ 1 << random.below(inputs), v2)
         };
-        if memory.twin_test(netlist, &next).is_ok() {
+        if all_take(memories, netlist, &next) {
             return next;
         }
     }
@@ -129,13 +142,13 @@ fn next_taken(
     }
 }
 
-/// A mixed load whose records are all taken, in their order: for the audit, which ends at the first refused record.
-pub fn taken(netlist: &[u8], inputs: usize, count: usize) -> Load {
+/// A mixed load whose records are all taken in each of some classes, in their order: for the audit, which ends at the first refused record.
+pub fn taken(netlist: &[u8], inputs: usize, count: usize, classes: &[u32]) -> Load {
     let mut random = Random::new(0xD1B5_4A32_D192_ED03);
-    let mut memory = Memory::new();
+    let mut memories: Memories = classes.iter().map(|class| (*class, Memory::new())).collect();
     let mut taken: Vec<Vec<u8>> = Vec::with_capacity(count);
     for turn in 0..count {
-        taken.push(next_taken(netlist, inputs, turn, &taken, &mut memory, &mut random));
+        taken.push(next_taken(netlist, inputs, turn, &taken, &mut memories, &mut random));
     }
     Load::new(netlist, taken.concat(), inputs)
 }

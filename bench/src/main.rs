@@ -30,6 +30,9 @@ circuit      gates          T  records distinct  runs |  audit ms   twin ms rati
 const TEXT_HEAD: &str = "\
 gates  names bytes | text bytes |  convert us  twin us ratio | hashed us ratio";
 
+const CLASS_HEAD: &str = "\
+circuit      gates          T  records distinct  runs | class 1 ms | class 2 ms  twin ms ratio | to class 1";
+
 const GROWTH_HEAD: &str = "circuit      gates          T  records distinct  runs |  audit ms   twin ms ratio";
 
 const LOADS_HEAD: &str = "inputs |  load MB/s  twin MB/s ratio";
@@ -44,10 +47,11 @@ struct Bench {
     results: String,
 }
 
-/// A load of taken records with its true report, and what its circuit and final store are like.
+/// A load of records that are taken in a class, with its true report, and what its circuit and final store are like.
 struct Case {
     name: String,
     load: Load,
+    class: u32,
     report: Vec<u8>,
     gates: usize,
     paths: u64,
@@ -56,14 +60,14 @@ struct Case {
 
 impl Case {
     /// The case of a load, its report and its audit equal on both sides.
-    fn new(name: &str, load: Load, both: &mut Both) -> Case {
+    fn new(name: &str, load: Load, class: u32, both: &mut Both) -> Case {
         let survey = twin::survey(&load.netlist).expect("a legal netlist");
         assert_eq!(both.survey(&load.netlist), None);
-        let report = compare::true_report(both, &load);
-        assert_eq!(both.audit(&load.netlist, &load.tests, &report), 0);
+        let report = compare::true_report(both, &load, class);
+        assert_eq!(both.audit(&load.netlist, &load.tests, &report, class), 0);
         let runs = (report.len() - 34) / 16;
         let (gates, paths) = (survey.gates, survey.total);
-        Case { name: name.to_string(), load, report, gates, paths, runs }
+        Case { name: name.to_string(), load, class, report, gates, paths, runs }
     }
 
     /// The first columns of a table.
@@ -83,11 +87,11 @@ fn time_audit(case: &Case, repeats: usize) -> Times {
     race(
         repeats,
         || {
-            let answer = verified::audit(netlist, tests, report, &mut left.store, &mut left.work);
+            let answer = verified::audit(netlist, tests, report, case.class, &mut left.store, &mut left.work);
             assert_eq!(answer, Ok(()));
         },
         || {
-            let answer = twin::audit(netlist, tests, report, &mut right.store, &mut right.work);
+            let answer = twin::audit(netlist, tests, report, case.class, &mut right.store, &mut right.work);
             assert_eq!(answer, Ok(()));
         },
     )
@@ -102,14 +106,14 @@ fn time_tests(load: &Load, repeats: usize) -> Times {
         || {
             left.store.fill(0);
             for record in load.records() {
-                let answer = verified::test(netlist, record, &mut left.store, &mut left.work);
+                let answer = verified::test(netlist, record, 1, &mut left.store, &mut left.work);
                 let _ = black_box(answer);
             }
         },
         || {
             right.store.fill(0);
             for record in load.records() {
-                let answer = twin::test(netlist, record, &mut right.store, &mut right.work);
+                let answer = twin::test(netlist, record, 1, &mut right.store, &mut right.work);
                 let _ = black_box(answer);
             }
         },
@@ -167,10 +171,10 @@ impl Bench {
     fn check(&mut self, case: &Case) {
         let mut memory = Memory::new();
         for record in case.load.records() {
-            memory.twin_test(&case.load.netlist, record).expect("a taken record");
+            memory.twin_test(&case.load.netlist, record, case.class).expect("a taken record");
         }
         let both = &mut self.both;
-        compare::refused_audits(both, &case.load, &case.report);
+        compare::refused_audits(both, &case.load, &case.report, case.class);
         compare::wrong_lengths(both, &case.load, &case.report);
         compare::refused_tests(both, &case.load, &memory.store, &mut self.random);
         compare::broken_netlists(both, &case.load.netlist, &mut self.random);
@@ -180,9 +184,9 @@ impl Bench {
     fn circuit(&mut self, name: &str) {
         let (netlist, inputs) = self.netlist(name);
         let mixed = loads::mixed(&netlist, inputs, self.records);
-        let refused = compare::over_load(&mut self.both, &mixed);
-        let taken = loads::taken(&netlist, inputs, self.records);
-        let case = Case::new(name, taken, &mut self.both);
+        let refused = compare::over_load(&mut self.both, &mixed, 1);
+        let taken = loads::taken(&netlist, inputs, self.records, &[1]);
+        let case = Case::new(name, taken, 1, &mut self.both);
         self.check(&case);
         let audit = time_audit(&case, self.repeats);
         let test = time_tests(&mixed, self.repeats);
@@ -201,6 +205,28 @@ impl Bench {
         );
     }
 
+    /// The audit of one load in both classes: equal answers in class 2, then the lines of its table.
+    fn classes(&mut self, name: &str) {
+        let (netlist, inputs) = self.netlist(name);
+        compare::over_load(&mut self.both, &loads::mixed(&netlist, inputs, self.records), 2);
+        let cases = [1, 2].map(|class| {
+            let load = loads::taken(&netlist, inputs, self.records, &[1, 2]);
+            Case::new(name, load, class, &mut self.both)
+        });
+        self.check(&cases[1]);
+        let times = [0, 1].map(|place| time_audit(&cases[place], self.repeats));
+        self.keep("class 1", "audit", &cases[0], times[0]);
+        self.keep("class 2", "audit", &cases[1], times[1]);
+        let more = times[1].verified / times[0].verified;
+        println!("{} | {:9.2} | {} | {more:5.2}", cases[1].columns(), times[0].verified / 1e6, times[1].columns(1e6, 9, 2));
+    }
+
+    /// The audit in class 2, beside class 1.
+    fn by_class(&mut self) {
+        println!("\nThe audit of one load in both classes\n{CLASS_HEAD}");
+        CIRCUITS.iter().for_each(|name| self.classes(name));
+    }
+
     /// A line of a growth table: the audit alone.
     fn growth(&mut self, table: &str, case: &Case) {
         let times = time_audit(case, self.repeats);
@@ -214,8 +240,8 @@ impl Bench {
         for name in CIRCUITS {
             let (netlist, inputs) = self.netlist(name);
             for records in [self.records / 100, self.records / 10, self.records] {
-                let load = loads::taken(&netlist, inputs, records);
-                let case = Case::new(name, load, &mut self.both);
+                let load = loads::taken(&netlist, inputs, records, &[1]);
+                let case = Case::new(name, load, 1, &mut self.both);
                 self.growth("records", &case);
             }
         }
@@ -226,8 +252,8 @@ impl Bench {
         println!("\nThe audit by gates: chains of full adders\n{GROWTH_HEAD}");
         for bits in [3, 6, 12, 24, 48, 96] {
             let netlist = loads::adder_chain(bits);
-            let load = loads::taken(&netlist, loads::ADDER_INPUTS, self.records / 10);
-            let case = Case::new(&format!("adder{bits}"), load, &mut self.both);
+            let load = loads::taken(&netlist, loads::ADDER_INPUTS, self.records / 10, &[1]);
+            let case = Case::new(&format!("adder{bits}"), load, 1, &mut self.both);
             self.growth("gates", &case);
         }
     }
@@ -237,7 +263,7 @@ impl Bench {
         println!("\nThe audit by runs in the store\n{GROWTH_HEAD}");
         for power in 0..=10 {
             let load = loads::comb_load(1 << power, self.records / 10);
-            let case = Case::new("comb", load, &mut self.both);
+            let case = Case::new("comb", load, 1, &mut self.both);
             assert_eq!(case.runs, 2 << power);
             self.growth("runs", &case);
         }
@@ -305,6 +331,7 @@ fn main() {
     compare::limits(&mut bench.both);
     println!("{INTRODUCTION}Repeats: {repeats}.\n\n{CIRCUITS_HEAD}");
     CIRCUITS.iter().for_each(|name| bench.circuit(name));
+    bench.by_class();
     bench.by_records();
     bench.by_gates();
     bench.by_runs();

@@ -1,5 +1,5 @@
-//! The unverified twin: document 01's calls in plain safe Rust, written for speed and clarity. It is the yardstick of the benchmark and
-//! shares no code with the proved crates. A refusal is document 01's number.
+//! The unverified twin: the library's calls in plain safe Rust, written for speed and clarity. It is the yardstick of the benchmark and
+//! shares no code with the proved crates. A refusal is the papers' number.
 
 use std::ops::Range;
 
@@ -9,6 +9,8 @@ pub const REPORT_BYTES: usize = 32802;
 const MAX_NETS: usize = 512;
 const MAX_RUNS: usize = 1024;
 const MAX_COUNT: u64 = 1 << 62;
+const NON_ROBUST: u32 = 1;
+const ROBUST: u32 = 2;
 const REPORT_HEAD: usize = 34;
 const RUN_BYTES: usize = 16;
 
@@ -56,9 +58,10 @@ struct Circuit {
     outputs: Vec<Pin>,
 }
 
-/// What one record's simulation leaves for the interval work: for each net its value, its open pins and where its runs begin.
+/// What one record's simulation leaves for the interval work: for each net its state, its open pins and where its runs begin. A state is a word:
+/// the value under V2 in the lowest byte, that under V1 in the next, whether the net is steady in the third.
 struct Scratch {
-    values: [u8; MAX_NETS],
+    states: [u32; MAX_NETS],
     open: [u8; MAX_NETS],
     starts: [u16; MAX_NETS + 1],
 }
@@ -326,6 +329,15 @@ fn write_edge(store: &mut [u64], edge: usize, runs: &[Run]) {
 
 // ---------------------------------------------------------------------------------------------- one test
 
+/// The pins of which every other pin is outside a set.
+fn alone(all: u8, set: u8) -> u8 {
+    match set {
+        0 => all,
+        one if one.is_power_of_two() => one,
+        _ => 0,
+    }
+}
+
 impl Gate {
     /// Its pins among the circuit's.
     fn range(&self) -> Range<usize> {
@@ -333,27 +345,29 @@ impl Gate {
         first..first + self.pins as usize
     }
 
-    /// The gate's value and its open pins, from the values at its pins, pin 0 in the lowest bit.
-    fn evaluate(&self, packed: u8) -> (u8, u8) {
+    /// The state of the gate's net and its open pins in a class, from the states at its pins, pin 0 in the lowest bit of each byte.
+    fn evaluate(&self, packed: u32, class: u32) -> (u32, u8) {
+        let [v2, v1, steady, _] = packed.to_le_bytes();
         let all = u8::MAX >> (8 - self.pins);
-        let (value, controlling) = match self.family {
-            Family::And => (packed == all, packed ^ all),
-            Family::Or => (packed != 0, packed),
-            Family::Parity => (packed.count_ones() % 2 == 1, 0),
+        let (before, after, controlling, ends_free) = match self.family {
+            Family::And => (v1 == all, v2 == all, v2 ^ all, v2),
+            Family::Or => (v1 != 0, v2 != 0, v2, v2 ^ all),
+            Family::Parity => (v1.count_ones() % 2 == 1, v2.count_ones() % 2 == 1, 0, 0),
         };
-        let open = match controlling {
-            0 => all,
-            one if one.is_power_of_two() => one,
-            _ => 0,
-        };
-        ((value != self.inverted) as u8, open)
+        let still = (steady == all) | (steady & controlling != 0);
+        let mut open = alone(all, controlling);
+        if class == ROBUST {
+            open &= (v1 ^ v2) & (ends_free | alone(all, steady ^ all));
+        }
+        let [before, after] = [before, after].map(|value| (value != self.inverted) as u32);
+        (after | before << 8 | (still as u32) << 16, open)
     }
 }
 
 impl Scratch {
     /// All zero.
     fn new() -> Scratch {
-        Scratch { values: [0; MAX_NETS], open: [0; MAX_NETS], starts: [0; MAX_NETS + 1] }
+        Scratch { states: [0; MAX_NETS], open: [0; MAX_NETS], starts: [0; MAX_NETS + 1] }
     }
 
     /// Where a net's runs stand.
@@ -385,17 +399,18 @@ impl Circuit {
         if (v1 | v2) & spare != 0 { Err(32) } else { Ok((v1, v2)) }
     }
 
-    /// The open pins of all gates under V2.
-    fn simulate(&self, v2: u64, scratch: &mut Scratch) {
-        for (input, value) in scratch.values[..self.inputs].iter_mut().enumerate() {
-            *value = (v2 >> input & 1) as u8;
+    /// The open pins of all gates in a class.
+    fn simulate(&self, v1: u64, v2: u64, class: u32, scratch: &mut Scratch) {
+        for (input, state) in scratch.states[..self.inputs].iter_mut().enumerate() {
+            let [first, last] = [v1, v2].map(|vector| (vector >> input & 1) as u32);
+            *state = last | first << 8 | (first ^ last ^ 1) << 16;
         }
         for (net, gate) in (self.inputs..).zip(&self.gates) {
             let mut packed = 0;
             for (place, pin) in self.pins[gate.range()].iter().enumerate() {
-                packed |= scratch.values[pin.net as usize] << place;
+                packed |= scratch.states[pin.net as usize] << place;
             }
-            (scratch.values[net], scratch.open[net]) = gate.evaluate(packed);
+            (scratch.states[net], scratch.open[net]) = gate.evaluate(packed, class);
         }
     }
 
@@ -443,18 +458,32 @@ impl Circuit {
     }
 
     /// The places Test, from the mark on, and Work for one record on a sound store.
-    fn take(&self, record: &[u8], store: &mut [u64], work: &mut [u64], scratch: &mut Scratch) -> Result<(), u32> {
-        let (v1, v2) = self.read_record(record)?;
-        self.apply(v1, v2, store, work, scratch)
+    fn take(
+        &self,
+        record: &[u8],
+        class: u32,
+        store: &mut [u64],
+        work: &mut [u64],
+        scratch: &mut Scratch,
+    ) -> Result<(), u32> {
+        let vectors = self.read_record(record)?;
+        self.apply(vectors, class, store, work, scratch)
     }
 
     /// The place Work for one pair of vectors on a sound store.
-    fn apply(&self, v1: u64, v2: u64, store: &mut [u64], work: &mut [u64], scratch: &mut Scratch) -> Result<(), u32> {
+    fn apply(
+        &self,
+        (v1, v2): (u64, u64),
+        class: u32,
+        store: &mut [u64],
+        work: &mut [u64],
+        scratch: &mut Scratch,
+    ) -> Result<(), u32> {
         let (runs, _) = work.as_chunks_mut::<2>();
         let (nets, rest) = runs.split_at_mut(MAX_RUNS);
         let (rising, rest) = rest.split_at_mut(MAX_RUNS);
         let (falling, rest) = rest.split_at_mut(MAX_RUNS);
-        self.simulate(v2, scratch);
+        self.simulate(v1, v2, class, scratch);
         let risen = self.detect(v2 & !v1, scratch, nets, rising)?;
         let fallen = self.detect(v1 & !v2, scratch, nets, falling)?;
         let held = edges_of(store);
@@ -486,17 +515,29 @@ fn check_memory(store: &[u64], work: &[u64]) -> Result<(), u32> {
     if work.len() < WORK_WORDS { Err(2) } else { Ok(()) }
 }
 
+/// Class 1 or 2.
+fn check_class(class: u32) -> Result<(), u32> {
+    if (NON_ROBUST..=ROBUST).contains(&class) { Ok(()) } else { Err(83) }
+}
+
 /// The test call: new rising, new falling, held rising, held falling.
-pub fn test(netlist: &[u8], record: &[u8], store: &mut [u64], work: &mut [u64]) -> Result<[u64; 4], u32> {
+pub fn test(
+    netlist: &[u8],
+    record: &[u8],
+    class: u32,
+    store: &mut [u64],
+    work: &mut [u64],
+) -> Result<[u64; 4], u32> {
     check_memory(store, work)?;
     let circuit = load(netlist)?;
+    check_class(class)?;
     if record.len() != circuit.record_bytes() {
         return Err(30);
     }
-    let (v1, v2) = circuit.read_record(record)?;
+    let vectors = circuit.read_record(record)?;
     check_store(store, circuit.total)?;
     let before = edges_of(store).map(size);
-    circuit.apply(v1, v2, store, work, &mut Scratch::new())?;
+    circuit.apply(vectors, class, store, work, &mut Scratch::new())?;
     let after = edges_of(store).map(size);
     Ok([after[0] - before[0], after[1] - before[1], after[0], after[1]])
 }
@@ -550,7 +591,15 @@ fn compare(report: &[u8], store: &[u64], tests: u32, total: u64) -> Result<(), u
 }
 
 /// The records and the report of an audit on a legal netlist, from an empty store.
-fn judge(circuit: &Circuit, tests: &[u8], report: &[u8], store: &mut [u64], work: &mut [u64]) -> Result<(), u32> {
+fn judge(
+    circuit: &Circuit,
+    tests: &[u8],
+    report: &[u8],
+    class: u32,
+    store: &mut [u64],
+    work: &mut [u64],
+) -> Result<(), u32> {
+    check_class(class)?;
     let bytes = circuit.record_bytes();
     if tests.len() % bytes != 0 {
         return Err(33);
@@ -558,17 +607,24 @@ fn judge(circuit: &Circuit, tests: &[u8], report: &[u8], store: &mut [u64], work
     let count = u32::try_from(tests.len() / bytes).map_err(|_| 33u32)?;
     let mut scratch = Scratch::new();
     for record in tests.chunks_exact(bytes) {
-        circuit.take(record, store, work, &mut scratch)?;
+        circuit.take(record, class, store, work, &mut scratch)?;
     }
     compare(report, store, count, circuit.total)
 }
 
 /// The audit.
-pub fn audit(netlist: &[u8], tests: &[u8], report: &[u8], store: &mut [u64], work: &mut [u64]) -> Result<(), u32> {
+pub fn audit(
+    netlist: &[u8],
+    tests: &[u8],
+    report: &[u8],
+    class: u32,
+    store: &mut [u64],
+    work: &mut [u64],
+) -> Result<(), u32> {
     check_memory(store, work)?;
     store.fill(0);
     let circuit = load(netlist)?;
-    let judged = judge(&circuit, tests, report, store, work);
+    let judged = judge(&circuit, tests, report, class, store, work);
     if judged.is_err() {
         store.fill(0);
     }

@@ -10,6 +10,7 @@ unsafe extern "C" {
         netlist_bytes: usize,
         record: *const u8,
         record_bytes: usize,
+        class: u32,
         store: *mut u64,
         store_words: usize,
         work: *mut u64,
@@ -40,6 +41,7 @@ unsafe extern "C" {
         tests_bytes: usize,
         report: *const u8,
         report_bytes: usize,
+        class: u32,
         store: *mut u64,
         store_words: usize,
         work: *mut u64,
@@ -81,7 +83,13 @@ pub fn empty(store: &mut [u64]) -> Result<(), u32> {
 }
 
 /// The test call: new rising, new falling, held rising, held falling.
-pub fn test(netlist: &[u8], record: &[u8], store: &mut [u64], work: &mut [u64]) -> Result<[u64; 4], u32> {
+pub fn test(
+    netlist: &[u8],
+    record: &[u8],
+    class: u32,
+    store: &mut [u64],
+    work: &mut [u64],
+) -> Result<[u64; 4], u32> {
     let mut numbers = [0; 4];
     let refusal = unsafe {
         genduwal_test(
@@ -89,6 +97,7 @@ pub fn test(netlist: &[u8], record: &[u8], store: &mut [u64], work: &mut [u64]) 
             netlist.len(),
             record.as_ptr(),
             record.len(),
+            class,
             store.as_mut_ptr(),
             store.len(),
             work.as_mut_ptr(),
@@ -126,7 +135,14 @@ pub fn write_report(netlist: &[u8], store: &[u64], tests: u32, report: &mut [u8]
 }
 
 /// The audit.
-pub fn audit(netlist: &[u8], tests: &[u8], report: &[u8], store: &mut [u64], work: &mut [u64]) -> Result<(), u32> {
+pub fn audit(
+    netlist: &[u8],
+    tests: &[u8],
+    report: &[u8],
+    class: u32,
+    store: &mut [u64],
+    work: &mut [u64],
+) -> Result<(), u32> {
     let refusal = unsafe {
         genduwal_audit(
             netlist.as_ptr(),
@@ -135,6 +151,7 @@ pub fn audit(netlist: &[u8], tests: &[u8], report: &[u8], store: &mut [u64], wor
             tests.len(),
             report.as_ptr(),
             report.len(),
+            class,
             store.as_mut_ptr(),
             store.len(),
             work.as_mut_ptr(),

@@ -45,8 +45,8 @@ static void show_survey(void)
 static void show_test(unsigned place)
 {
     uint64_t answer[4];
-    uint32_t code = genduwal_test(circuit, sizeof circuit, tests + place * record_bytes, record_bytes, store, GENDUWAL_STORE_WORDS, work,
-                                  GENDUWAL_WORK_WORDS, answer);
+    uint32_t code = genduwal_test(circuit, sizeof circuit, tests + place * record_bytes, record_bytes, GENDUWAL_NON_ROBUST, store,
+                                  GENDUWAL_STORE_WORDS, work, GENDUWAL_WORK_WORDS, answer);
     if (code != 0) {
         printf("test %u refused %u\n", place + 1, (unsigned)code);
         return;
@@ -92,11 +92,13 @@ static size_t show_report(void)
     return (size_t)answer[0];
 }
 
-/* The report that was written is accepted. With 4 in the place of its 3 tests it differs in that byte alone: refused 72. */
-static void show_audit(size_t length)
+/* The report that was written is accepted. It is accepted in class 2, too. The second test: the AND's other pin is steady at 1, and both pins
+ * of the OR fall to 0. The third: net 2 is steady at 0 while input 1 rises. There is no class 3: refused 83. With 4 in the place of its 3 tests
+ * the report differs in that byte alone: refused 72. */
+static void show_audit(size_t length, uint32_t test_class)
 {
-    uint32_t code = genduwal_audit(circuit, sizeof circuit, tests, sizeof tests, report, length, store, GENDUWAL_STORE_WORDS, work,
-                                   GENDUWAL_WORK_WORDS);
+    uint32_t code = genduwal_audit(circuit, sizeof circuit, tests, sizeof tests, report, length, test_class, store, GENDUWAL_STORE_WORDS,
+                                   work, GENDUWAL_WORK_WORDS);
     if (code != 0)
         printf("audit refused %u\n", (unsigned)code);
     else
@@ -107,8 +109,8 @@ static void show_audit(size_t length)
 static uint32_t show_piece(const uint8_t *piece, size_t length)
 {
     uint64_t answer[1];
-    uint32_t code = genduwal_audit_piece(circuit, sizeof circuit, piece, length, store, GENDUWAL_STORE_WORDS, work, GENDUWAL_WORK_WORDS,
-                                         answer);
+    uint32_t code = genduwal_audit_piece(circuit, sizeof circuit, piece, length, GENDUWAL_NON_ROBUST, store, GENDUWAL_STORE_WORDS, work,
+                                         GENDUWAL_WORK_WORDS, answer);
     if (code != 0)
         printf("piece of %u bytes refused %u\n", (unsigned)length, (unsigned)code);
     else
@@ -124,7 +126,8 @@ static void show_pieces(const uint8_t *file, size_t file_length, size_t length)
     const size_t most = 2 * record_bytes;
     uint64_t bytes = 0;
     uint32_t first = 0;
-    uint32_t code = genduwal_audit_begin(circuit, sizeof circuit, store, GENDUWAL_STORE_WORDS, work, GENDUWAL_WORK_WORDS);
+    uint32_t code = genduwal_audit_begin(circuit, sizeof circuit, GENDUWAL_NON_ROBUST, store, GENDUWAL_STORE_WORDS, work,
+                                         GENDUWAL_WORK_WORDS);
     if (code == 0) {
         for (size_t at = 0; at < file_length; at += most) {
             size_t piece_length = file_length - at < most ? file_length - at : most;
@@ -202,14 +205,16 @@ int main(void)
     show_fault(4);
     show_fault(7);
     size_t length = show_report();
-    show_audit(length);
+    show_audit(length, GENDUWAL_NON_ROBUST);
+    show_audit(length, GENDUWAL_ROBUST);
+    show_audit(length, 3);
     show_pieces(tests, sizeof tests, length);
     uint8_t other_mark[sizeof tests];
     memcpy(other_mark, tests, sizeof tests);
     other_mark[0] = 5;
     show_pieces(other_mark, sizeof other_mark, length);
     report[2] = 4;
-    show_audit(length);
+    show_audit(length, GENDUWAL_NON_ROBUST);
     show_pieces(tests, sizeof tests, length);
     show_path(2);
     show_text("INPUT(a)\nINPUT(b)\nOUTPUT(y)\nc = AND(a, b)\ny = OR(c, b)\n");

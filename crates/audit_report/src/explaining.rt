@@ -1,5 +1,6 @@
 // What is false in a report that is refused for its length or its bytes: the fields that differ, the runs that are out of order, and, for an edge
-// whose runs ascend, the numbers that are claimed and not detected and those that are detected and not claimed.
+// whose runs ascend, the numbers that are claimed and not detected and those that are detected and not claimed. Where the report was judged in class
+// 2 and the true report in class 1 is at hand, claims that are true in class 1 are told apart.
 use crate::one_more;
 use claim_text::Field;
 use claim_text::Kind;
@@ -33,6 +34,7 @@ ghost use mathlib.Core.Bool.{true};
 ghost use Prim.Native.Nat.{_≤_};
 ghost use lib.ListN.{length};
 ghost use Rattle.differences.specs.Differences.{runsOfBytes, Ascends};
+ghost use Rattle.audit_report.specs.Claims.{ClaimTrue};
 
 // A field of the head where it differs.
 fn print_field(field: Field, claimed: u64, truth: u64) {
@@ -127,6 +129,128 @@ fn print_pieces(kind: Kind, edge: Edge, a: &[u8], b: &[u8], before: u64, shown: 
     }
 }
 
+// What is wrong with claimed numbers that are not in the true report, up to a number.
+struct Claim {
+    kind: Kind,
+    high: u64,
+}
+
+// Of the numbers from `low` to `high`, which are in the runs of the report: those from `low` on that are all in the runs of the true report in class
+// 1, or all not.
+fn claim_in(a: &[u8], plain: &[u8], low: u64, high: u64) -> Claim
+    requires { ⌜ Ascends 0 (runsOfBytes (now a)) × Ascends 0 (runsOfBytes (now plain)) × (low ≤ high) ⌝ }
+    ensures { λ r. ⌜ ClaimTrue r (now (a .entry)) (now (plain .entry)) low high ⌝ }
+{
+    let found = next_piece(a, 0, plain, 0, low);
+    let piece = found.piece;
+    match piece {
+        Piece::Nothing => Claim {
+            kind: Kind::NotRobust,
+            high,
+        },
+        Piece::Stretch {
+            low: first,
+            high: last,
+        } => {
+            if high < first {
+                return Claim {
+                    kind: Kind::NotRobust,
+                    high,
+                };
+            }
+            if low < first {
+                return Claim {
+                    kind: Kind::NotRobust,
+                    high: first - 1,
+                };
+            }
+            if high < last {
+                return Claim {
+                    kind: Kind::FalseClaim,
+                    high,
+                };
+            }
+            Claim {
+                kind: Kind::FalseClaim,
+                high: last,
+            }
+        }
+    }
+}
+
+// The lines for the numbers in the runs of the report `a` and not in those of the true report `b`, cut where they begin or end to be in those of the
+// true report in class 1.
+fn print_split(edge: Edge, a: &[u8], b: &[u8], plain: &[u8], before: u64, shown: u64) -> u64
+    requires { ⌜ Ascends 0 (runsOfBytes (now a)) × Ascends 0 (runsOfBytes (now b)) × Ascends 0 (runsOfBytes (now plain)) ⌝ }
+{
+    let mut lines = before;
+    let mut i = 0;
+    let mut j = 0;
+    let mut from: u64 = 0;
+    loop {
+        let found = next_piece(a, i, b, j, from);
+        let piece = found.piece;
+        match piece {
+            Piece::Nothing => return lines,
+            Piece::Stretch { low, high } => {
+                let claim = claim_in(a, plain, low, high);
+                let wrong = claim.kind;
+                let last = claim.high;
+                print_piece(wrong, edge, low, last, lines < shown);
+                lines = one_more(lines);
+                if last < high {
+                    from = last + 1;
+                    continue;
+                }
+                if high == u64::MAX {
+                    return lines;
+                }
+                i = found.i;
+                j = found.j;
+                from = high + 1;
+            }
+        }
+    }
+}
+
+// The false claims of an edge; cut so where the true report in class 1 is at hand.
+fn print_claims_of(
+    edge: Edge,
+    claimed: &[u8],
+    truth: &[u8],
+    plain: &[u8],
+    split: bool,
+    before: u64,
+    shown: u64,
+) -> u64 {
+    if !split {
+        return print_edge(Kind::FalseClaim, edge, claimed, truth, before, shown);
+    }
+    if ascending(claimed) {
+        if ascending(truth) {
+            if ascending(plain) {
+                return print_split(edge, claimed, truth, plain, before, shown);
+            }
+        }
+    }
+    before
+}
+
+// The runs of an edge in a report, none where it is too short to have any.
+fn rising_in(report: &[u8]) -> &[u8] {
+    if report.len() < HEAD_BYTES {
+        return report;
+    }
+    rising_runs(report)
+}
+
+fn falling_in(report: &[u8]) -> &[u8] {
+    if report.len() < HEAD_BYTES {
+        return report;
+    }
+    falling_runs(report)
+}
+
 // A line for one stretch of numbers, where it is shown.
 fn print_piece(kind: Kind, edge: Edge, low: u64, high: u64, is_shown: bool) {
     if is_shown {
@@ -145,22 +269,25 @@ fn print_edge(kind: Kind, edge: Edge, a: &[u8], b: &[u8], before: u64, shown: u6
 }
 
 // The false claims of both edges, of which so many are printed; their number.
-fn print_false(report: &[u8], truth: &[u8], shown: u64) -> u64
+fn print_false(report: &[u8], truth: &[u8], plain: &[u8], shown: u64) -> u64
     requires { ⌜ (34 ≤ length (now report)) × (34 ≤ length (now truth)) ⌝ }
 {
-    let rising = print_edge(
-        Kind::FalseClaim,
+    let split = HEAD_BYTES <= plain.len();
+    let rising = print_claims_of(
         Edge::Rising,
         rising_runs(report),
         rising_runs(truth),
+        rising_in(plain),
+        split,
         0,
         shown,
     );
-    print_edge(
-        Kind::FalseClaim,
+    print_claims_of(
         Edge::Falling,
         falling_runs(report),
         falling_runs(truth),
+        falling_in(plain),
+        split,
         rising,
         shown,
     )
@@ -196,14 +323,14 @@ fn print_more(kind: Kind, lines: u64, shown: u64) {
 }
 
 // The numbers claimed and not detected, then those detected and not claimed. Both are counted first, so that neither crowds out the other.
-fn print_numbers(report: &[u8], truth: &[u8], all: bool)
+fn print_numbers(report: &[u8], truth: &[u8], plain: &[u8], all: bool)
     requires { ⌜ (34 ≤ length (now report)) × (34 ≤ length (now truth)) ⌝ }
 {
-    let claims = print_false(report, truth, 0);
+    let claims = print_false(report, truth, plain, 0);
     let missed = print_missed(report, truth, 0);
     let shown_claims = shown_lines(claims, missed, all);
     let shown_missed = shown_lines(missed, claims, all);
-    print_false(report, truth, shown_claims);
+    print_false(report, truth, plain, shown_claims);
     print_more(Kind::FalseClaim, claims, shown_claims);
     print_missed(report, truth, shown_missed);
     print_more(Kind::Missed, missed, shown_missed);
@@ -262,8 +389,15 @@ fn print_first_claim(netlist: &[u8], paths: u64, report: &[u8], truth: &[u8])
     }
 }
 
-// What is false in a report, against the true one; all lines of numbers, or some of them.
-pub(crate) fn explain(netlist: &[u8], paths: u64, report: &[u8], truth: &[u8], all: bool) {
+// What is false in a report, against the true one and, where it is at hand, the true one in class 1; all lines of numbers, or some of them.
+pub(crate) fn explain(
+    netlist: &[u8],
+    paths: u64,
+    report: &[u8],
+    truth: &[u8],
+    plain: &[u8],
+    all: bool,
+) {
     if report.len() < HEAD_BYTES {
         return;
     }
@@ -273,6 +407,6 @@ pub(crate) fn explain(netlist: &[u8], paths: u64, report: &[u8], truth: &[u8], a
     print_fields(head_of(report), head_of(truth));
     print_order(Edge::Rising, rising_runs(report));
     print_order(Edge::Falling, falling_runs(report));
-    print_numbers(report, truth, all);
+    print_numbers(report, truth, plain, all);
     print_first_claim(netlist, paths, report, truth);
 }

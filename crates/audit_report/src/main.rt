@@ -1,6 +1,7 @@
-// Audits a report of the tests of a file on a netlist: `audit_report [--all] [CIRCUIT [TESTS [REPORT]]]`, without names those of the current
-// folder; a missing file counts as empty. Prints the audit's answer, its reason as a sentence, and what is false in a report that is refused for
-// its length or its bytes. Where a file can't be read whole it gives no verdict.
+// Audits a report of the tests of a file on a netlist, in a class: `audit_report [--all] [CIRCUIT [TESTS [REPORT [CLASS]]]]`, without names those of
+// the current folder; a missing file counts as empty, a missing class file as class 1. Prints the audit's answer, the class that it judged by, its
+// reason as a sentence, and what is false in a report that is refused for its length or its bytes. Where a file can't be read whole it gives no
+// verdict.
 mod explaining;
 
 use crate::explaining::explain;
@@ -9,6 +10,7 @@ use command::file_name;
 use command::is_argument;
 use command::load_argument;
 use command::open_file;
+use command::read_class;
 use console::Line;
 use console::NETLIST_BYTES;
 use console::empty_line;
@@ -20,19 +22,25 @@ use console::with_text;
 use differences::inner::head_of;
 use libc::STDERR_FILENO;
 use libc::STDOUT_FILENO;
+use model::NON_ROBUST;
 use model::REPORT_BYTES;
+use model::ROBUST;
 use model::Refusal;
 use model::STORE_WORDS;
 use model::WORK_WORDS;
+use model::known_class;
 use report::AuditAnswer;
 use report::layout::HEAD_BYTES;
 use test_file::Judged;
 use test_file::audit_stream;
+use test_file::report_stream;
+use verdict::class_line;
 use verdict::is_of_record;
 use verdict::verdict_line;
 ghost use mathlib.Core.Path.{_≡_};
 ghost use Prim.Native.Nat.{_≤_};
 ghost use lib.ListN.{length};
+ghost use Rattle.io.specs.Counts.{Counts};
 
 // Zeros for a report: one byte more than the longest whose fields can state its length (2 times 65,535 runs), so that a longer file is refused
 // as it would be whole.
@@ -53,12 +61,12 @@ pub(crate) fn one_more(number: u64) -> u64 {
 fn print_usage(fd: i32) {
     print(
         fd,
-        b"usage: audit_report [--all] [CIRCUIT [TESTS [REPORT]]]\n",
+        b"usage: audit_report [--all] [CIRCUIT [TESTS [REPORT [CLASS]]]]\n",
     );
     print(fd, b"Audits a report of the tests on a circuit.\n");
     print(
         fd,
-        b"Without names: circuit.nl, tests.tp, report.rp. --all shows every false claim.\n",
+        b"Without names: circuit.nl, tests.tp, report.rp, class.txt. --all shows every false claim.\n",
     );
 }
 
@@ -112,31 +120,80 @@ fn print_reason(why: Refusal, place: u64) {
 }
 
 // What is false in a report; all of it with `--all`.
-fn print_claims(all: bool, netlist: &[u8], report: &[u8], truth: &[u8]) {
+fn print_claims(all: bool, netlist: &[u8], report: &[u8], truth: &[u8], plain: &[u8]) {
     if truth.len() < HEAD_BYTES {
         return;
     }
     let head = head_of(truth);
-    explain(netlist, head.paths, report, truth, all);
+    explain(netlist, head.paths, report, truth, plain, all);
 }
 
-// Prints the verdict, its reason, and what is false in a report.
-fn print_judged(judged: Judged, all: bool, netlist: &[u8], report: &[u8], truth: &[u8]) {
+// The class, where there is one of that number.
+fn print_class(class: u32) {
+    if known_class(class) {
+        print_line(STDOUT_FILENO, class_line(class));
+    }
+}
+
+// Prints the verdict, the class, the reason, and what is false in a report.
+fn print_judged(
+    judged: Judged,
+    all: bool,
+    class: u32,
+    netlist: &[u8],
+    report: &[u8],
+    truth: &[u8],
+    plain: &[u8],
+) {
     let answer = judged.answer;
     print_line(STDOUT_FILENO, verdict_line(answer));
+    print_class(class);
     match answer {
         AuditAnswer::Accepted => print_accepted(truth),
         AuditAnswer::Refused(why) => {
             print_reason(why, one_more(judged.taken as u64));
             if is_of_claims(why) {
-                print_claims(all, netlist, report, truth);
+                print_claims(all, netlist, report, truth, plain);
             }
         }
     }
 }
 
-// The audit with the tests of the file that an argument names.
-fn audit_tests(place: usize, all: bool, netlist: &[u8], report: &[u8]) {
+// Whether an audit refused the claims of a report in class 2.
+fn needs_plain(answer: AuditAnswer, class: u32) -> bool {
+    match answer {
+        AuditAnswer::Accepted => false,
+        AuditAnswer::Refused(why) => class == ROBUST && is_of_claims(why),
+    }
+}
+
+// The true report in class 1 of the same test file, read again, at the start of `plain`, where a report is refused for its claims in class 2. Its
+// length is 0 where there is none: the file can't be read whole again, has another length now, or is not taken whole in class 1.
+fn plain_report(
+    name: &[u8],
+    bytes: u64,
+    netlist: &[u8],
+    plain: &mut [u8],
+    space: &mut [u8],
+    store: &mut [u64],
+    work: &mut [u64],
+) -> usize
+    ensures { λ r. ⌜ Counts r (now (plain .exit)) ⌝ }
+{
+    let opened = open_file(name);
+    let reported = report_stream(opened.fd, netlist, NON_ROBUST, plain, space, store, work);
+    let whole = close_file(name, opened, reported.whole);
+    if !whole {
+        return 0;
+    }
+    if reported.bytes != bytes {
+        return 0;
+    }
+    reported.length
+}
+
+// The audit, in a class, with the tests of the file that an argument names.
+fn audit_tests(place: usize, all: bool, class: u32, netlist: &[u8], report: &[u8]) {
     let mut name = io::buffer();
     let n = file_name(place, b"tests.tp", &mut name);
     let mut written = [0u8; REPORT_BYTES];
@@ -148,26 +205,51 @@ fn audit_tests(place: usize, all: bool, netlist: &[u8], report: &[u8]) {
         opened.fd,
         netlist,
         report,
+        class,
         &mut written,
         &mut space,
         &mut store,
         &mut work,
     );
     let length = judged.length;
-    if close_file(&name[..n], opened, judged.whole) {
-        print_judged(judged, all, netlist, report, &written[..length]);
+    let answer = judged.answer;
+    let mut plain = [0u8; REPORT_BYTES];
+    if !close_file(&name[..n], opened, judged.whole) {
+        return;
     }
+    if !needs_plain(answer, class) {
+        print_judged(judged, all, class, netlist, report, &written[..length], b"");
+        return;
+    }
+    let m = plain_report(
+        &name[..n],
+        judged.bytes,
+        netlist,
+        &mut plain,
+        &mut space,
+        &mut store,
+        &mut work,
+    );
+    print_judged(
+        judged,
+        all,
+        class,
+        netlist,
+        report,
+        &written[..length],
+        &plain[..m],
+    );
 }
 
-// The audit of the report that an argument names; the test file's is the argument before.
-fn audit_report(place: usize, all: bool, netlist: &[u8])
+// The audit, in a class, of the report that an argument names; the test file's is the argument before.
+fn audit_report(place: usize, all: bool, class: u32, netlist: &[u8])
     requires { ⌜ (1 ≤ place) × (place ≤ 4) ⌝ }
 {
     let mut bytes = report_buffer();
     let claim = load_argument(place, b"report.rp", &mut bytes);
     let length = claim.bytes;
     if claim.whole {
-        audit_tests(place - 1, all, netlist, &bytes[..length]);
+        audit_tests(place - 1, all, class, netlist, &bytes[..length]);
     }
 }
 
@@ -175,15 +257,16 @@ fn audit_report(place: usize, all: bool, netlist: &[u8])
 fn audit_circuit(first: usize, all: bool)
     requires { ⌜ first ≤ 2 ⌝ }
 {
-    if first + 3 < os::arg_count() {
+    if first + 4 < os::arg_count() {
         print_usage(STDERR_FILENO);
         return;
     }
     let mut bytes = [0u8; NETLIST_BYTES];
     let circuit = load_argument(first, b"circuit.nl", &mut bytes);
     let length = circuit.bytes;
-    if circuit.whole {
-        audit_report(first + 2, all, &bytes[..length]);
+    let read = read_class(first + 3);
+    if circuit.whole && read.whole {
+        audit_report(first + 2, all, read.class, &bytes[..length]);
     }
 }
 

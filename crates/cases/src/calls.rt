@@ -48,9 +48,15 @@ pub(crate) fn counts(netlist: &[u8], what: &[u8]) -> Answer {
     cells::ask(what, &counts)
 }
 
-// The test call: new rising, new falling, held rising, held falling.
-pub(crate) fn test(netlist: &[u8], test: &[u8], store: &mut [u64], work: &mut [u64]) -> Answer {
-    let answer = apply_test(netlist, test, store, work);
+// The test call in a class: new rising, new falling, held rising, held falling.
+pub(crate) fn test(
+    netlist: &[u8],
+    test: &[u8],
+    class: u32,
+    store: &mut [u64],
+    work: &mut [u64],
+) -> Answer {
+    let answer = apply_test(netlist, test, class, store, work);
     match answer {
         TestAnswer::Refused(why) => refused_by(why),
         TestAnswer::Taken {
@@ -149,15 +155,16 @@ pub(crate) fn write(netlist: &[u8], store: &[u64], tests: u64, report: &mut [u8]
     }
 }
 
-// The audit.
+// The audit in a class.
 pub(crate) fn audit(
     netlist: &[u8],
     tests: &[u8],
     report: &[u8],
+    class: u32,
     store: &mut [u64],
     work: &mut [u64],
 ) -> Answer {
-    let answer = report::audit(netlist, tests, report, store, work);
+    let answer = report::audit(netlist, tests, report, class, store, work);
     match answer {
         AuditAnswer::Accepted => accepted(),
         AuditAnswer::Refused(why) => refused_by(why),

@@ -70,6 +70,8 @@ pub(crate) const BENCH: u64 = 0x62656e6368;
 
 pub(crate) const LOAD: u64 = 0x6c6f6164;
 
+pub(crate) const CLASS: u64 = 0x636c617373;
+
 // Answers.
 pub(crate) const REFUSED: u64 = 0x72656675736564;
 

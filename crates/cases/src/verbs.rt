@@ -6,6 +6,7 @@ use crate::calls;
 use crate::converting::ask_bench;
 use crate::names::AUDIT;
 use crate::names::BENCH;
+use crate::names::CLASS;
 use crate::names::COUNTS;
 use crate::names::EMPTY;
 use crate::names::FALLING;
@@ -173,7 +174,13 @@ fn ask_find(numbers: Numbers, netlist: &[u8], cells: &mut [u64]) -> Answer {
 }
 
 // `test` and a record in hexadecimal.
-fn ask_test(arguments: &[u8], netlist: &[u8], store: &mut [u64], work: &mut [u64]) -> Answer {
+fn ask_test(
+    class: u32,
+    arguments: &[u8],
+    netlist: &[u8],
+    store: &mut [u64],
+    work: &mut [u64],
+) -> Answer {
     let mut cells = [0u64; 128];
     let mut record = [0u8; 128];
     let read = put_hex(arguments, &mut cells, 0);
@@ -185,13 +192,19 @@ fn ask_test(arguments: &[u8], netlist: &[u8], store: &mut [u64], work: &mut [u64
         return unknown();
     }
     load_bytes(&cells, &mut record);
-    calls::test(netlist, &record[0..length], store, work)
+    calls::test(netlist, &record[0..length], class, store, work)
 }
 
 // `first` and a record: the store is emptied before.
-fn ask_first(arguments: &[u8], netlist: &[u8], store: &mut [u64], work: &mut [u64]) -> Answer {
+fn ask_first(
+    class: u32,
+    arguments: &[u8],
+    netlist: &[u8],
+    store: &mut [u64],
+    work: &mut [u64],
+) -> Answer {
     calls::empty(store);
-    ask_test(arguments, netlist, store, work)
+    ask_test(class, arguments, netlist, store, work)
 }
 
 // `empty`.
@@ -204,6 +217,7 @@ fn ask_empty(numbers: Numbers, store: &mut [u64]) -> Answer {
 
 // `audit` of the test records and the report in cells.
 fn ask_audit(
+    class: u32,
     numbers: Numbers,
     netlist: &[u8],
     tests: &[u64],
@@ -224,7 +238,7 @@ fn ask_audit(
     if are(numbers, 0) {
         load_bytes(tests, &mut records);
         load_bytes(report, &mut claim);
-        return calls::audit(netlist, &records[0..t], &claim[0..r], store, work);
+        return calls::audit(netlist, &records[0..t], &claim[0..r], class, store, work);
     }
     unknown()
 }
@@ -296,8 +310,9 @@ fn ask_reading(line: &[u8], netlist: &[u8], store: &[u64], path: &[u64]) -> Answ
     }
 }
 
-// Calls that write store or working memory.
-fn ask_storing(
+// Calls that write store or working memory, those of tests in a class.
+fn ask_in_class(
+    class: u32,
     line: &[u8],
     netlist: &[u8],
     tests: &[u64],
@@ -308,12 +323,67 @@ fn ask_storing(
     let key = key_of(line);
     let arguments = after_word(line);
     match key {
-        TEST => ask_test(arguments, netlist, store, work),
-        FIRST => ask_first(arguments, netlist, store, work),
+        TEST => ask_test(class, arguments, netlist, store, work),
+        FIRST => ask_first(class, arguments, netlist, store, work),
         EMPTY => ask_empty(numbers_in(arguments), store),
-        AUDIT => ask_audit(numbers_in(arguments), netlist, tests, report, store, work),
+        AUDIT => ask_audit(
+            class,
+            numbers_in(arguments),
+            netlist,
+            tests,
+            report,
+            store,
+            work,
+        ),
         _ => unknown(),
     }
+}
+
+// Where the last `rest` of so many bytes begin.
+fn rest_start(bytes: usize, rest: usize) -> usize {
+    if bytes < rest { 0 } else { bytes - rest }
+}
+
+// The numbers before the last `rest` bytes of a text.
+fn numbers_before(text: &[u8], rest: usize) -> Numbers {
+    let end = rest_start(text.len(), rest);
+    if text.len() < end {
+        return numbers_in(text);
+    }
+    numbers_in(&text[0..end])
+}
+
+// The same: `class`, a number of 32 bits and a call, or a call in class 1.
+fn ask_storing(
+    line: &[u8],
+    netlist: &[u8],
+    tests: &[u64],
+    report: &[u64],
+    store: &mut [u64],
+    work: &mut [u64],
+) -> Answer {
+    if key_of(line) != CLASS {
+        return ask_in_class(1, line, netlist, tests, report, store, work);
+    }
+    let arguments = after_word(line);
+    let call = after_word(arguments);
+    let numbers = numbers_before(arguments, call.len());
+    let class = number_at(numbers, 0);
+    if !are(numbers, 1) {
+        return unknown();
+    }
+    if 4294967295 < class {
+        return unknown();
+    }
+    ask_in_class(
+        (class % 4294967296) as u32,
+        call,
+        netlist,
+        tests,
+        report,
+        store,
+        work,
+    )
 }
 
 // `find`, on the cells of the path.

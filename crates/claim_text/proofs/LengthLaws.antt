@@ -41,8 +41,9 @@ edge-short : (e : Edge) → length (edgeText e) ≤ 7
 edge-short edge.Rising = omega arith
 edge-short edge.Falling = omega arith
 
-kind-short : (k : Kind) → length (kindText k) ≤ 11
+kind-short : (k : Kind) → length (kindText k) ≤ 22
 kind-short kind.FalseClaim = omega arith
+kind-short kind.NotRobust = omega arith
 kind-short kind.Missed = omega arith
 
 field-short : (f : Field) → length (fieldName f) ≤ 12
@@ -51,9 +52,10 @@ field-short field.Paths = omega arith
 field-short field.RisingRuns = omega arith
 field-short field.FallingRuns = omega arith
 
-plural-short : (k : Kind) (count : ℕ) → length (pluralText k count) ≤ 12
+plural-short : (k : Kind) (count : ℕ) → length (pluralText k count) ≤ 22
 unfolding pluralText
 plural-short kind.FalseClaim count = ⊎-elim (λ (e : eqb count 1 ≡ true). rw (e, pluralText) (omega arith)) (λ (e : eqb count 1 ≡ false). rw (e, pluralText) (omega arith)) (bool-cases (eqb count 1))
+plural-short kind.NotRobust count = omega arith
 plural-short kind.Missed count = omega arith
 
 paths-short : (low high : ℕ) → length (pathsText low high) ≤ 50

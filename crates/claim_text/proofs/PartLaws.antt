@@ -62,6 +62,10 @@ pub plural-missed : (k : Kind) (count : ℕ) → k ≡ kind.Missed → ascii "mi
 unfolding pluralText
 plural-missed k count e = sym (ap (λ (z : Kind). pluralText z count) e)
 
+pub plural-not-robust : (k : Kind) (count : ℕ) → k ≡ kind.NotRobust → ascii "detected, not robustly" ≡ pluralText k count
+unfolding pluralText
+plural-not-robust k count e = sym (ap (λ (z : Kind). pluralText z count) e)
+
 pub plural-one : (k : Kind) (count : ℕ) → k ≡ kind.FalseClaim → count ≡ 1 → ascii "false claim" ≡ pluralText k count
 unfolding pluralText
 plural-one k count e h = sym (ap (λ (z : Kind). pluralText z count) e ∙ rw (eq-eqb count 1 h, pluralText) refl)

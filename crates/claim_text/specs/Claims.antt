@@ -26,6 +26,7 @@ edgeText edge.Falling = ascii "falling"
 -- what is wrong with numbers of paths
 abbrev pub kindText : Kind → List ℕ
 kindText kind.FalseClaim = ascii "false claim"
+kindText kind.NotRobust = ascii "detected, not robustly"
 kindText kind.Missed = ascii "missed"
 
 -- one path, or the first and the last of several
@@ -36,13 +37,14 @@ pathsText low high =
       | false ↦ ascii "paths " ++ decimalText low ++ ascii " to " ++ decimalText high
     ]
 
--- `false claim, rising, paths 2 to 3`; `missed, falling, path 7`
+-- `false claim, rising, paths 2 to 3`; `detected, not robustly, rising, path 2`; `missed, falling, path 7`
 unfoldable pub claimText : Kind → Edge → ℕ → ℕ → List ℕ
 claimText k e low high = kindText k ++ ascii ", " ++ edgeText e ++ ascii ", " ++ pathsText low high
 
 -- what is wrong, for a number of such lines
 unfoldable pub pluralText : Kind → ℕ → List ℕ
 pluralText kind.FalseClaim count = elim (eqb count 1) [ true ↦ ascii "false claim" | false ↦ ascii "false claims" ]
+pluralText kind.NotRobust count = ascii "detected, not robustly"
 pluralText kind.Missed count = ascii "missed"
 
 -- `and 5 more false claims`

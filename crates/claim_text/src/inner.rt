@@ -28,6 +28,7 @@ pub fn with_kind(line: Line, kind: Kind) -> Line
 {
     match kind {
         Kind::FalseClaim => with_text(line, b"false claim"),
+        Kind::NotRobust => with_text(line, b"detected, not robustly"),
         Kind::Missed => with_text(line, b"missed"),
     }
 }
@@ -38,6 +39,7 @@ pub fn with_plural(line: Line, kind: Kind, count: u64) -> Line
 {
     match kind {
         Kind::Missed => with_text(line, b"missed"),
+        Kind::NotRobust => with_text(line, b"detected, not robustly"),
         Kind::FalseClaim => {
             if count == 1 {
                 return with_text(line, b"false claim");

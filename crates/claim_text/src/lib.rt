@@ -22,6 +22,8 @@ use text::with_text;
 pub enum Kind {
     // Claimed and not detected.
     FalseClaim,
+    // Claimed as detected robustly, and detected only non-robustly.
+    NotRobust,
     // Detected and not claimed.
     Missed,
 }

@@ -1,9 +1,13 @@
-// What the programs share on the command line: arguments, files by name, and what they say on standard error.
+// What the programs share on the command line: arguments, files by name, the class of the tests, and what they say on standard error.
 mod arguments;
+mod class_file;
 mod files;
 
 pub use arguments::file_name;
 pub use arguments::is_argument;
+pub use class_file::ClassRead;
+pub use class_file::class_in;
+pub use class_file::read_class;
 pub use files::Content;
 pub use files::Opened;
 pub use files::at_end;

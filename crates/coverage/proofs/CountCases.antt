@@ -4,6 +4,7 @@ use mathlib.Core.Path.{_≡_}
 use mathlib.Core.List.{List}
 use Prim.Native.Nat.{ℕ}
 use Rattle.model.specs.Netlist.{Netlist}
+use Rattle.model.specs.Read.{classOf}
 use Rattle.model.specs.Calls.{testStage}
 use Rattle.model.specs.declared.Refusal.{Refusal}
 use Rattle.simulation.specs.Records.{RecordTrue}
@@ -15,9 +16,9 @@ use Rattle.coverage.specs.declared.TestAnswer.the-variants.{Refused}
 use Rattle.coverage.proofs.StageLaws.{test-refused}
 use Rattle.coverage.proofs.TestCallLaws.{as-tested}
 
-module _ (netlist positions pathCounts : List ℕ) (inputs netCount outputs : ℕ) (rec ws work : List ℕ)
+module _ (netlist positions pathCounts : List ℕ) (inputs netCount outputs class : ℕ) (rec ws work : List ℕ)
     (h : StageReady netlist positions pathCounts inputs netCount outputs ws work) (q : RecordAnswer) (e : RecordTrue q inputs rec) where
   pub count-not-legal : (w : Refusal) → q ≡ record-answer.Refused w → (N : Netlist) → CircuitTables N netlist positions pathCounts inputs netCount outputs
-      → TestedIs (testStage N rec ws) ws ws work work (Refused w)
+      → TestedIs (testStage N (classOf class) rec ws) ws ws work work (Refused w)
   count-not-legal w l N c =
-      as-tested N rec ws ws work work w (test-refused netlist positions pathCounts inputs netCount outputs rec ws work h q e w l N c)
+      as-tested N (classOf class) rec ws ws work work w (test-refused netlist positions pathCounts inputs netCount outputs class rec ws work h q e w l N c)

@@ -14,4 +14,5 @@ pub mod StoreWrite
 pub mod WorkRules
 pub mod StageLaws
 pub mod TestCallLaws
+pub mod CallLaws
 pub mod CountCases

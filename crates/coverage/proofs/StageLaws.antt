@@ -11,9 +11,9 @@ use lib.Seq.{take-all}
 use Rattle.model.specs.Base.{Answer, refused, value, _>>=_, _>>_, checks, bit, numbersFrom}
 use Rattle.model.specs.Netlist.{Netlist, pathTotal, counts, nets, pinsOf, maxCount}
 use Rattle.model.specs.Path.{Edge, rising, falling}
-use Rattle.model.specs.Detect.{Test, detectsNumber, hasEdge, openPin, values}
+use Rattle.model.specs.Detect.{Class, Test, detectsNumber, hasEdge, openPin}
 use Rattle.model.specs.Runs.{Run, Separated, separatedRuns, runsOf, inRuns, size, howMany}
-use Rattle.model.specs.Read.{testRules, testOf, vectorBytes, inputBit, v2Part}
+use Rattle.model.specs.Read.{testRules, classOf, testOf, vectorBytes, inputBit, v1Part, v2Part}
 use Rattle.model.specs.Store.{ByEdge, ofEdge, maxRuns, headWords, storeWords, runCount, storeRuns, runsByEdge, storeRules, bothEdges}
 use Rattle.model.specs.Calls.{padded, workWords, workRules, stageRules, Tested, storeLeft, tested, testStage, runsThen}
 use Rattle.model.specs.Refusals.{refusalNumber}
@@ -33,7 +33,7 @@ use Rattle.model.proofs.ListLaws.{length-numbersFrom}
 use Rattle.simulation.specs.Records.{recordOf, RecordTrue, VectorsTrue, EdgesTrue}
 use Rattle.simulation.specs.declared.inner.test_record.RecordAnswer.{RecordAnswer}
 use Rattle.simulation.specs.declared.inner.test_record.RecordAnswer.the-variants as record-answer
-use Rattle.simulation.specs.Circuit.{CircuitAt, SomeCircuit, VectorIs, OpenMasks}
+use Rattle.simulation.specs.Circuit.{CircuitAt, SomeCircuit, TestIs, OpenMasks}
 use Rattle.simulation.specs.declared.inner.test_record.Vectors.{Vectors}
 use Rattle.simulation.specs.declared.inner.test_record.InputEdges.{InputEdges}
 use Rattle.coverage.specs.Scene.{Case, GateAt, Scene}
@@ -192,21 +192,21 @@ module _ (N : Netlist) (t : Test) (ws work work′ : List ℕ) (few : pathTotal 
               (edge-is work′ (3 * maxRuns) m v (runsInWords (drop headWords ws) maxRuns (runCount ws falling)) (runsThen N (runsByEdge ws) t falling) falling-runs)
 
 -- The places Test and Store before Work
-module _ (N : Netlist) (rec ws : List ℕ) where
-  pub stage-refused : (w : Refusal) (work : List ℕ) → refused (refusalNumber w) ≡ checks (testRules N rec) → StageIs (testStage N rec ws) ws ws work work (Refused w)
+module _ (N : Netlist) (c : Class) (rec ws : List ℕ) where
+  pub stage-refused : (w : Refusal) (work : List ℕ) → refused (refusalNumber w) ≡ checks (testRules N rec) → StageIs (testStage N c rec ws) ws ws work work (Refused w)
   unfolding testStage storeAfter
   stage-refused w work e =
-      let c : checks (stageRules N rec ws) ≡ refused (refusalNumber w) =
-      checks-both (testRules N rec) (storeRules (pathTotal N) ws ++ workRules N (runsByEdge ws) (testOf N rec)) ∙ rw (← e) refl in
-      record { answer = rw c refl; store = rw c refl; sameLength = refl; pastWork = refl }
+      let d : checks (stageRules N c rec ws) ≡ refused (refusalNumber w) =
+      checks-both (testRules N rec) (storeRules (pathTotal N) ws ++ workRules N (runsByEdge ws) (testOf N c rec)) ∙ rw (← e) refl in
+      record { answer = rw d refl; store = rw d refl; sameLength = refl; pastWork = refl }
 
-  pub stage-is-work : checks (testRules N rec) ≡ value tt → checks (storeRules (pathTotal N) ws) ≡ value tt → testStage N rec ws ≡ workStage N (testOf N rec) ws
+  pub stage-is-work : checks (testRules N rec) ≡ value tt → checks (storeRules (pathTotal N) ws) ≡ value tt → testStage N c rec ws ≡ workStage N (testOf N c rec) ws
   unfolding testStage workStage
   stage-is-work e s =
-      let c : checks (stageRules N rec ws) ≡ checks (workRules N (runsByEdge ws) (testOf N rec)) =
-      checks-both (testRules N rec) (storeRules (pathTotal N) ws ++ workRules N (runsByEdge ws) (testOf N rec))
-      ∙ rw e (checks-both (storeRules (pathTotal N) ws) (workRules N (runsByEdge ws) (testOf N rec)) ∙ rw s refl) in
-      ap (λ (a : Answer (Unit {0})). a >> value (tested N (runsByEdge ws) (testOf N rec))) c
+      let d : checks (stageRules N c rec ws) ≡ checks (workRules N (runsByEdge ws) (testOf N c rec)) =
+      checks-both (testRules N rec) (storeRules (pathTotal N) ws ++ workRules N (runsByEdge ws) (testOf N c rec))
+      ∙ rw e (checks-both (storeRules (pathTotal N) ws) (workRules N (runsByEdge ws) (testOf N c rec)) ∙ rw s refl) in
+      ap (λ (a : Answer (Unit {0})). a >> value (tested N (runsByEdge ws) (testOf N c rec))) d
 
 -- The place Work as the code goes through it: from what it is handed to the interval work, and from what that made to the answer
 module _ (netlist positions pathCounts masks : List ℕ) (rises falls inputs netCount outputs : ℕ) (ws work : List ℕ)
@@ -281,9 +281,17 @@ module _ (netlist positions pathCounts masks : List ℕ) (rises falls inputs net
 pub places-part : (ws : List ℕ) → take (length ws - headWords) (drop headWords ws) ≡ drop headWords ws
 places-part ws = take-all (length ws - headWords) (drop headWords ws) (omega (arith, length-drop headWords ws))
 
-vector-length : (N : Netlist) (rec : List ℕ) → length (testOf N rec .v2) ≡ N .inputs
+vector-first : (N : Netlist) (c : Class) (rec : List ℕ) → length (testOf N c rec .v1) ≡ N .inputs
 unfolding testOf
-vector-length N rec = length-map (numbersFrom 0 (N .inputs)) (inputBit (v2Part N rec)) ∙ length-numbersFrom 0 (N .inputs)
+vector-first N c rec = length-map (numbersFrom 0 (N .inputs)) (inputBit (v1Part N rec)) ∙ length-numbersFrom 0 (N .inputs)
+
+vector-last : (N : Netlist) (c : Class) (rec : List ℕ) → length (testOf N c rec .v2) ≡ N .inputs
+unfolding testOf
+vector-last N c rec = length-map (numbersFrom 0 (N .inputs)) (inputBit (v2Part N rec)) ∙ length-numbersFrom 0 (N .inputs)
+
+in-class : (N : Netlist) (c : Class) (rec : List ℕ) → testOf N c rec .class ≡ c
+unfolding testOf
+in-class N c rec = refl
 
 pub stage-inputs : (netlist positions pathCounts : List ℕ) (inputs netCount outputs : ℕ) (ws work : List ℕ)
     → StageReady netlist positions pathCounts inputs netCount outputs ws work → (1 ≤ inputs) × (inputs ≤ 64)
@@ -292,7 +300,7 @@ stage-inputs netlist positions pathCounts inputs netCount outputs ws work h =
     (omega (arith, h .tables .inputsAre, l .someInput), omega (arith, h .tables .inputsAre, l .fewInputs))
 
 -- A record that no rule of the place Test refuses: its pins and edges
-module _ (netlist positions pathCounts : List ℕ) (inputs netCount outputs : ℕ) (rec ws work : List ℕ)
+module _ (netlist positions pathCounts : List ℕ) (inputs netCount outputs class : ℕ) (rec ws work : List ℕ)
     (h : LegalReady netlist positions pathCounts inputs netCount outputs rec ws work) where
   pub legal-inputs : (1 ≤ inputs) × (inputs ≤ 64)
   legal-inputs = stage-inputs netlist positions pathCounts inputs netCount outputs ws work (h .stage)
@@ -310,17 +318,21 @@ module _ (netlist positions pathCounts : List ℕ) (inputs netCount outputs : �
       as-circuit N c = record { legal = c .legal; inputsAre = c .inputsAre; netsAre = c .netsAre; positionsAre = c .positionsAre }
 
   module _ (v : Vectors) (ev : VectorsTrue v inputs rec) (masks : List ℕ)
-      (em : (N : Netlist) (vs : List Bool) → CircuitAt N netlist positions inputs netCount → VectorIs N vs (v .v2) → OpenMasks N vs masks)
+      (em : (N : Netlist) (t : Test) → CircuitAt N netlist positions inputs netCount → TestIs N t class (v .v1) (v .v2) → OpenMasks N t masks)
       (edges : InputEdges) (ee : EdgesTrue v edges) where
-    pins-of : (N : Netlist) → CircuitTables N netlist positions pathCounts inputs netCount outputs → PinsOf N (testOf N rec) masks (edges .rises) (edges .falls)
-    unfolding openPin hasEdge
+    pins-of : (N : Netlist) → CircuitTables N netlist positions pathCounts inputs netCount outputs → PinsOf N (testOf N (classOf class) rec) masks (edges .rises) (edges .falls)
+    unfolding hasEdge
     pins-of N c =
         let i : N .inputs ≡ inputs = sym (c .inputsAre) in
-        let first : (j : ℕ) → j < N .inputs → bit (v .v1) j ≡ getD (testOf N rec .v1) j false = λ j l. ev .first N i j (omega (arith, i)) in
-        let second : (j : ℕ) → j < N .inputs → bit (v .v2) j ≡ getD (testOf N rec .v2) j false = λ j l. ev .second N i j (omega (arith, i)) in
+        let first : (j : ℕ) → j < N .inputs → bit (v .v1) j ≡ getD (testOf N (classOf class) rec .v1) j false = λ j l. ev .first N (classOf class) i j (omega (arith, i)) in
+        let second : (j : ℕ) → j < N .inputs → bit (v .v2) j ≡ getD (testOf N (classOf class) rec .v2) j false = λ j l. ev .second N (classOf class) i j (omega (arith, i)) in
         record {
-          opens = em N (testOf N rec .v2) (record { legal = c .legal; inputsAre = c .inputsAre; netsAre = c .netsAre; positionsAre = c .positionsAre })
-              (record { whole = vector-length N rec; bits = second }) .opens;
+          opens = em N (testOf N (classOf class) rec) (record { legal = c .legal; inputsAre = c .inputsAre; netsAre = c .netsAre; positionsAre = c .positionsAre })
+              (record {
+                inClass = in-class N (classOf class) rec;
+                firstIs = record { whole = vector-first N (classOf class) rec; bits = first };
+                lastIs = record { whole = vector-last N (classOf class) rec; bits = second };
+              }) .opens;
           rise = λ j l. ee .rise j ∙ ap₂ (λ a b. not a && b) (first j l) (second j l);
           fall = λ j l. ee .fall j ∙ ap₂ (λ a b. a && not b) (first j l) (second j l);
         }
@@ -328,7 +340,7 @@ module _ (netlist positions pathCounts : List ℕ) (inputs netCount outputs : �
     pub legal-work : WorkReady netlist positions pathCounts masks (edges .rises) (edges .falls) inputs netCount outputs ws work
     legal-work = record {
       circuit = h .stage .circuit;
-      test = testOf (h .stage .circuit) rec;
+      test = testOf (h .stage .circuit) (classOf class) rec;
       tables = h .stage .tables;
       pins = pins-of (h .stage .circuit) (h .stage .tables);
       memory = h .stage .memory;
@@ -337,19 +349,19 @@ module _ (netlist positions pathCounts : List ℕ) (inputs netCount outputs : �
     pub legal-taken : (ws′ work′ : List ℕ) (r : StageAnswer)
         → ((N : Netlist) (t : Test) → CircuitTables N netlist positions pathCounts inputs netCount outputs → PinsOf N t masks (edges .rises) (edges .falls)
         → StageIs (workStage N t ws) ws ws′ work work′ r)
-        → (N : Netlist) → CircuitTables N netlist positions pathCounts inputs netCount outputs → StageTrue N rec ws ws′ work work′ r
+        → (N : Netlist) → CircuitTables N netlist positions pathCounts inputs netCount outputs → StageTrue N (classOf class) rec ws ws′ work work′ r
     legal-taken ws′ work′ r made N c =
         let m : h .stage .circuit ≡ N = value-inj (sym (h .stage .tables .legal) ∙ c .legal) in
         let t : checks (testRules N rec) ≡ value tt = subst (λ M. checks (testRules M rec) ≡ value tt) m (h .legalRecord) in
         let s : checks (storeRules (pathTotal N) ws) ≡ value tt = subst (λ M. checks (storeRules (pathTotal M) ws) ≡ value tt) m (h .stage .memory .sound) in
-        subst (λ (a : Answer Tested). StageIs a ws ws′ work work′ r) (sym (stage-is-work N rec ws t s)) (made N (testOf N rec) c (pins-of N c))
+        subst (λ (a : Answer Tested). StageIs a ws ws′ work work′ r) (sym (stage-is-work N (classOf class) rec ws t s)) (made N (testOf N (classOf class) rec) c (pins-of N c))
 
 -- One record, by what its checks answer
-module _ (netlist positions pathCounts : List ℕ) (inputs netCount outputs : ℕ) (rec ws work : List ℕ)
+module _ (netlist positions pathCounts : List ℕ) (inputs netCount outputs class : ℕ) (rec ws work : List ℕ)
     (h : StageReady netlist positions pathCounts inputs netCount outputs ws work) (q : RecordAnswer) (e : RecordTrue q inputs rec) where
   pub test-legal : q ≡ record-answer.Legal → LegalReady netlist positions pathCounts inputs netCount outputs rec ws work
   test-legal l = record { stage = h; legalRecord = sym (e .answer (h .circuit) (sym (h .tables .inputsAre))) ∙ ap recordOf l }
 
   pub test-refused : (w : Refusal) → q ≡ record-answer.Refused w → (N : Netlist) → CircuitTables N netlist positions pathCounts inputs netCount outputs
-      → StageTrue N rec ws ws work work (Refused w)
-  test-refused w l N c = stage-refused N rec ws w work (sym (ap recordOf l) ∙ e .answer N (sym (c .inputsAre)))
+      → StageTrue N (classOf class) rec ws ws work work (Refused w)
+  test-refused w l N c = stage-refused N (classOf class) rec ws w work (sym (ap recordOf l) ∙ e .answer N (sym (c .inputsAre)))

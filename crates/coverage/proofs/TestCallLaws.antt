@@ -1,47 +1,39 @@
 -- The test call, place by place.
 -- Assumes nothing.
 use mathlib.Core.Path.{_≡_, refl, ap, ap₂, sym, _∙_, subst}
-use mathlib.Core.Bool.{Bool, true, false, _||_}
-use mathlib.Core.List.{List, [], _∷_, _++_}
-use Prim.Native.Nat.{ℕ, _+_, _-_, _≤_, _<_, _^_}
+use mathlib.Core.List.{List, _++_}
+use Prim.Native.Nat.{ℕ, _+_, _-_, _≤_, _^_}
 use native.Mathlib.Omega.{arith}
-use borrow.Author.Tests.{eq-eqb, ne-eqb}
-use lib.Dec.{eqb, leb, leb→le}
+use lib.Dec.{leb, leb→le}
 use lib.ListN.{length}
-use Rattle.model.specs.Base.{Answer, refused, value, _>>=_, _>>_, checks, passes, after}
+use Rattle.model.specs.Base.{Answer, refused, value, checks, passes, after}
 use Rattle.model.specs.Path.{Edge, rising, falling}
-use Rattle.model.specs.Detect.{Test, detectsNumber}
-use Rattle.model.specs.Runs.{Run, Separated, separatedRuns, runsOf, inRuns, size, howMany}
-use Rattle.model.specs.Netlist.{Netlist, pathTotal, nets}
-use Rattle.model.specs.Read.{readNetlist, testRules, testOf}
+use Rattle.model.specs.Detect.{Class, Test, detectsNumber}
+use Rattle.model.specs.Runs.{Run, Separated, separatedRuns, inRuns, size, howMany}
+use Rattle.model.specs.Netlist.{Netlist, pathTotal}
+use Rattle.model.specs.Read.{classOf, testRules, testOf}
 use Rattle.model.specs.Store.{ByEdge, byEdge, ofEdge, maxRuns, storeWords, storeRules, runCount, storeRuns, runsByEdge}
-use Rattle.model.specs.Calls.{workWords, storeRule, workRule, beforeTest, stageRules, workRules, Tested, storeLeft, tested, heldThen, newThen, runsThen, testStage, testCall, testAnswer, testStore, WorkAfter}
+use Rattle.model.specs.Calls.{stageRules, workRules, Tested, storeLeft, tested, heldThen, newThen, runsThen, testStage}
 use Rattle.model.specs.Refusals.{refusalNumber}
 use Rattle.model.specs.declared.Refusal.{Refusal}
 use Rattle.model.specs.declared.Refusal.the-variants as why
-use Rattle.model.proofs.BoolLaws.{le-true, lt-false}
 use Rattle.model.proofs.AnswerLaws.{AllPass, Passed, checks→, pass-second, not-refused, value-inj, checks-both}
 use Rattle.model.proofs.RunLaws.{separated→, runs-size, runs-of-runs, howMany-or}
 use Rattle.model.proofs.StoreLaws.{runs-store}
 use Rattle.model.proofs.HoldingLaws.{ofEdge-byEdge, at-edge, stage-passes, stage-result, stage-length, stage-sound}
 use Rattle.runs.proofs.RunLaws.{sound-mono}
 use Rattle.model.proofs.ReadLaws.{limits}
-use Rattle.netlist.specs.Answers.{LoadTrue}
-use Rattle.netlist.specs.Places.{positionsOf}
 use Rattle.netlist.specs.declared.SurveyAnswer.the-variants as survey
-use Rattle.netlist.specs.declared.inner.Loaded.{Loaded}
-use Rattle.netlist.proofs.LoadLaws.{LegalSurvey, loaded-legal, loaded-refused}
 use Rattle.simulation.specs.Records.{recordOf, RecordTrue}
 use Rattle.simulation.specs.declared.inner.test_record.RecordAnswer.{RecordAnswer}
 use Rattle.simulation.specs.declared.inner.test_record.RecordAnswer.the-variants as record-answer
 use Rattle.store.specs.Answers.{checkOf, totalsIn, totalsBoth}
-use Rattle.store.specs.Sound.{FewRuns, SoundWords}
+use Rattle.store.specs.Sound.{SoundWords}
 use Rattle.store.specs.declared.inner.StoreTotals.{StoreTotals}
 use Rattle.store.specs.declared.inner.StoreCheck.{StoreCheck}
 use Rattle.store.specs.declared.inner.StoreCheck.the-variants as check
-use Rattle.coverage.specs.Stage.{CircuitTables, MemoryReady, LegalReady, stageOf, storeAfter, StageIs, StageTrue}
-use Rattle.coverage.specs.TestCall.{CheckedReady, testedOf, returnedBy, TestedIs, TestTrue}
-use Rattle.coverage.specs.declared.TestAnswer.{TestAnswer}
+use Rattle.coverage.specs.Stage.{CircuitTables, MemoryReady, LegalReady, storeAfter, StageIs, StageTrue}
+use Rattle.coverage.specs.TestCall.{CheckedReady, testedOf, returnedBy, TestedIs}
 use Rattle.coverage.specs.declared.TestAnswer.the-variants.{Taken, Refused}
 use Rattle.coverage.specs.declared.inner.StageAnswer.{StageAnswer}
 use Rattle.coverage.specs.declared.inner.StageAnswer.the-variants as stage
@@ -56,11 +48,11 @@ pub taken-by : {A : Type 0} (x : Answer A) → value tt ≡ passes x → Passed 
 taken-by (refused m) e = absurd (not-refused (sym e))
 taken-by (value a) e = record { got = a; is = refl }
 
-pub as-tested : (N : Netlist) (rec ws ws′ work work′ : List ℕ) (w : Refusal) → StageIs (testStage N rec ws) ws ws′ work work′ (stage.Refused w)
-    → TestedIs (testStage N rec ws) ws ws′ work work′ (Refused w)
+pub as-tested : (N : Netlist) (c : Class) (rec ws ws′ work work′ : List ℕ) (w : Refusal) → StageIs (testStage N c rec ws) ws ws′ work work′ (stage.Refused w)
+    → TestedIs (testStage N c rec ws) ws ws′ work work′ (Refused w)
 unfolding returnedBy
-as-tested N rec ws ws′ work work′ w s =
-    let e : testStage N rec ws ≡ refused (refusalNumber w) = refused-by (testStage N rec ws) (refusalNumber w) (s .answer) in
+as-tested N c rec ws ws′ work work′ w s =
+    let e : testStage N c rec ws ≡ refused (refusalNumber w) = refused-by (testStage N c rec ws) (refusalNumber w) (s .answer) in
     record { answer = rw e refl; store = s .store; sameLength = s .sameLength; pastWork = s .pastWork }
 
 -- One edge of a store whose runs are separated, with what a test detects: sizes
@@ -83,7 +75,7 @@ module _ (N : Netlist) (t : Test) (ws : List ℕ) (e : Edge) (a : Separated (pat
   new-size = omega (arith, more-size)
 
 -- A legal record on a sound store, counted before and after
-module _ (netlist positions pathCounts : List ℕ) (inputs netCount outputs : ℕ) (rec ws work : List ℕ)
+module _ (netlist positions pathCounts : List ℕ) (inputs netCount outputs class : ℕ) (rec ws work : List ℕ)
     (h : LegalReady netlist positions pathCounts inputs netCount outputs rec ws work) where
   -- a netlist is what its bytes are
   memory-of : (N : Netlist) → CircuitTables N netlist positions pathCounts inputs netCount outputs → MemoryReady N ws work
@@ -112,60 +104,60 @@ module _ (netlist positions pathCounts : List ℕ) (inputs netCount outputs : �
     sound-before : SoundWords (2 ^ 62) ws
     sound-before = words-sound ws (memory-of N c .storeLength) rules-pass
 
-    module _ (ws′ work′ : List ℕ) (s : StageTrue N rec ws ws′ work work′ stage.Taken) where
+    module _ (ws′ work′ : List ℕ) (s : StageTrue N (classOf class) rec ws ws′ work work′ stage.Taken) where
       runs-are : ByEdge (List Run)
-      runs-are = byEdge (runsThen N (runsByEdge ws) (testOf N rec))
+      runs-are = byEdge (runsThen N (runsByEdge ws) (testOf N (classOf class) rec))
 
-      taken-is : testStage N rec ws ≡ value (tested N (runsByEdge ws) (testOf N rec))
+      taken-is : testStage N (classOf class) rec ws ≡ value (tested N (runsByEdge ws) (testOf N (classOf class) rec))
       taken-is =
-          let p = taken-by (testStage N rec ws) (s .answer) in
-          p .is ∙ ap (λ (t : Tested). value t) (sym (stage-result N rec ws (p .got) (p .is)))
+          let p = taken-by (testStage N (classOf class) rec ws) (s .answer) in
+          p .is ∙ ap (λ (t : Tested). value t) (sym (stage-result N (classOf class) rec ws (p .got) (p .is)))
 
-      left-is : ws′ ≡ storeLeft (tested N (runsByEdge ws) (testOf N rec))
+      left-is : ws′ ≡ storeLeft (tested N (runsByEdge ws) (testOf N (classOf class) rec))
       unfolding storeAfter
       left-is = s .store ∙ ap (λ (a : Answer Tested). after a ws storeLeft) taken-is
 
       sound-after : SoundWords (2 ^ 62) ws′
       sound-after =
           subst (λ (x : List ℕ). SoundWords (2 ^ 62) x) (sym left-is)
-          (words-sound (storeLeft (tested N (runsByEdge ws) (testOf N rec)))
-          (stage-length N ws (memory-of N c .storeLength) rules-pass rec (tested N (runsByEdge ws) (testOf N rec)) taken-is)
-          (stage-sound N ws (memory-of N c .storeLength) rules-pass rec (tested N (runsByEdge ws) (testOf N rec)) taken-is))
+          (words-sound (storeLeft (tested N (runsByEdge ws) (testOf N (classOf class) rec)))
+          (stage-length N ws (memory-of N c .storeLength) rules-pass (classOf class) rec (tested N (runsByEdge ws) (testOf N (classOf class) rec)) taken-is)
+          (stage-sound N ws (memory-of N c .storeLength) rules-pass (classOf class) rec (tested N (runsByEdge ws) (testOf N (classOf class) rec)) taken-is))
 
-      few-then : (e : Edge) → length (ofEdge (byEdge (runsThen N (runsByEdge ws) (testOf N rec))) e) ≤ maxRuns
+      few-then : (e : Edge) → length (ofEdge (byEdge (runsThen N (runsByEdge ws) (testOf N (classOf class) rec))) e) ≤ maxRuns
       few-then e =
-          let p = pass-second (storeRules (pathTotal N) ws) (workRules N (runsByEdge ws) (testOf N rec))
-          (pass-second (testRules N rec) (storeRules (pathTotal N) ws ++ workRules N (runsByEdge ws) (testOf N rec))
-          (stage-passes N rec ws (tested N (runsByEdge ws) (testOf N rec)) taken-is)) in
-          subst (λ (rs : List Run). length rs ≤ maxRuns) (sym (ofEdge-byEdge (runsThen N (runsByEdge ws) (testOf N rec)) e))
-          (leb→le (length (runsThen N (runsByEdge ws) (testOf N rec) e)) maxRuns
-          (at-edge (λ d. leb (length (runsThen N (runsByEdge ws) (testOf N rec) d)) maxRuns) (p .1 .0) e))
+          let p = pass-second (storeRules (pathTotal N) ws) (workRules N (runsByEdge ws) (testOf N (classOf class) rec))
+          (pass-second (testRules N rec) (storeRules (pathTotal N) ws ++ workRules N (runsByEdge ws) (testOf N (classOf class) rec))
+          (stage-passes N (classOf class) rec ws (tested N (runsByEdge ws) (testOf N (classOf class) rec)) taken-is)) in
+          subst (λ (rs : List Run). length rs ≤ maxRuns) (sym (ofEdge-byEdge (runsThen N (runsByEdge ws) (testOf N (classOf class) rec)) e))
+          (leb→le (length (runsThen N (runsByEdge ws) (testOf N (classOf class) rec) e)) maxRuns
+          (at-edge (λ d. leb (length (runsThen N (runsByEdge ws) (testOf N (classOf class) rec) d)) maxRuns) (p .1 .0) e))
 
-      size-after : (e : Edge) → size (storeRuns ws′ e) ≡ size (runsThen N (runsByEdge ws) (testOf N rec) e)
+      size-after : (e : Edge) → size (storeRuns ws′ e) ≡ size (runsThen N (runsByEdge ws) (testOf N (classOf class) rec) e)
       unfolding tested
       size-after e =
           ap (λ (x : List ℕ). size (storeRuns x e)) left-is
-          ∙ ap size (runs-store (byEdge (runsThen N (runsByEdge ws) (testOf N rec))) few-then e ∙ ofEdge-byEdge (runsThen N (runsByEdge ws) (testOf N rec)) e)
+          ∙ ap size (runs-store (byEdge (runsThen N (runsByEdge ws) (testOf N (classOf class) rec))) few-then e ∙ ofEdge-byEdge (runsThen N (runsByEdge ws) (testOf N (classOf class) rec)) e)
 
       module _ (before after : StoreTotals) (eb : totalsIn before ≡ totalsBoth ws) (ea : totalsIn after ≡ totalsBoth ws′) where
         nu : Edge → ℕ
-        nu e = howMany (newThen N (runsByEdge ws) (testOf N rec) e) (pathTotal N)
+        nu e = howMany (newThen N (runsByEdge ws) (testOf N (classOf class) rec) e) (pathTotal N)
 
         he : Edge → ℕ
-        he e = howMany (heldThen N (runsByEdge ws) (testOf N rec) e) (pathTotal N)
+        he e = howMany (heldThen N (runsByEdge ws) (testOf N (classOf class) rec) e) (pathTotal N)
 
         held-is : (e : Edge) → ofEdge (totalsIn after) e ≡ he e
         unfolding he
-        held-is rising = ap (λ (b : ByEdge ℕ). b .onRising) ea ∙ size-after rising ∙ then-size N (testOf N rec) ws rising (separated-in ws rules-pass rising)
-        held-is falling = ap (λ (b : ByEdge ℕ). b .onFalling) ea ∙ size-after falling ∙ then-size N (testOf N rec) ws falling (separated-in ws rules-pass falling)
+        held-is rising = ap (λ (b : ByEdge ℕ). b .onRising) ea ∙ size-after rising ∙ then-size N (testOf N (classOf class) rec) ws rising (separated-in ws rules-pass rising)
+        held-is falling = ap (λ (b : ByEdge ℕ). b .onFalling) ea ∙ size-after falling ∙ then-size N (testOf N (classOf class) rec) ws falling (separated-in ws rules-pass falling)
 
         grows : (e : Edge) → ofEdge (totalsIn after) e ≡ ofEdge (totalsIn before) e + nu e
         unfolding nu
         grows rising =
-            ap (λ (b : ByEdge ℕ). b .onRising) ea ∙ size-after rising ∙ more-size N (testOf N rec) ws rising (separated-in ws rules-pass rising)
+            ap (λ (b : ByEdge ℕ). b .onRising) ea ∙ size-after rising ∙ more-size N (testOf N (classOf class) rec) ws rising (separated-in ws rules-pass rising)
             ∙ ap (λ k. k + nu rising) (sym (ap (λ (b : ByEdge ℕ). b .onRising) eb))
         grows falling =
-            ap (λ (b : ByEdge ℕ). b .onFalling) ea ∙ size-after falling ∙ more-size N (testOf N rec) ws falling (separated-in ws rules-pass falling)
+            ap (λ (b : ByEdge ℕ). b .onFalling) ea ∙ size-after falling ∙ more-size N (testOf N (classOf class) rec) ws falling (separated-in ws rules-pass falling)
             ∙ ap (λ k. k + nu falling) (sym (ap (λ (b : ByEdge ℕ). b .onFalling) eb))
 
         rising-grows : before .rising ≤ after .rising
@@ -174,7 +166,7 @@ module _ (netlist positions pathCounts : List ℕ) (inputs netCount outputs : �
         falling-grows : before .falling ≤ after .falling
         falling-grows = omega (arith, grows falling)
 
-        counted : TestedIs (testStage N rec ws) ws ws′ work work′ (Taken (after .rising - before .rising) (after .falling - before .falling) (after .rising) (after .falling))
+        counted : TestedIs (testStage N (classOf class) rec ws) ws ws′ work work′ (Taken (after .rising - before .rising) (after .falling - before .falling) (after .rising) (after .falling))
         unfolding returnedBy tested nu he
         counted = record {
           answer =
@@ -190,14 +182,14 @@ module _ (netlist positions pathCounts : List ℕ) (inputs netCount outputs : �
   pub before-sound : SoundWords (2 ^ 62) ws
   before-sound = sound-before (h .stage .circuit) (h .stage .tables)
 
-  module _ (ws′ work′ : List ℕ) (r : StageAnswer) (s : (N : Netlist) → CircuitTables N netlist positions pathCounts inputs netCount outputs → StageTrue N rec ws ws′ work work′ r) where
+  module _ (ws′ work′ : List ℕ) (r : StageAnswer) (s : (N : Netlist) → CircuitTables N netlist positions pathCounts inputs netCount outputs → StageTrue N (classOf class) rec ws ws′ work work′ r) where
     pub count-refused : (w : Refusal) → r ≡ stage.Refused w → (N : Netlist) → CircuitTables N netlist positions pathCounts inputs netCount outputs
-        → TestedIs (testStage N rec ws) ws ws′ work work′ (Refused w)
-    count-refused w e N c = as-tested N rec ws ws′ work work′ w (subst (λ (a : StageAnswer). StageTrue N rec ws ws′ work work′ a) e (s N c))
+        → TestedIs (testStage N (classOf class) rec ws) ws ws′ work work′ (Refused w)
+    count-refused w e N c = as-tested N (classOf class) rec ws ws′ work work′ w (subst (λ (a : StageAnswer). StageTrue N (classOf class) rec ws ws′ work work′ a) e (s N c))
 
     module _ (e : r ≡ stage.Taken) where
-      taken : (N : Netlist) → CircuitTables N netlist positions pathCounts inputs netCount outputs → StageTrue N rec ws ws′ work work′ stage.Taken
-      taken N c = subst (λ (a : StageAnswer). StageTrue N rec ws ws′ work work′ a) e (s N c)
+      taken : (N : Netlist) → CircuitTables N netlist positions pathCounts inputs netCount outputs → StageTrue N (classOf class) rec ws ws′ work work′ stage.Taken
+      taken N c = subst (λ (a : StageAnswer). StageTrue N (classOf class) rec ws ws′ work work′ a) e (s N c)
 
       pub after-sound : SoundWords (2 ^ 62) ws′
       after-sound = sound-after (h .stage .circuit) (h .stage .tables) ws′ work′ (taken (h .stage .circuit) (h .stage .tables))
@@ -210,11 +202,11 @@ module _ (netlist positions pathCounts : List ℕ) (inputs netCount outputs : �
         more-falling = falling-grows (h .stage .circuit) (h .stage .tables) ws′ work′ (taken (h .stage .circuit) (h .stage .tables)) before after eb ea
 
         pub count-taken : (N : Netlist) → CircuitTables N netlist positions pathCounts inputs netCount outputs
-            → TestedIs (testStage N rec ws) ws ws′ work work′ (Taken (after .rising - before .rising) (after .falling - before .falling) (after .rising) (after .falling))
+            → TestedIs (testStage N (classOf class) rec ws) ws ws′ work work′ (Taken (after .rising - before .rising) (after .falling - before .falling) (after .rising) (after .falling))
         count-taken N c = counted N c ws′ work′ (taken N c) before after eb ea
 
 -- The places Test and Store on a store that is not checked yet
-module _ (netlist positions pathCounts : List ℕ) (inputs netCount outputs paths : ℕ) (rec ws work : List ℕ)
+module _ (netlist positions pathCounts : List ℕ) (inputs netCount outputs paths class : ℕ) (rec ws work : List ℕ)
     (h : CheckedReady netlist positions pathCounts inputs netCount outputs paths ws work) where
   pub checked-inputs : (1 ≤ inputs) × (inputs ≤ 64)
   checked-inputs =
@@ -226,9 +218,9 @@ module _ (netlist positions pathCounts : List ℕ) (inputs netCount outputs path
 
   module _ (q : RecordAnswer) (e : RecordTrue q inputs rec) where
     pub record-refused : (w : Refusal) → q ≡ record-answer.Refused w → (N : Netlist) → CircuitTables N netlist positions pathCounts inputs netCount outputs
-        → TestedIs (testStage N rec ws) ws ws work work (Refused w)
+        → TestedIs (testStage N (classOf class) rec ws) ws ws work work (Refused w)
     record-refused w l N c =
-        as-tested N rec ws ws work work w (stage-refused N rec ws w work (sym (ap recordOf l) ∙ e .answer N (sym (c .inputsAre))))
+        as-tested N (classOf class) rec ws ws work work w (stage-refused N (classOf class) rec ws w work (sym (ap recordOf l) ∙ e .answer N (sym (c .inputsAre))))
 
     module _ (l : q ≡ record-answer.Legal) (k : StoreCheck) (ek : checkOf k ≡ checks (storeRules paths ws)) where
       legal-of : (N : Netlist) → CircuitTables N netlist positions pathCounts inputs netCount outputs → checks (testRules N rec) ≡ value tt
@@ -238,13 +230,13 @@ module _ (netlist positions pathCounts : List ℕ) (inputs netCount outputs path
       total-of N c = h .total ∙ ap pathTotal (value-inj (sym (h .tables .legal) ∙ c .legal))
 
       pub store-refused : (w : Refusal) → k ≡ check.Refused w → (N : Netlist) → CircuitTables N netlist positions pathCounts inputs netCount outputs
-          → TestedIs (testStage N rec ws) ws ws work work (Refused w)
+          → TestedIs (testStage N (classOf class) rec ws) ws ws work work (Refused w)
       unfolding testStage returnedBy storeAfter
       store-refused w d N c =
           let s : checks (storeRules (pathTotal N) ws) ≡ refused (refusalNumber w) = sym (ek ∙ ap (λ p. checks (storeRules p ws)) (total-of N c)) ∙ ap checkOf d in
-          let r : checks (stageRules N rec ws) ≡ refused (refusalNumber w) =
-          checks-both (testRules N rec) (storeRules (pathTotal N) ws ++ workRules N (runsByEdge ws) (testOf N rec))
-          ∙ rw (legal-of N c) (checks-both (storeRules (pathTotal N) ws) (workRules N (runsByEdge ws) (testOf N rec)) ∙ rw s refl) in
+          let r : checks (stageRules N (classOf class) rec ws) ≡ refused (refusalNumber w) =
+          checks-both (testRules N rec) (storeRules (pathTotal N) ws ++ workRules N (runsByEdge ws) (testOf N (classOf class) rec))
+          ∙ rw (legal-of N c) (checks-both (storeRules (pathTotal N) ws) (workRules N (runsByEdge ws) (testOf N (classOf class) rec)) ∙ rw s refl) in
           record { answer = rw r refl; store = rw r refl; sameLength = refl; pastWork = refl }
 
       pub checked-legal : k ≡ check.Sound → LegalReady netlist positions pathCounts inputs netCount outputs rec ws work
@@ -260,69 +252,3 @@ module _ (netlist positions pathCounts : List ℕ) (inputs netCount outputs path
         };
         legalRecord = legal-of (h .circuit) (h .tables);
       }
-
--- The test stage was not reached
-module _ (netlist rec ws work : List ℕ) where
-  not-reached : (w : Refusal) → beforeTest netlist ws work ≡ refused (refusalNumber w) → TestTrue (Refused w) netlist rec ws ws work work
-  unfolding testAnswer testStore testCall
-  not-reached w e = record {
-    answer = rw e refl;
-    store = rw e refl;
-    memory = record { sameLength = refl; pastWork = refl; notReached = λ n q. refl };
-  }
-
-  pub no-store : (length ws ≡ storeWords → ⊥) → TestTrue (Refused why.StoreLength) netlist rec ws ws work work
-  no-store h =
-      let e : eqb (length ws) storeWords ≡ false = ne-eqb (length ws) storeWords h in
-      not-reached why.StoreLength (rw e refl)
-
-  module _ (l : length ws ≡ storeWords) where
-    long : eqb (length ws) storeWords ≡ true
-    long = eq-eqb (length ws) storeWords l
-
-    pub no-work : length work < workWords → TestTrue (Refused why.WorkLength) netlist rec ws ws work work
-    no-work h =
-        let e : leb workWords (length work) ≡ false = lt-false workWords (length work) h in
-        not-reached why.WorkLength (rw (long, e) refl)
-
-    module _ (k : workWords ≤ length work) where
-      lent : checks (storeRule ws ∷ workRule work ∷ []) ≡ value tt
-      lent = let e : leb workWords (length work) ≡ true = le-true workWords (length work) k in rw (long, e) refl
-
-      module _ (r : Loaded) (t : LoadTrue r netlist) where
-        pub no-netlist : (w : Refusal) → r .answer ≡ survey.Refused w → TestTrue (Refused w) netlist rec ws ws work work
-        no-netlist w e = not-reached w (rw (lent, loaded-refused r netlist t w e) refl)
-
-        module _ (e : r .answer ≡ survey.Legal) where
-          here : LegalSurvey netlist (r .survey)
-          here = loaded-legal r netlist t e
-
-          pub nets-fit : r .survey .inputs + r .survey .gates ≤ 512
-          nets-fit = omega (arith, here .inputsAre, here .gatesAre, limits netlist (here .netlist) (here .isRead) .fewNets)
-
-          tables-of : CircuitTables (here .netlist) netlist (r .positions) (r .survey .counts) (r .survey .inputs) (r .survey .inputs + r .survey .gates) (r .survey .outputs)
-          unfolding here
-          tables-of = record {
-            legal = here .isRead;
-            positionsAre = t .positions ∙ ap (positionsOf netlist) (here .isRead);
-            countsAre = here .countsAre;
-            inputsAre = here .inputsAre;
-            netsAre = omega (arith, here .inputsAre, here .gatesAre);
-            outputsAre = here .outputsAre;
-          }
-
-          pub call-ready : CheckedReady netlist (r .positions) (r .survey .counts) (r .survey .inputs) (r .survey .inputs + r .survey .gates) (r .survey .outputs) (r .survey .total) ws work
-          call-ready = record { circuit = here .netlist; tables = tables-of; total = here .totalIs; storeLength = l; workLength = k }
-
-          pub call-true : (ws′ work′ : List ℕ) (a : TestAnswer)
-              → ((N : Netlist) → CircuitTables N netlist (r .positions) (r .survey .counts) (r .survey .inputs) (r .survey .inputs + r .survey .gates) (r .survey .outputs)
-              → TestedIs (testStage N rec ws) ws ws′ work work′ a) → TestTrue a netlist rec ws ws′ work work′
-          unfolding testAnswer testStore testCall returnedBy storeAfter
-          call-true ws′ work′ a made =
-              let s = made (here .netlist) tables-of in
-              let b : beforeTest netlist ws work ≡ value (here .netlist) = rw (lent, here .isRead) refl in
-              record {
-                answer = s .answer ∙ rw b refl;
-                store = s .store ∙ rw b refl;
-                memory = record { sameLength = s .sameLength; pastWork = s .pastWork; notReached = λ n q. absurd (not-refused (sym q ∙ b)) };
-              }

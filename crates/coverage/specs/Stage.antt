@@ -8,7 +8,7 @@ use Rattle.model.specs.Base.{Answer, refused, value, _>>_, checks, passes, afte
 use Rattle.model.specs.Netlist.{Netlist, pathTotal}
 use Rattle.model.specs.Netlist as model
 use Rattle.model.specs.Path.{rising, falling}
-use Rattle.model.specs.Detect.{Test, hasEdge, openPin}
+use Rattle.model.specs.Detect.{Class, Test, hasEdge, openPin}
 use Rattle.model.specs.Read.{readNetlist, testRules}
 use Rattle.model.specs.Store.{storeWords, storeRules, runsByEdge}
 use Rattle.model.specs.Calls.{padded, workWords, workRules, Tested, storeLeft, tested, testStage}
@@ -75,6 +75,6 @@ pub record StageIs (x : Answer Tested) (ws ws′ work work′ : List ℕ) (r : S
   pub sameLength : length work′ ≡ length work
   pub pastWork : drop workWords work′ ≡ drop workWords work
 
--- the places Test, Store and Work for one record
-abbrev pub StageTrue : Netlist → List ℕ → List ℕ → List ℕ → List ℕ → List ℕ → StageAnswer → Type 0
-StageTrue N rec ws ws′ work work′ r = StageIs (testStage N rec ws) ws ws′ work work′ r
+-- the places Test, Store and Work for one record in a class
+abbrev pub StageTrue : Netlist → Class → List ℕ → List ℕ → List ℕ → List ℕ → List ℕ → StageAnswer → Type 0
+StageTrue N c rec ws ws′ work work′ r = StageIs (testStage N c rec ws) ws ws′ work work′ r

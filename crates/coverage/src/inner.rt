@@ -3,6 +3,7 @@
 ghost use Rattle.model.specs.Detect.{Test};
 ghost use Rattle.model.specs.Calls.{testStage};
 ghost use Rattle.model.specs.Netlist.{Netlist};
+ghost use Rattle.model.specs.Read.{classOf};
 ghost use Rattle.coverage.specs.Stage.{CircuitTables, PinsOf, StageReady, WorkReady, LegalReady, workStage, StageIs, StageTrue};
 ghost use Rattle.coverage.specs.TestCall.{TestedIs};
 use crate::TestAnswer;
@@ -82,7 +83,7 @@ fn work_on(
     }
 }
 
-// A record that no rule of the place Test refuses.
+// A record that no rule of the place Test refuses, judged in a class.
 pub fn take_legal(
     netlist: &[u8],
     positions: &[u16; 512],
@@ -91,14 +92,23 @@ pub fn take_legal(
     nets: usize,
     outputs: usize,
     test: &[u8],
+    class: u32,
     store: &mut [u64],
     work: &mut [u64],
 ) -> StageAnswer
     requires { ⌜ LegalReady (now netlist) (now positions) (now counts) inputs nets outputs (now test) (now store) (now work) ⌝ }
-    ensures { λ r. ⌜ ((N : Netlist) → CircuitTables N (now (netlist .entry)) (now (positions .entry)) (now (counts .entry)) inputs nets outputs → StageTrue N (now (test .entry)) (now (store .entry)) (now (store .exit)) (now (work .entry)) (now (work .exit)) r) ⌝ }
+    ensures { λ r. ⌜ ((N : Netlist) → CircuitTables N (now (netlist .entry)) (now (positions .entry)) (now (counts .entry)) inputs nets outputs → StageTrue N (classOf class) (now (test .entry)) (now (store .entry)) (now (store .exit)) (now (work .entry)) (now (work .exit)) r) ⌝ }
 {
     let vectors = read_vectors(test, inputs);
-    let masks = open_masks(netlist, positions, inputs, nets, vectors.v2);
+    let masks = open_masks(
+        netlist,
+        positions,
+        inputs,
+        nets,
+        vectors.v1,
+        vectors.v2,
+        class,
+    );
     let edges = edges_of(vectors);
     work_on(
         netlist,
@@ -115,7 +125,7 @@ pub fn take_legal(
     )
 }
 
-// One record: the places Test and Work. The store is sound, so the place Store refuses nothing.
+// One record, judged in a class: the places Test and Work. The store is sound, so the place Store refuses nothing.
 pub fn take_test(
     netlist: &[u8],
     positions: &[u16; 512],
@@ -124,11 +134,12 @@ pub fn take_test(
     nets: usize,
     outputs: usize,
     test: &[u8],
+    class: u32,
     store: &mut [u64],
     work: &mut [u64],
 ) -> StageAnswer
     requires { ⌜ StageReady (now netlist) (now positions) (now counts) inputs nets outputs (now store) (now work) ⌝ }
-    ensures { λ r. ⌜ ((N : Netlist) → CircuitTables N (now (netlist .entry)) (now (positions .entry)) (now (counts .entry)) inputs nets outputs → StageTrue N (now (test .entry)) (now (store .entry)) (now (store .exit)) (now (work .entry)) (now (work .exit)) r) ⌝ }
+    ensures { λ r. ⌜ ((N : Netlist) → CircuitTables N (now (netlist .entry)) (now (positions .entry)) (now (counts .entry)) inputs nets outputs → StageTrue N (classOf class) (now (test .entry)) (now (store .entry)) (now (store .exit)) (now (work .entry)) (now (work .exit)) r) ⌝ }
 {
     let checked = check_record(test, inputs);
     match checked {
@@ -141,13 +152,14 @@ pub fn take_test(
             nets,
             outputs,
             test,
+            class,
             store,
             work,
         ),
     }
 }
 
-// One record: the places Test and Work, with the faults counted that are new to the store and those then held. The store is sound.
+// One record, judged in a class: the places Test and Work, with the faults counted that are new to the store and those then held. The store is sound.
 pub fn count_test(
     netlist: &[u8],
     positions: &[u16; 512],
@@ -156,11 +168,12 @@ pub fn count_test(
     nets: usize,
     outputs: usize,
     test: &[u8],
+    class: u32,
     store: &mut [u64],
     work: &mut [u64],
 ) -> TestAnswer
     requires { ⌜ StageReady (now netlist) (now positions) (now counts) inputs nets outputs (now store) (now work) ⌝ }
-    ensures { λ r. ⌜ ((N : Netlist) → CircuitTables N (now (netlist .entry)) (now (positions .entry)) (now (counts .entry)) inputs nets outputs → TestedIs (testStage N (now (test .entry)) (now (store .entry))) (now (store .entry)) (now (store .exit)) (now (work .entry)) (now (work .exit)) r) ⌝ }
+    ensures { λ r. ⌜ ((N : Netlist) → CircuitTables N (now (netlist .entry)) (now (positions .entry)) (now (counts .entry)) inputs nets outputs → TestedIs (testStage N (classOf class) (now (test .entry)) (now (store .entry))) (now (store .entry)) (now (store .exit)) (now (work .entry)) (now (work .exit)) r) ⌝ }
 {
     let checked = check_record(test, inputs);
     match checked {
@@ -173,6 +186,7 @@ pub fn count_test(
             nets,
             outputs,
             test,
+            class,
             store,
             work,
         ),

@@ -6,13 +6,15 @@ mod store_write;
 
 ghost use Rattle.model.specs.Netlist.{Netlist};
 ghost use Rattle.model.specs.Calls.{testStage};
+ghost use Rattle.model.specs.Read.{classOf};
 ghost use Rattle.coverage.specs.Stage.{CircuitTables, LegalReady};
-ghost use Rattle.coverage.specs.TestCall.{CheckedReady, TestedIs, TestTrue};
+ghost use Rattle.coverage.specs.TestCall.{CheckedReady, TestedIs, ClassTested, TestTrue};
 use crate::inner::StageAnswer;
 use crate::inner::take_legal;
 use model::Refusal;
 use model::STORE_WORDS;
 use model::WORK_WORDS;
+use model::known_class;
 use netlist::SurveyAnswer;
 use netlist::inner::load;
 use simulation::inner::test_record::RecordAnswer;
@@ -41,11 +43,12 @@ pub(crate) fn count_new(
     nets: usize,
     outputs: usize,
     test: &[u8],
+    class: u32,
     store: &mut [u64],
     work: &mut [u64],
 ) -> TestAnswer
     requires { ⌜ LegalReady (now netlist) (now positions) (now counts) inputs nets outputs (now test) (now store) (now work) ⌝ }
-    ensures { λ r. ⌜ ((N : Netlist) → CircuitTables N (now (netlist .entry)) (now (positions .entry)) (now (counts .entry)) inputs nets outputs → TestedIs (testStage N (now (test .entry)) (now (store .entry))) (now (store .entry)) (now (store .exit)) (now (work .entry)) (now (work .exit)) r) ⌝ }
+    ensures { λ r. ⌜ ((N : Netlist) → CircuitTables N (now (netlist .entry)) (now (positions .entry)) (now (counts .entry)) inputs nets outputs → TestedIs (testStage N (classOf class) (now (test .entry)) (now (store .entry))) (now (store .entry)) (now (store .exit)) (now (work .entry)) (now (work .exit)) r) ⌝ }
 {
     let before = totals_of(store);
     let stage = take_legal(
@@ -56,6 +59,7 @@ pub(crate) fn count_new(
         nets,
         outputs,
         test,
+        class,
         store,
         work,
     );
@@ -83,11 +87,12 @@ fn test_on(
     outputs: usize,
     paths: u64,
     test: &[u8],
+    class: u32,
     store: &mut [u64],
     work: &mut [u64],
 ) -> TestAnswer
     requires { ⌜ CheckedReady (now netlist) (now positions) (now counts) inputs nets outputs paths (now store) (now work) ⌝ }
-    ensures { λ r. ⌜ ((N : Netlist) → CircuitTables N (now (netlist .entry)) (now (positions .entry)) (now (counts .entry)) inputs nets outputs → TestedIs (testStage N (now (test .entry)) (now (store .entry))) (now (store .entry)) (now (store .exit)) (now (work .entry)) (now (work .exit)) r) ⌝ }
+    ensures { λ r. ⌜ ((N : Netlist) → CircuitTables N (now (netlist .entry)) (now (positions .entry)) (now (counts .entry)) inputs nets outputs → TestedIs (testStage N (classOf class) (now (test .entry)) (now (store .entry))) (now (store .entry)) (now (store .exit)) (now (work .entry)) (now (work .exit)) r) ⌝ }
 {
     let legal = check_record(test, inputs);
     match legal {
@@ -104,6 +109,7 @@ fn test_on(
                     nets,
                     outputs,
                     test,
+                    class,
                     store,
                     work,
                 ),
@@ -112,9 +118,51 @@ fn test_on(
     }
 }
 
-// The test call: for each edge the number of faults new to the store and the number then held.
-pub fn apply_test(netlist: &[u8], test: &[u8], store: &mut [u64], work: &mut [u64]) -> TestAnswer
-    ensures { λ r. ⌜ TestTrue r (now (netlist .entry)) (now (test .entry)) (now (store .entry)) (now (store .exit)) (now (work .entry)) (now (work .exit)) ⌝ }
+// The class, then the places Test, Store and Work.
+fn test_in_class(
+    netlist: &[u8],
+    positions: &[u16; 512],
+    counts: &[u64; 512],
+    inputs: usize,
+    nets: usize,
+    outputs: usize,
+    paths: u64,
+    test: &[u8],
+    class: u32,
+    store: &mut [u64],
+    work: &mut [u64],
+) -> TestAnswer
+    requires { ⌜ CheckedReady (now netlist) (now positions) (now counts) inputs nets outputs paths (now store) (now work) ⌝ }
+    ensures { λ r. ⌜ ((N : Netlist) → CircuitTables N (now (netlist .entry)) (now (positions .entry)) (now (counts .entry)) inputs nets outputs → ClassTested N class (now (test .entry)) (now (store .entry)) (now (store .exit)) (now (work .entry)) (now (work .exit)) r) ⌝ }
+{
+    let known = known_class(class);
+    if !known {
+        return TestAnswer::Refused(Refusal::UnknownClass);
+    }
+    test_on(
+        netlist,
+        positions,
+        counts,
+        inputs,
+        nets,
+        outputs,
+        paths,
+        test,
+        class,
+        store,
+        work,
+    )
+}
+
+// The test call, judged in class 1 (non-robust) or 2 (robust): for each edge the number of faults new to the store and the number then held.
+pub fn apply_test(
+    netlist: &[u8],
+    test: &[u8],
+    test_class: u32,
+    store: &mut [u64],
+    work: &mut [u64],
+) -> TestAnswer
+    ensures { λ r. ⌜ TestTrue r (now (netlist .entry)) «test_class» (now (test .entry)) (now (store .entry)) (now (store .exit)) (now (work .entry)) (now (work .exit)) ⌝ }
 {
     if store.len() != STORE_WORDS {
         return TestAnswer::Refused(Refusal::StoreLength);
@@ -128,7 +176,7 @@ pub fn apply_test(netlist: &[u8], test: &[u8], store: &mut [u64], work: &mut [u6
     let positions = loaded.positions;
     match answer {
         SurveyAnswer::Refused(why) => TestAnswer::Refused(why),
-        SurveyAnswer::Legal => test_on(
+        SurveyAnswer::Legal => test_in_class(
             netlist,
             &positions,
             &survey.counts,
@@ -137,6 +185,7 @@ pub fn apply_test(netlist: &[u8], test: &[u8], store: &mut [u64], work: &mut [u6
             survey.outputs,
             survey.total,
             test,
+            test_class,
             store,
             work,
         ),

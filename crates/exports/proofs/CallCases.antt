@@ -86,19 +86,21 @@ module _ (res : EmptyAnswer) (ws ws′ : List ℕ) (t : EmptyTrue res ws ws′) 
 pub ruleset empty-cases = (empty-refused, empty-taken, empty-store, needs)
 
 -- the test call
-module _ (res : TestAnswer) (netlist rec ws ws′ work work′ : List ℕ) (t : TestTrue res netlist rec ws ws′ work work′) where
-  pub test-refused : (w : Refusal) (code : ℕ) (found : List ℕ) → res ≡ stage.Refused w → code ≡ refusalNumber w → Answered (testAnswer netlist rec ws work) countWords code found found
-  test-refused w code found p q = answered-refused (testAnswer netlist rec ws work) countWords found w code q (sym (t .answer) ∙ ap testedOf p)
+module _ (res : TestAnswer) (netlist : List ℕ) (class : ℕ) (rec ws ws′ work work′ : List ℕ) (t : TestTrue res netlist class rec ws ws′ work work′) where
+  pub test-refused : (w : Refusal) (code : ℕ) (found : List ℕ) → res ≡ stage.Refused w → code ≡ refusalNumber w
+      → Answered (testAnswer netlist class rec ws work) countWords code found found
+  test-refused w code found p q = answered-refused (testAnswer netlist class rec ws work) countWords found w code q (sym (t .answer) ∙ ap testedOf p)
 
-  pub test-taken : (a b c d : ℕ) (found : List ℕ) → res ≡ stage.Taken a b c d → Answered (testAnswer netlist rec ws work) countWords 0 found (sets found 0 (a ∷ b ∷ c ∷ d ∷ []))
+  pub test-taken : (a b c d : ℕ) (found : List ℕ) → res ≡ stage.Taken a b c d
+      → Answered (testAnswer netlist class rec ws work) countWords 0 found (sets found 0 (a ∷ b ∷ c ∷ d ∷ []))
   test-taken a b c d found p =
       let counts : FaultCounts = record { newFaults = record { onRising = a; onFalling = b }; heldFaults = record { onRising = c; onFalling = d } } in
-      answered-value (testAnswer netlist rec ws work) countWords found counts (sym (t .answer) ∙ ap testedOf p)
+      answered-value (testAnswer netlist class rec ws work) countWords found counts (sym (t .answer) ∙ ap testedOf p)
 
-  pub test-store : ws′ ≡ testStore netlist rec ws work
+  pub test-store : ws′ ≡ testStore netlist class rec ws work
   test-store = t .store
 
-  pub test-work : WorkAfter netlist ws work work′
+  pub test-work : WorkAfter netlist class ws work work′
   test-work = t .memory
 
 pub ruleset test-cases = (test-refused, test-taken, test-store, test-work, needs)
@@ -179,27 +181,28 @@ module _ (res : BenchAnswer) (text buffer buffer′ : List ℕ) (t : ConvertTrue
 pub ruleset bench-cases = (bench-refused, bench-taken, bench-buffer, needs)
 
 -- the audit
-module _ (res : AuditAnswer) (netlist testFile report ws ws′ work work′ : List ℕ) (t : AuditTrue res netlist testFile report ws ws′ work work′) where
-  pub audit-refused : (w : Refusal) (code : ℕ) → res ≡ audit.Refused w → code ≡ refusalNumber w → codeAnswer code ≡ auditAnswer netlist testFile report ws work
+module _ (res : AuditAnswer) (netlist : List ℕ) (class : ℕ) (testFile report ws ws′ work work′ : List ℕ)
+    (t : AuditTrue res netlist class testFile report ws ws′ work work′) where
+  pub audit-refused : (w : Refusal) (code : ℕ) → res ≡ audit.Refused w → code ≡ refusalNumber w → codeAnswer code ≡ auditAnswer netlist class testFile report ws work
   audit-refused w code p q = rw q (code-refused w ∙ ap auditedOf (sym p) ∙ t .answer)
 
-  pub audit-taken : res ≡ audit.Accepted → codeAnswer 0 ≡ auditAnswer netlist testFile report ws work
+  pub audit-taken : res ≡ audit.Accepted → codeAnswer 0 ≡ auditAnswer netlist class testFile report ws work
   audit-taken p = code-zero ∙ ap auditedOf (sym p) ∙ t .answer
 
-  pub audit-store : ws′ ≡ auditStore netlist testFile report ws work
+  pub audit-store : ws′ ≡ auditStore netlist class testFile report ws work
   audit-store = t .store
 
-  pub audit-work : WorkAfter netlist ws work work′
+  pub audit-work : WorkAfter netlist class ws work work′
   audit-work = t .work
 
 pub ruleset audit-cases = (audit-refused, audit-taken, audit-store, audit-work, needs)
 
 -- the beginning of an audit in pieces
-module _ (res : BeginAnswer) (netlist ws ws′ work : List ℕ) (t : BegunTrue res netlist ws ws′ work) where
-  pub begin-refused : (w : Refusal) (code : ℕ) → res ≡ beginning.Refused w → code ≡ refusalNumber w → codeAnswer code ≡ beginAnswer netlist ws work
+module _ (res : BeginAnswer) (netlist : List ℕ) (class : ℕ) (ws ws′ work : List ℕ) (t : BegunTrue res netlist class ws ws′ work) where
+  pub begin-refused : (w : Refusal) (code : ℕ) → res ≡ beginning.Refused w → code ≡ refusalNumber w → codeAnswer code ≡ beginAnswer netlist class ws work
   begin-refused w code p q = rw q (code-refused w ∙ ap begunOf (sym p) ∙ t .answer)
 
-  pub begin-ready : res ≡ beginning.Ready → codeAnswer 0 ≡ beginAnswer netlist ws work
+  pub begin-ready : res ≡ beginning.Ready → codeAnswer 0 ≡ beginAnswer netlist class ws work
   begin-ready p = code-zero ∙ ap begunOf (sym p) ∙ t .answer
 
   pub begin-store : ws′ ≡ beginStore ws work
@@ -208,29 +211,29 @@ module _ (res : BeginAnswer) (netlist ws ws′ work : List ℕ) (t : BegunTrue r
 pub ruleset begin-cases = (begin-refused, begin-ready, begin-store, needs)
 
 -- a piece
-module _ (res : PieceAnswer) (netlist bytes ws ws′ work work′ : List ℕ) (t : PieceTrue res netlist bytes ws ws′ work work′) where
+module _ (res : PieceAnswer) (netlist : List ℕ) (class : ℕ) (bytes ws ws′ work work′ : List ℕ) (t : PieceTrue res netlist class bytes ws ws′ work work′) where
   abbrev call : Answer ℕ
-  call = allTaken (pieceAnswer netlist bytes ws work)
+  call = allTaken (pieceAnswer netlist class bytes ws work)
 
   called : (r : PieceAnswer) → res ≡ r → call ≡ allTaken (pieceOf r)
   called r p = ap allTaken (sym (t .answer) ∙ ap pieceOf p)
 
   pub piece-refused : (w : Refusal) (code : ℕ) (found : List ℕ) → res ≡ piece.Refused w → code ≡ refusalNumber w
-      → Answered (allTaken (pieceAnswer netlist bytes ws work)) numberWord code found found
+      → Answered (allTaken (pieceAnswer netlist class bytes ws work)) numberWord code found found
   piece-refused w code found p q = answered-refused call numberWord found w code q (called (piece.Refused w) p)
 
   pub piece-record : (k : ℕ) (w : Refusal) (code : ℕ) (found : List ℕ) → res ≡ piece.RecordRefused k w → code ≡ refusalNumber w
-      → Answered (allTaken (pieceAnswer netlist bytes ws work)) numberWord code found found
+      → Answered (allTaken (pieceAnswer netlist class bytes ws work)) numberWord code found found
   piece-record k w code found p q = answered-refused call numberWord found w code q (called (piece.RecordRefused k w) p)
 
   pub piece-taken : (n code : ℕ) (found left : List ℕ) → res ≡ piece.Taken n → code ≡ 0 → left ≡ sets found 0 (numberWord n)
-      → Answered (allTaken (pieceAnswer netlist bytes ws work)) numberWord code found left
+      → Answered (allTaken (pieceAnswer netlist class bytes ws work)) numberWord code found left
   piece-taken n code found left p q l = rw (q, l) (answered-value call numberWord found n (called (piece.Taken n) p))
 
-  pub piece-store : ws′ ≡ pieceLeft netlist bytes ws work
+  pub piece-store : ws′ ≡ pieceLeft netlist class bytes ws work
   piece-store = t .store
 
-  pub piece-work : PieceWork netlist ws work work′
+  pub piece-work : PieceWork netlist class ws work work′
   piece-work = t .memory
 
 pub ruleset piece-cases = (piece-refused, piece-record, piece-taken, piece-store, piece-work, needs)

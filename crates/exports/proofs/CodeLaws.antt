@@ -46,6 +46,7 @@ code-refused why.NetlistBufferLength = refl
 code-refused why.BenchLine = refl
 code-refused why.BenchName = refl
 code-refused why.BenchCount = refl
+code-refused why.UnknownClass = refl
 
 pub code-zero : codeAnswer 0 ≡ value tt
 unfolding codeAnswer

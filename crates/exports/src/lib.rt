@@ -59,20 +59,21 @@ pub extern "C" fn genduwal_empty(store: &mut [u64]) -> u32
     }
 }
 
-// The test call: for each edge the number of faults new to the store, then for each edge the number then held.
+// The test call, judged in class 1 (non-robust) or 2 (robust): for each edge the number of faults new to the store, then for each edge the number then held.
 #[no_mangle]
 pub extern "C" fn genduwal_test(
     netlist: &[u8],
     test: &[u8],
+    test_class: u32,
     store: &mut [u64],
     work: &mut [u64],
     answer: &mut [u64; 4],
 ) -> u32
-    ensures { λ r. ⌜ Answered (testAnswer (now (netlist .entry)) (now (test .entry)) (now (store .entry)) (now (work .entry))) countWords r (now (answer .entry)) (now (answer .exit)) ⌝ }
-    ensures { λ _. ⌜ now (store .exit) ≡ testStore (now (netlist .entry)) (now (test .entry)) (now (store .entry)) (now (work .entry)) ⌝ }
-    ensures { λ _. ⌜ WorkAfter (now (netlist .entry)) (now (store .entry)) (now (work .entry)) (now (work .exit)) ⌝ }
+    ensures { λ r. ⌜ Answered (testAnswer (now (netlist .entry)) «test_class» (now (test .entry)) (now (store .entry)) (now (work .entry))) countWords r (now (answer .entry)) (now (answer .exit)) ⌝ }
+    ensures { λ _. ⌜ now (store .exit) ≡ testStore (now (netlist .entry)) «test_class» (now (test .entry)) (now (store .entry)) (now (work .entry)) ⌝ }
+    ensures { λ _. ⌜ WorkAfter (now (netlist .entry)) «test_class» (now (store .entry)) (now (work .entry)) (now (work .exit)) ⌝ }
 {
-    let tested = coverage::apply_test(netlist, test, store, work);
+    let tested = coverage::apply_test(netlist, test, test_class, store, work);
     match tested {
         TestAnswer::Refused(why) => refusal_number(why),
         TestAnswer::Taken {
@@ -172,53 +173,60 @@ pub extern "C" fn genduwal_write_report(
     }
 }
 
-// Accepts a report if it is the one that the writer gives after the test calls with the records of a file, from an empty store.
+// Accepts a report if it is the one that the writer gives after the test calls with the records of a file, all in one class, from an empty store.
 #[no_mangle]
 pub extern "C" fn genduwal_audit(
     netlist: &[u8],
     tests: &[u8],
     report: &[u8],
+    test_class: u32,
     store: &mut [u64],
     work: &mut [u64],
 ) -> u32
-    ensures { λ r. ⌜ codeAnswer r ≡ auditAnswer (now (netlist .entry)) (now (tests .entry)) (now (report .entry)) (now (store .entry)) (now (work .entry)) ⌝ }
-    ensures { λ _. ⌜ now (store .exit) ≡ auditStore (now (netlist .entry)) (now (tests .entry)) (now (report .entry)) (now (store .entry)) (now (work .entry)) ⌝ }
-    ensures { λ _. ⌜ WorkAfter (now (netlist .entry)) (now (store .entry)) (now (work .entry)) (now (work .exit)) ⌝ }
+    ensures { λ r. ⌜ codeAnswer r ≡ auditAnswer (now (netlist .entry)) «test_class» (now (tests .entry)) (now (report .entry)) (now (store .entry)) (now (work .entry)) ⌝ }
+    ensures { λ _. ⌜ now (store .exit) ≡ auditStore (now (netlist .entry)) «test_class» (now (tests .entry)) (now (report .entry)) (now (store .entry)) (now (work .entry)) ⌝ }
+    ensures { λ _. ⌜ WorkAfter (now (netlist .entry)) «test_class» (now (store .entry)) (now (work .entry)) (now (work .exit)) ⌝ }
 {
-    let audited = report::audit(netlist, tests, report, store, work);
+    let audited = report::audit(netlist, tests, report, test_class, store, work);
     match audited {
         AuditAnswer::Refused(why) => refusal_number(why),
         AuditAnswer::Accepted => 0,
     }
 }
 
-// The beginning of an audit whose test file comes in pieces: lent memory and netlist. The store is emptied unread.
+// The beginning of an audit whose test file comes in pieces: lent memory, netlist and class. The store is emptied unread.
 #[no_mangle]
-pub extern "C" fn genduwal_audit_begin(netlist: &[u8], store: &mut [u64], work: &[u64]) -> u32
-    ensures { λ r. ⌜ codeAnswer r ≡ beginAnswer (now (netlist .entry)) (now (store .entry)) (now (work .entry)) ⌝ }
+pub extern "C" fn genduwal_audit_begin(
+    netlist: &[u8],
+    test_class: u32,
+    store: &mut [u64],
+    work: &[u64],
+) -> u32
+    ensures { λ r. ⌜ codeAnswer r ≡ beginAnswer (now (netlist .entry)) «test_class» (now (store .entry)) (now (work .entry)) ⌝ }
     ensures { λ _. ⌜ now (store .exit) ≡ beginStore (now (store .entry)) (now (work .entry)) ⌝ }
 {
-    let begun = pieces::audit_begin(netlist, store, work);
+    let begun = pieces::audit_begin(netlist, test_class, store, work);
     match begun {
         BeginAnswer::Refused(why) => refusal_number(why),
         BeginAnswer::Ready => 0,
     }
 }
 
-// A piece of the test file: the number of its records, if all were taken.
+// A piece of the test file, judged in the class of the beginning: the number of its records, if all were taken.
 #[no_mangle]
 pub extern "C" fn genduwal_audit_piece(
     netlist: &[u8],
     piece: &[u8],
+    test_class: u32,
     store: &mut [u64],
     work: &mut [u64],
     answer: &mut [u64; 1],
 ) -> u32
-    ensures { λ r. ⌜ Answered (allTaken (pieceAnswer (now (netlist .entry)) (now (piece .entry)) (now (store .entry)) (now (work .entry)))) numberWord r (now (answer .entry)) (now (answer .exit)) ⌝ }
-    ensures { λ _. ⌜ now (store .exit) ≡ pieceLeft (now (netlist .entry)) (now (piece .entry)) (now (store .entry)) (now (work .entry)) ⌝ }
-    ensures { λ _. ⌜ PieceWork (now (netlist .entry)) (now (store .entry)) (now (work .entry)) (now (work .exit)) ⌝ }
+    ensures { λ r. ⌜ Answered (allTaken (pieceAnswer (now (netlist .entry)) «test_class» (now (piece .entry)) (now (store .entry)) (now (work .entry)))) numberWord r (now (answer .entry)) (now (answer .exit)) ⌝ }
+    ensures { λ _. ⌜ now (store .exit) ≡ pieceLeft (now (netlist .entry)) «test_class» (now (piece .entry)) (now (store .entry)) (now (work .entry)) ⌝ }
+    ensures { λ _. ⌜ PieceWork (now (netlist .entry)) «test_class» (now (store .entry)) (now (work .entry)) (now (work .exit)) ⌝ }
 {
-    let taken = pieces::audit_piece(netlist, piece, store, work);
+    let taken = pieces::audit_piece(netlist, piece, test_class, store, work);
     match taken {
         PieceAnswer::Refused(why) => refusal_number(why),
         PieceAnswer::RecordRefused(_, why) => refusal_number(why),

@@ -1,11 +1,12 @@
-// The listing program: what each test record of a file adds on a netlist, then the runs and the totals of the tested faults: `listing [CIRCUIT
-// [TESTS]]`, without names those of the current folder; a missing file counts as empty. What it writes is made by `listing_text` and `test_file`,
-// each part with a promise. Where the netlist can't be read whole it writes nothing, and where the test file can't, neither runs nor totals.
+// The listing program: what each test record of a file adds on a netlist in a class, then the runs and the totals of the tested faults: `listing
+// [CIRCUIT [TESTS [CLASS]]]`, without names those of the current folder; a missing file counts as empty, a missing class file as class 1. What it
+// writes is made by `listing_text` and `test_file`, each part with a promise. Where the netlist or the class file can't be read whole it writes nothing, and where the test file can't, neither runs nor totals.
 use command::close_file;
 use command::file_name;
 use command::is_argument;
 use command::load_argument;
 use command::open_file;
+use command::read_class;
 use console::NETLIST_BYTES;
 use console::print;
 use libc::STDERR_FILENO;
@@ -17,6 +18,7 @@ use listing_text::inner::put_refusal;
 use model::Refusal;
 use model::STORE_WORDS;
 use model::WORK_WORDS;
+use model::known_class;
 use netlist::SurveyAnswer;
 use netlist::inner::Loaded;
 use netlist::inner::load;
@@ -30,10 +32,10 @@ ghost use Rattle.model.specs.Calls.{workWords};
 ghost use Rattle.listing_text.specs.Answers.{pieceBytes, outBytes, LegalTables};
 
 fn print_usage(fd: i32) {
-    print(fd, b"usage: listing [CIRCUIT [TESTS]]\n");
+    print(fd, b"usage: listing [CIRCUIT [TESTS [CLASS]]]\n");
     print(
         fd,
-        b"Lists what each test adds on a circuit. Without names: circuit.nl, tests.tp.\n",
+        b"Lists what each test adds on a circuit. Without names: circuit.nl, tests.tp, class.txt.\n",
     );
 }
 
@@ -63,7 +65,14 @@ fn work_words() -> [u64; WORK_WORDS]
 }
 
 // The lines of the records of the test file that the second argument names, then those of the store that they leave.
-fn list_tests(netlist: &[u8], tables: Loaded, store: &mut [u64], work: &mut [u64], out: &mut [u8])
+fn list_tests(
+    netlist: &[u8],
+    tables: Loaded,
+    class: u32,
+    store: &mut [u64],
+    work: &mut [u64],
+    out: &mut [u8],
+)
     requires { ⌜ LegalTables (now netlist) tables × (length (now store) ≡ storeWords) × (workWords ≤ length (now work)) × (outBytes ≤ length (now out)) ⌝ }
 {
     let mut name = io::buffer();
@@ -76,6 +85,7 @@ fn list_tests(netlist: &[u8], tables: Loaded, store: &mut [u64], work: &mut [u64
         STDOUT_FILENO,
         netlist,
         tables,
+        class,
         &mut space,
         store,
         work,
@@ -87,8 +97,8 @@ fn list_tests(netlist: &[u8], tables: Loaded, store: &mut [u64], work: &mut [u64
     }
 }
 
-// The listing of a legal netlist.
-fn list(netlist: &[u8], tables: Loaded, out: &mut [u8])
+// The listing of a legal netlist in a class that there is.
+fn list(netlist: &[u8], tables: Loaded, class: u32, out: &mut [u8])
     requires { ⌜ LegalTables (now netlist) tables × (outBytes ≤ length (now out)) ⌝ }
 {
     let survey = tables.survey;
@@ -96,10 +106,10 @@ fn list(netlist: &[u8], tables: Loaded, out: &mut [u8])
     let mut work = work_words();
     let n = put_paths(out, survey.total);
     print(STDOUT_FILENO, &out[..n]);
-    list_tests(netlist, tables, &mut store, &mut work, out);
+    list_tests(netlist, tables, class, &mut store, &mut work, out);
 }
 
-// The line of a refused netlist.
+// The line of a refused netlist, or of a class that there is not.
 fn refuse(why: Refusal, out: &mut [u8])
     requires { ⌜ outBytes ≤ length (now out) ⌝ }
 {
@@ -107,14 +117,20 @@ fn refuse(why: Refusal, out: &mut [u8])
     print(STDOUT_FILENO, &out[..n]);
 }
 
-// The listing on a netlist.
-fn list_circuit(netlist: &[u8]) {
+// The listing on a netlist in a class.
+fn list_circuit(netlist: &[u8], class: u32) {
     let tables = load(netlist);
     let answer = tables.answer;
     let mut out = text_bytes();
     match answer {
         SurveyAnswer::Refused(why) => refuse(why, &mut out),
-        SurveyAnswer::Legal => list(netlist, tables, &mut out),
+        SurveyAnswer::Legal => {
+            if known_class(class) {
+                list(netlist, tables, class, &mut out);
+            } else {
+                refuse(Refusal::UnknownClass, &mut out);
+            }
+        }
     }
 }
 
@@ -123,14 +139,15 @@ fn main() {
         print_usage(STDOUT_FILENO);
         return;
     }
-    if 3 < os::arg_count() {
+    if 4 < os::arg_count() {
         print_usage(STDERR_FILENO);
         return;
     }
     let mut bytes = [0u8; NETLIST_BYTES];
     let circuit = load_argument(1, b"circuit.nl", &mut bytes);
     let length = circuit.bytes;
-    if circuit.whole {
-        list_circuit(&bytes[..length]);
+    let read = read_class(3);
+    if circuit.whole && read.whole {
+        list_circuit(&bytes[..length], read.class);
     }
 }

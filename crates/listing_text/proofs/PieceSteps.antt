@@ -10,6 +10,7 @@ use lib.ListN.{length, take, drop, length-append}
 use lib.Seq.{sets}
 use Rattle.model.specs.Base.{Answer, refused, value, checks, after}
 use Rattle.model.specs.Netlist.{Netlist, pathTotal}
+use Rattle.model.specs.Detect.{Class}
 use Rattle.model.specs.Read.{vectorBytes, recordLength}
 use Rattle.model.specs.Store.{storeWords, storeRules}
 use Rattle.model.specs.Calls.{FaultCounts, Tested, testStage, workWords, storeLeft}
@@ -26,18 +27,18 @@ use Rattle.listing_text.proofs.PutLaws.{put-length, record-length-is}
 use Rattle.listing_text.proofs.CutLaws.{listed-next, listed-end}
 
 -- a stage leaves the memory ready for the next record
-pub memory-next : (N : Netlist) (rec ws work work′ : List ℕ) → MemoryReady N ws work → length work′ ≡ length work → MemoryReady N (storeAfter (testStage N rec ws) ws) work′
+pub memory-next : (N : Netlist) (c : Class) (rec ws work work′ : List ℕ) → MemoryReady N ws work → length work′ ≡ length work → MemoryReady N (storeAfter (testStage N c rec ws) ws) work′
 unfolding storeAfter
-memory-next N rec ws work work′ m l = go (testStage N rec ws) refl
+memory-next N c rec ws work work′ m l = go (testStage N c rec ws) refl
   where
     passed : AllPass (storeRules (pathTotal N) ws)
     passed = checks→ (storeRules (pathTotal N) ws) (record { got = tt; is = m .sound })
 
-    go : (x : Answer Tested) → testStage N rec ws ≡ x → MemoryReady N (after x ws storeLeft) work′
+    go : (x : Answer Tested) → testStage N c rec ws ≡ x → MemoryReady N (after x ws storeLeft) work′
     go (refused n) e = record { storeLength = m .storeLength; sound = m .sound; workLength = omega (arith, m .workLength) }
     go (value t) e = record {
-      storeLength = stage-length N ws (m .storeLength) passed rec t e;
-      sound = →checks (storeRules (pathTotal N) (storeLeft t)) (stage-sound N ws (m .storeLength) passed rec t e);
+      storeLength = stage-length N ws (m .storeLength) passed c rec t e;
+      sound = →checks (storeRules (pathTotal N) (storeLeft t)) (stage-sound N ws (m .storeLength) passed c rec t e);
       workLength = omega (arith, m .workLength);
     }
 
@@ -48,12 +49,12 @@ tables-limits N netlist positions netCounts inputs netCount outputs c =
     let l = limits netlist N (c .legal) in
     (omega (arith, c .inputsAre, l .someInput), omega (arith, c .inputsAre, l .fewInputs), omega (arith, c .netsAre, l .fewNets))
 
-module _ (netlist positions netCounts : List ℕ) (inputs netCount outputs first : ℕ) (piece ws₀ work₀ out₀ : List ℕ) where
+module _ (netlist positions netCounts : List ℕ) (inputs netCount outputs : ℕ) (c : Class) (first : ℕ) (piece ws₀ work₀ out₀ : List ℕ) where
   -- what is left of the piece from byte `at` on, listed from here, gives the whole
   pub record LeftOf (N : Netlist) (ws out : List ℕ) (place at end : ℕ) : Type 0 where
-    pub written : sets out end (recordLines N place (listedRecords N (drop at piece)) ws) ≡ sets out₀ 0 (recordLines N first (listedRecords N piece) ws₀)
-    pub bytes : end + length (recordLines N place (listedRecords N (drop at piece)) ws) ≡ length (recordLines N first (listedRecords N piece) ws₀)
-    pub store : storeAfterAll N (listedRecords N (drop at piece)) ws ≡ storeAfterAll N (listedRecords N piece) ws₀
+    pub written : sets out end (recordLines N c place (listedRecords N (drop at piece)) ws) ≡ sets out₀ 0 (recordLines N c first (listedRecords N piece) ws₀)
+    pub bytes : end + length (recordLines N c place (listedRecords N (drop at piece)) ws) ≡ length (recordLines N c first (listedRecords N piece) ws₀)
+    pub store : storeAfterAll N c (listedRecords N (drop at piece)) ws ≡ storeAfterAll N c (listedRecords N piece) ws₀
     pub count : place + length (listedRecords N (drop at piece)) ≡ first + length (listedRecords N piece)
 
   pub record Listing (ws work out : List ℕ) (place at end : ℕ) : Type 0 where
@@ -86,27 +87,27 @@ module _ (netlist positions netCounts : List ℕ) (inputs netCount outputs first
 
     -- the end of the piece
     pub listing-end : length piece ≤ at → (N : Netlist) → CircuitTables N netlist positions netCounts inputs netCount outputs
-        → PieceOf N (record { place = place; bytes = end }) first piece ws₀ ws out₀ out
+        → PieceOf N c (record { place = place; bytes = end }) first piece ws₀ ws out₀ out
     unfolding recordLines storeAfterAll
     listing-end h N t =
         let l = g .left N t in
         let none : listedRecords N (drop at piece) ≡ [] = listed-end N piece at h in
-        let lines : List (List ℕ) → List ℕ = λ rs. recordLines N place rs ws in
+        let lines : List (List ℕ) → List ℕ = λ rs. recordLines N c place rs ws in
         record {
           lines = record {
-            bytes = ap (λ (rs : List (List ℕ)). sets out end (recordLines N place rs ws)) (sym none) ∙ l .written;
-            place = omega (arith, l .bytes, ap (λ (rs : List (List ℕ)). length (recordLines N place rs ws)) none);
+            bytes = ap (λ (rs : List (List ℕ)). sets out end (recordLines N c place rs ws)) (sym none) ∙ l .written;
+            place = omega (arith, l .bytes, ap (λ (rs : List (List ℕ)). length (recordLines N c place rs ws)) none);
             inside = g .inside;
           };
           places = omega (arith, l .count, ap (length {A = List ℕ}) none);
-          store = ap (λ (rs : List (List ℕ)). storeAfterAll N rs ws) (sym none) ∙ l .store;
+          store = ap (λ (rs : List (List ℕ)). storeAfterAll N c rs ws) (sym none) ∙ l .store;
         }
 
     -- one record more
     module _ (bytes next : ℕ) (eb : bytes ≡ 2 + 2 * vectorBytes inputs) (h : at < length piece) (en : next ≡ min (at + bytes) (length piece))
         (ws′ work′ out′ : List ℕ) (r : ℕ) (answer : TestAnswer)
         (s : (N : Netlist) → CircuitTables N netlist positions netCounts inputs netCount outputs
-        → TestedIs (testStage N (take (next - at) (drop at piece)) ws) ws ws′ work work′ answer)
+        → TestedIs (testStage N c (take (next - at) (drop at piece)) ws) ws ws′ work work′ answer)
         (p : Put out out′ end (recordLine place (testedOf answer)) r) where
       abbrev rec : List ℕ
       rec = take (next - at) (drop at piece)
@@ -124,24 +125,24 @@ module _ (netlist positions netCounts : List ℕ) (inputs netCount outputs first
           let cut : listedRecords N (drop at piece) ≡ rec ∷ listedRecords N (drop next piece) = listed-next N piece at next h (next-is N t) in
           let rest : List (List ℕ) = listedRecords N (drop next piece) in
           let line : List ℕ = recordLine place (testedOf answer) in
-          let lines : List ℕ = recordLines N (place + 1) rest ws′ in
-          let whole : recordLines N place (listedRecords N (drop at piece)) ws ≡ line ++ lines =
-          ap (λ (rs : List (List ℕ)). recordLines N place rs ws) cut
-          ∙ sym (ap₂ (λ (a : Answer FaultCounts) (x : List ℕ). recordLine place a ++ recordLines N (suc place) rest x) (d .answer) (d .store)
-          ∙ refl) ∙ ap (λ (k : ℕ). line ++ recordLines N k rest ws′) (sym (add-one place)) in
+          let lines : List ℕ = recordLines N c (place + 1) rest ws′ in
+          let whole : recordLines N c place (listedRecords N (drop at piece)) ws ≡ line ++ lines =
+          ap (λ (rs : List (List ℕ)). recordLines N c place rs ws) cut
+          ∙ sym (ap₂ (λ (a : Answer FaultCounts) (x : List ℕ). recordLine place a ++ recordLines N c (suc place) rest x) (d .answer) (d .store)
+          ∙ refl) ∙ ap (λ (k : ℕ). line ++ recordLines N c k rest ws′) (sym (add-one place)) in
           record {
             written =
                 ap (λ (x : List ℕ). sets x r lines) (p .bytes) ∙ sets-append line lines out end r (p .place)
                 ∙ sym (ap (λ (x : List ℕ). sets out end x) whole) ∙ l .written;
             bytes = omega (arith, l .bytes, p .place, ap (length {A = ℕ}) whole, length-append line lines);
-            store = ap (λ (x : List ℕ). storeAfterAll N rest x) (d .store) ∙ sym (ap (λ (rs : List (List ℕ)). storeAfterAll N rs ws) cut) ∙ l .store;
+            store = ap (λ (x : List ℕ). storeAfterAll N c rest x) (d .store) ∙ sym (ap (λ (rs : List (List ℕ)). storeAfterAll N c rs ws) cut) ∙ l .store;
             count = omega (arith, l .count, ap (length {A = List ℕ}) cut);
           }
 
       C : Netlist
       C = g .ready .circuit
 
-      here : TestedIs (testStage C rec ws) ws ws′ work work′ answer
+      here : TestedIs (testStage C c rec ws) ws ws′ work work′ answer
       unfolding C
       here = s C (g .ready .tables)
 
@@ -157,7 +158,7 @@ module _ (netlist positions netCounts : List ℕ) (inputs netCount outputs first
             ready = record {
               circuit = C;
               tables = g .ready .tables;
-              memory = subst (λ (x : List ℕ). MemoryReady C x work′) (sym (here .store)) (memory-next C rec ws work work′ (g .ready .memory) (here .sameLength));
+              memory = subst (λ (x : List ℕ). MemoryReady C x work′) (sym (here .store)) (memory-next C c rec ws work work′ (g .ready .memory) (here .sameLength));
             };
             fits = λ k. omega (arith, g .fits h, p .place, en, eb, some .0, min-is at bytes next (length piece) en k);
             places = omega (arith, g .places, next-more at bytes next (length piece) en h eb);

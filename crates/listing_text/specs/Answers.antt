@@ -6,6 +6,8 @@ use Prim.Native.Nat.{ℕ, _+_, _^_, _≤_, _<_}
 use lib.ListN.{length, drop}
 use lib.Seq.{sets}
 use Rattle.model.specs.Netlist.{Netlist}
+use Rattle.model.specs.Detect.{Class}
+use Rattle.model.specs.Read.{classOf}
 use Rattle.model.specs.Calls.{workWords}
 use Rattle.netlist.specs.declared.inner.Loaded.{Loaded}
 use Rattle.coverage.specs.Stage.{CircuitTables, MemoryReady}
@@ -55,15 +57,15 @@ pub record PieceReady (netlist : List ℕ) (t : Loaded) (place : ℕ) (piece ws 
   pub shortPiece : length piece ≤ pieceBytes
   pub room : outBytes ≤ length out
 
--- the lines of a piece's records, the place after the last record, and the store that it leaves
-pub record PieceOf (N : Netlist) (r : Listed) (place : ℕ) (piece ws ws′ out out′ : List ℕ) : Type 0 where
-  pub lines : Put out out′ 0 (recordLines N place (listedRecords N piece) ws) (r .bytes)
+-- the lines of a piece's records, judged in a class, the place after the last record, and the store that it leaves
+pub record PieceOf (N : Netlist) (c : Class) (r : Listed) (place : ℕ) (piece ws ws′ out out′ : List ℕ) : Type 0 where
+  pub lines : Put out out′ 0 (recordLines N c place (listedRecords N piece) ws) (r .bytes)
   pub places : r .place ≡ place + length (listedRecords N piece)
-  pub store : ws′ ≡ storeAfterAll N (listedRecords N piece) ws
+  pub store : ws′ ≡ storeAfterAll N c (listedRecords N piece) ws
 
 -- the same of the netlist whose tables are handed over; the store is sound again, and working memory past its first 8,192 words is as found
-pub record PieceLines (r : Listed) (netlist : List ℕ) (t : Loaded) (place : ℕ) (piece ws ws′ work work′ out out′ : List ℕ) : Type 0 where
-  pub ofCircuit : (N : Netlist) → TablesOf N netlist t → PieceOf N r place piece ws ws′ out out′
+pub record PieceLines (r : Listed) (netlist : List ℕ) (t : Loaded) (class place : ℕ) (piece ws ws′ work work′ out out′ : List ℕ) : Type 0 where
+  pub ofCircuit : (N : Netlist) → TablesOf N netlist t → PieceOf N (classOf class) r place piece ws ws′ out out′
   pub memory : (N : Netlist) → TablesOf N netlist t → MemoryReady N ws′ work′
   pub fewPlaces : r .place ≤ place + length piece
   pub sameLength : length work′ ≡ length work

@@ -1,13 +1,14 @@
--- What the listing program prints, as bytes: document 01, "The listing program".
--- Names: ws is the store, testFile the bytes of tests.tp, netlist those of circuit.nl; 32 is a space, 10 the end of a line.
+-- What the listing program prints, as bytes: document 01, "The listing program", with the class of document 02, ticket 6.
+-- Names: class is the number of a class; ws is the store, testFile the bytes of tests.tp, netlist those of circuit.nl; 32 is a space, 10 the end of a line.
 -- Assumes nothing.
 use mathlib.Core.List.{List, [], _∷_, _++_}
 use Prim.Native.Nat.{ℕ, zero, suc, _+_, _-_, _/_}
 use lib.ListN.{length}
-use Rattle.model.specs.Base.{Answer, refused, value}
+use Rattle.model.specs.Base.{Answer, refused, value, _>>=_, _>>_, checks}
 use Rattle.model.specs.Netlist.{Netlist, pathTotal}
 use Rattle.model.specs.Path.{rising, falling}
-use Rattle.model.specs.Read.{readNetlist, recordLength}
+use Rattle.model.specs.Detect.{Class}
+use Rattle.model.specs.Read.{readNetlist, classOf, classRule, recordLength}
 use Rattle.model.specs.Runs.{Run, size}
 use Rattle.model.specs.Store.{ByEdge, emptyStore, storeRuns}
 use Rattle.model.specs.Calls.{FaultCounts, testStage}
@@ -41,7 +42,7 @@ numbered word n = word ++ decimalText n ++ 10 ∷ []
 unfoldable pub pathsLine : ℕ → List ℕ
 pathsLine paths = numbered pathsWord paths
 
--- A refused netlist prints `refused` and the number alone
+-- A refused netlist prints `refused` and the number alone, and so does a class that is refused
 unfoldable pub refusedLine : ℕ → List ℕ
 refusedLine number = refusedText number ++ 10 ∷ []
 
@@ -50,15 +51,15 @@ unfoldable pub recordLine : ℕ → Answer FaultCounts → List ℕ
 recordLine place (refused number) = decimalText place ++ 32 ∷ refusedText number ++ 10 ∷ []
 recordLine place (value r) = decimalText place ++ 32 ∷ decimalText (r .newFaults .onRising) ++ 32 ∷ decimalText (r .newFaults .onFalling) ++ 10 ∷ []
 
--- a line for each record in order, the first of which has the place given, each on the store that the one before left
-unfoldable pub recordLines : Netlist → ℕ → List (List ℕ) → List ℕ → List ℕ
-recordLines N place [] ws = []
-recordLines N place (r ∷ rs) ws = recordLine place (returnedBy (testStage N r ws)) ++ recordLines N (suc place) rs (storeAfter (testStage N r ws) ws)
+-- a line for each record in order, all judged in one class, the first of which has the place given, each on the store that the one before left
+unfoldable pub recordLines : Netlist → Class → ℕ → List (List ℕ) → List ℕ → List ℕ
+recordLines N c place [] ws = []
+recordLines N c place (r ∷ rs) ws = recordLine place (returnedBy (testStage N c r ws)) ++ recordLines N c (suc place) rs (storeAfter (testStage N c r ws) ws)
 
 -- the store that the last of them leaves; a refused record leaves the store as it was
-unfoldable pub storeAfterAll : Netlist → List (List ℕ) → List ℕ → List ℕ
-storeAfterAll N [] ws = ws
-storeAfterAll N (r ∷ rs) ws = storeAfterAll N rs (storeAfter (testStage N r ws) ws)
+unfoldable pub storeAfterAll : Netlist → Class → List (List ℕ) → List ℕ → List ℕ
+storeAfterAll N c [] ws = ws
+storeAfterAll N c (r ∷ rs) ws = storeAfterAll N c rs (storeAfter (testStage N c r ws) ws)
 
 -- the records of `length` bytes in a file, cut from its first byte on: as many as begin in it, so that the last may be short
 abbrev pub listedCount : ℕ → List ℕ → ℕ
@@ -80,14 +81,14 @@ totalsLines ws = numbered risingWord (size (storeRuns ws rising)) ++ numbered fa
 unfoldable pub storeLines : List ℕ → List ℕ
 storeLines ws = runLines risingLetter (storeRuns ws rising) ++ runLines fallingLetter (storeRuns ws falling) ++ totalsLines ws
 
--- the listing of what reading a netlist answers
-unfoldable pub listingOf : Answer Netlist → List ℕ → List ℕ
-listingOf (refused number) testFile = refusedLine number
-listingOf (value N) testFile =
+-- the listing of what the places before the test file answer
+unfoldable pub listingOf : Answer Netlist → Class → List ℕ → List ℕ
+listingOf (refused number) c testFile = refusedLine number
+listingOf (value N) c testFile =
     pathsLine (pathTotal N)
-    ++ recordLines N 1 (listedRecords N testFile) emptyStore
-    ++ storeLines (storeAfterAll N (listedRecords N testFile) emptyStore)
+    ++ recordLines N c 1 (listedRecords N testFile) emptyStore
+    ++ storeLines (storeAfterAll N c (listedRecords N testFile) emptyStore)
 
 -- What the listing program prints
-unfoldable pub listingText : List ℕ → List ℕ → List ℕ
-listingText netlist testFile = listingOf (readNetlist netlist) testFile
+unfoldable pub listingText : List ℕ → ℕ → List ℕ → List ℕ
+listingText netlist class testFile = listingOf (readNetlist netlist >>= λ N. checks (classRule class ∷ []) >> value N) (classOf class) testFile

@@ -103,18 +103,19 @@ fn record_end(at: usize, bytes: usize, length: usize) -> usize
     at + bytes
 }
 
-// The lines of a piece's records, the first of which has the place given, on a sound store; the store is left as they leave it.
+// The lines of a piece's records, judged in a class, the first of which has the place given, on a sound store; the store is left as they leave it.
 pub fn list_piece(
     netlist: &[u8],
     tables: Loaded,
     first: u64,
     piece: &[u8],
+    class: u32,
     store: &mut [u64],
     work: &mut [u64],
     out: &mut [u8],
 ) -> Listed
     requires { ⌜ PieceReady (now netlist) tables first (now piece) (now store) (now work) (now out) ⌝ }
-    ensures { λ r. ⌜ PieceLines r (now (netlist .entry)) tables first (now (piece .entry)) (now (store .entry)) (now (store .exit)) (now (work .entry)) (now (work .exit)) (now (out .entry)) (now (out .exit)) ⌝ }
+    ensures { λ r. ⌜ PieceLines r (now (netlist .entry)) tables class first (now (piece .entry)) (now (store .entry)) (now (store .exit)) (now (work .entry)) (now (work .exit)) (now (out .entry)) (now (out .exit)) ⌝ }
 {
     let survey = tables.survey;
     let positions = tables.positions;
@@ -135,6 +136,7 @@ pub fn list_piece(
             nets,
             outputs,
             &piece[at..next],
+            class,
             store,
             work,
         );

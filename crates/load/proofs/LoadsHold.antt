@@ -9,28 +9,28 @@ use lib.Dec.{T}
 use lib.ListN.{length, getD, take, drop, length-append, length-map}
 use lib.Seq.{take-at, drop-at}
 use Rattle.model.specs.Base.{value, checks}
-use Rattle.model.specs.Detect.{Test, hasEdge}
+use Rattle.model.specs.Detect.{Class, Test, hasEdge}
 use Rattle.model.specs.Netlist.{Netlist}
 use Rattle.model.specs.Path.{Edge}
 use Rattle.model.specs.Read.{recordLength, testOf, testRules}
 use Rattle.model.specs.Report.{records, fileRecords}
 use Rattle.model.proofs.ListLaws.{getD-map-in}
-use Rattle.load.specs.Load.{stateAfter, inputTest, recordBytes, fileBytes, loadRecords, vectorRecords}
+use Rattle.load.specs.Load.{Pair, stateAfter, inputTest, recordBytes, fileBytes, loadRecords, vectorRecords}
 use Rattle.load.specs.Passes.{MovesOnly, inputAt, edgeAt, placeAt, loadFile, recordAt, LoadPasses, stateAfterCalls}
 use Rattle.load.proofs.SizeLaws.{Wide, length-record, test-wide, after-add}
-use Rattle.load.proofs.PackedLaws.{record-passes, record-back}
+use Rattle.load.proofs.PackedLaws.{judgedPair, record-passes, record-back}
 use Rattle.load.proofs.MoveLaws.{TestAt, test-moves, vectorTests, vectors-length, vectors-at, vectors-bytes}
 
-abbrev noTest : Test
+abbrev noTest : Pair
 noTest = record { v1 = []; v2 = [] }
 
 -- tests whose vectors have so many inputs
-abbrev AllWide : ℕ → List Test → Type 0
-AllWide n ts = (i : ℕ) (d : Test) → i < length ts → Wide n (getD ts i d)
+abbrev AllWide : ℕ → List Pair → Type 0
+AllWide n ts = (i : ℕ) (d : Pair) → i < length ts → Wide n (getD ts i d)
 
 -- their records end to end, cut by length alone, are their records
 module _ (N : Netlist) where
-  cut : (ts : List Test) → AllWide (N .inputs) ts
+  cut : (ts : List Pair) → AllWide (N .inputs) ts
       → (records (recordLength N) (length ts) (fileBytes ts) ≡ map recordBytes ts) × (length (fileBytes ts) ≡ length ts * recordLength N)
   unfolding fileBytes
   cut [] w = (refl, omega arith)
@@ -46,7 +46,7 @@ module _ (N : Netlist) where
         omega arith,
       )
 
-  cut-file : (ts : List Test) → AllWide (N .inputs) ts → fileRecords N (fileBytes ts) ≡ map recordBytes ts
+  cut-file : (ts : List Pair) → AllWide (N .inputs) ts → fileRecords N (fileBytes ts) ≡ map recordBytes ts
   cut-file ts w =
       let c = cut ts w in
       let n : length (fileBytes ts) / recordLength N ≡ length ts =
@@ -57,10 +57,10 @@ module _ (N : Netlist) where
     count : length (vectorTests (N .inputs) vectors s) ≡ vectors * (2 * N .inputs)
     count = vectors-length (N .inputs) vectors s
 
-    wide-of : (i : ℕ) (t : Test) → TestAt (N .inputs) i t → Wide (N .inputs) t
+    wide-of : (i : ℕ) (t : Pair) → TestAt (N .inputs) i t → Wide (N .inputs) t
     wide-of i t a =
         let w : Wide (length (a .vector)) (inputTest (a .vector) (inputAt i) (edgeAt i)) = test-wide (a .vector) (inputAt i) (edgeAt i) in
-        subst (λ (n : ℕ). Wide n t) (a .long) (subst (λ (x : Test). Wide (length (a .vector)) x) (sym (a .is)) w)
+        subst (λ (n : ℕ). Wide n t) (a .long) (subst (λ (x : Pair). Wide (length (a .vector)) x) (sym (a .is)) w)
 
     all-wide : AllWide (N .inputs) (vectorTests (N .inputs) vectors s)
     all-wide i d h =
@@ -98,31 +98,32 @@ module _ (N : Netlist) where
       some zero k l = absurd (let z : k * (2 * 0) ≡ 0 = omega arith in omega arith)
       some (suc n) k l = omega arith
 
-      moved : MovesOnly (testOf N (recordAt N vectors s i)) (edgeAt (placeAt N i)) (inputAt (placeAt N i))
-      moved =
+      moved : (c : Class) → MovesOnly (testOf N c (recordAt N vectors s i)) (edgeAt (placeAt N i)) (inputAt (placeAt N i))
+      moved c =
           let p : ℕ = i % (2 * N .inputs) in
-          let t : Test = getD (vectorTests (N .inputs) vectors s) i noTest in
+          let t : Pair = getD (vectorTests (N .inputs) vectors s) i noTest in
           let a : TestAt (N .inputs) (i % (2 * N .inputs)) t = vectors-at (N .inputs) vectors s i noTest h in
           let below : i % (2 * N .inputs) < 2 * N .inputs = mod-lt i {m = 2 * N .inputs} (some (N .inputs) vectors h) in
           let l = a .long in
-          let m : MovesOnly (inputTest (a .vector) (inputAt p) (edgeAt p)) (edgeAt p) (inputAt p) = test-moves (a .vector) (inputAt p) (omega arith) (edgeAt p) in
-          let back : testOf N (recordAt N vectors s i) ≡ inputTest (a .vector) (inputAt p) (edgeAt p) =
-          ap (testOf N) record-is ∙ record-back N t wide ∙ a .is in
+          let m : MovesOnly (judgedPair c (inputTest (a .vector) (inputAt p) (edgeAt p))) (edgeAt p) (inputAt p) =
+          test-moves c (a .vector) (inputAt p) (omega arith) (edgeAt p) in
+          let back : testOf N c (recordAt N vectors s i) ≡ judgedPair c (inputTest (a .vector) (inputAt p) (edgeAt p)) =
+          ap (testOf N c) record-is ∙ record-back N t wide c ∙ ap (judgedPair c) (a .is) in
           subst (λ (x : Test). MovesOnly x (edgeAt p) (inputAt p)) (sym back) m
 
--- Every record of a load, on every netlist with as many inputs, passes the test checks and moves exactly one input
+-- Every record of a load, on every netlist with as many inputs, passes the test checks and moves exactly one input, in every class
 pub load-passes : (N : Netlist) (vectors s : ℕ) → LoadPasses N vectors s
 load-passes N vectors s = record {
   whole = all-whole N vectors s;
   count = all-count N vectors s ∙ count N vectors s;
   passes = passed N vectors s;
-  moves = moved N vectors s;
+  moves = λ c i h. moved N vectors s i h c;
 }
 
 -- So in every record some input changes
-pub load-changes : (N : Netlist) (vectors s i : ℕ) → i < vectors * (2 * N .inputs)
-    → (e : Edge) × ((j : ℕ) × T (hasEdge (testOf N (recordAt N vectors s i)) e j))
-load-changes N vectors s i h = (edgeAt (placeAt N i), (inputAt (placeAt N i), load-passes N vectors s .moves i h .moves))
+pub load-changes : (N : Netlist) (c : Class) (vectors s i : ℕ) → i < vectors * (2 * N .inputs)
+    → (e : Edge) × ((j : ℕ) × T (hasEdge (testOf N c (recordAt N vectors s i)) e j))
+load-changes N c vectors s i h = (edgeAt (placeAt N i), (inputAt (placeAt N i), load-passes N vectors s .moves c i h .moves))
 
 -- The state after n vectors of I inputs is that after n·I steps
 pub state-after-calls : (n calls s : ℕ) → stateAfterCalls n calls s ≡ stateAfter (calls * n) s

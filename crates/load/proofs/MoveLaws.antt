@@ -10,12 +10,13 @@ use native.Mathlib.Omega.{arith}
 use lib.Dec.{T, eqb}
 use lib.ListN.{length, getD, set, length-append, List·getD-append}
 use lib.Seq.{getD-set-same, getD-set-other, getD-append-add}
-use Rattle.model.specs.Detect.{Test, hasEdge}
+use Rattle.model.specs.Detect.{Class, Test, hasEdge}
 use Rattle.model.specs.Path.{Edge, rising, falling}
 use Rattle.model.proofs.BoolLaws.{le-or-lt}
-use Rattle.load.specs.Load.{stateAfter, drawn, finalValue, inputTest, testsFrom, loadTests, fileBytes, loadRecords, vectorRecords, recordBytes}
+use Rattle.load.specs.Load.{Pair, stateAfter, drawn, finalValue, inputTest, testsFrom, loadTests, fileBytes, loadRecords, vectorRecords, recordBytes}
 use Rattle.load.specs.Passes.{MovesOnly, inputAt, edgeAt}
 use Rattle.load.proofs.VectorSteps.{length-drawn, test-is}
+use Rattle.load.proofs.PackedLaws.{judgedPair}
 
 -- an input that keeps its value makes no edge
 no-rise : (b : Bool) → T (not b && b) → ⊥
@@ -31,10 +32,10 @@ equal-or-not k j =
     ⊎-elim (λ (a : k ≤ j). ⊎-elim (λ (b : j ≤ k). inl (omega arith)) (λ (b : k < j). inr (λ e. omega arith)) (le-or-lt j k))
     (λ (a : j < k). inr (λ e. omega arith)) (le-or-lt k j)
 
--- two vectors that differ in input j at the most
-module _ (v : List Bool) (j : ℕ) where
+-- two vectors that differ in input j at the most, in a class
+module _ (c : Class) (v : List Bool) (j : ℕ) where
   abbrev around : Bool → Bool → Test
-  around a b = record { v1 = set v j a; v2 = set v j b }
+  around a b = record { v1 = set v j a; v2 = set v j b; class = c }
 
   -- another input makes no edge
   elsewhere : (a b : Bool) (f : Edge) (k : ℕ) → (k ≡ j → ⊥) → T (hasEdge (around a b) f k) → ⊥
@@ -70,16 +71,16 @@ module _ (v : List Bool) (j : ℕ) where
         }
 
     -- The test of an input moves that input alone
-    pub test-moves : (e : Edge) → MovesOnly (inputTest v j e) e j
-    test-moves e = subst (λ (t : Test). MovesOnly t e j) (sym (test-is v j e inside)) (moved-around e)
+    pub test-moves : (e : Edge) → MovesOnly (judgedPair c (inputTest v j e)) e j
+    test-moves e = subst (λ (t : Pair). MovesOnly (judgedPair c t) e j) (sym (test-is v j e inside)) (moved-around e)
 
 -- the test at a place of a vector's tests
-pub record TestAt (n i : ℕ) (t : Test) : Type 0 where
+pub record TestAt (n i : ℕ) (t : Pair) : Type 0 where
   pub vector : List Bool
   pub long : length vector ≡ n
   pub is : t ≡ inputTest vector (inputAt i) (edgeAt i)
 
-order : (v : List Bool) (n j i : ℕ) (d : Test) → i < 2 * n → getD (testsFrom v j n) i d ≡ inputTest v (j + i / 2) (edgeAt i)
+order : (v : List Bool) (n j i : ℕ) (d : Pair) → i < 2 * n → getD (testsFrom v j n) i d ≡ inputTest v (j + i / 2) (edgeAt i)
 unfolding testsFrom
 order v zero j i d h = absurd (omega arith)
 order v (suc n) j zero d h = let e : j + 0 / 2 ≡ j = omega arith in ap (λ k. inputTest v k rising) (sym e)
@@ -96,7 +97,7 @@ length-tests v j zero = omega arith
 length-tests v j (suc n) = omega (arith, length-tests v (suc j) n)
 
 -- the tests of one vector after another
-unfoldable pub vectorTests : ℕ → ℕ → ℕ → List Test
+unfoldable pub vectorTests : ℕ → ℕ → ℕ → List Pair
 vectorTests n zero s = []
 vectorTests n (suc k) s = loadTests n s ++ vectorTests n k (stateAfter n s)
 
@@ -113,7 +114,7 @@ vectors-length n (suc k) s =
     let b : suc k * (2 * n) ≡ k * (2 * n) + 2 * n = suc-mul k (2 * n) in
     omega (arith, load-length n s, vectors-length n k (stateAfter n s))
 
-load-at : (n s i : ℕ) (d : Test) → i < 2 * n → TestAt n i (getD (loadTests n s) i d)
+load-at : (n s i : ℕ) (d : Pair) → i < 2 * n → TestAt n i (getD (loadTests n s) i d)
 unfolding loadTests
 load-at n s i d h =
     let e : 0 + i / 2 ≡ i / 2 = omega arith in
@@ -124,12 +125,12 @@ load-at n s i d h =
     }
 
 -- Each test of a load is that of the input and the edge that the order says
-pub vectors-at : (n k s i : ℕ) (d : Test) → i < k * (2 * n) → TestAt n (i % (2 * n)) (getD (vectorTests n k s) i d)
+pub vectors-at : (n k s i : ℕ) (d : Pair) → i < k * (2 * n) → TestAt n (i % (2 * n)) (getD (vectorTests n k s) i d)
 unfolding vectorTests
 vectors-at n zero s i d h = absurd (omega arith)
 vectors-at n (suc k) s i d h =
-    let first : List Test = loadTests n s in
-    let rest : List Test = vectorTests n k (stateAfter n s) in
+    let first : List Pair = loadTests n s in
+    let rest : List Pair = vectorTests n k (stateAfter n s) in
     let long : length (loadTests n s) ≡ 2 * n = load-length n s in
     ⊎-elim
     (λ (l : 2 * n ≤ i).
@@ -139,14 +140,14 @@ vectors-at n (suc k) s i d h =
     let p : getD (first ++ rest) i d ≡ getD rest (i - 2 * n) d =
     ap (λ q. getD (first ++ rest) q d) (sym e) ∙ getD-append-add first rest (i - 2 * n) d in
     let t : TestAt n ((i - 2 * n) % (2 * n)) (getD rest (i - 2 * n) d) = vectors-at n k (stateAfter n s) (i - 2 * n) d (omega arith) in
-    subst (λ (x : Test). TestAt n (i % (2 * n)) x) (sym p) (subst (λ (r : ℕ). TestAt n r (getD rest (i - 2 * n) d)) m t))
+    subst (λ (x : Pair). TestAt n (i % (2 * n)) x) (sym p) (subst (λ (r : ℕ). TestAt n r (getD rest (i - 2 * n) d)) m t))
     (λ (l : i < 2 * n).
     let p : getD (first ++ rest) i d ≡ getD first i d = List·getD-append first rest d i (omega arith) in
-    subst (λ (x : Test). TestAt n (i % (2 * n)) x) (sym p) (subst (λ (r : ℕ). TestAt n r (getD first i d)) (sym (mod-eq-of-lt l)) (load-at n s i d l)))
+    subst (λ (x : Pair). TestAt n (i % (2 * n)) x) (sym p) (subst (λ (r : ℕ). TestAt n r (getD first i d)) (sym (mod-eq-of-lt l)) (load-at n s i d l)))
     (le-or-lt (2 * n) i)
 
 -- the bytes of tests after tests
-file-append : (ts us : List Test) → fileBytes (ts ++ us) ≡ fileBytes ts ++ fileBytes us
+file-append : (ts us : List Pair) → fileBytes (ts ++ us) ≡ fileBytes ts ++ fileBytes us
 unfolding fileBytes
 file-append [] us = refl
 file-append (t ∷ ts) us = ap (λ (z : List ℕ). recordBytes t ++ z) (file-append ts us) ∙ sym (append-assoc (recordBytes t) (fileBytes ts) (fileBytes us))

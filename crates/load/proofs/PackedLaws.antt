@@ -11,7 +11,7 @@ use lib.ListN.{length, getD, length-map, List·getD-append, List·getD-eq-defaul
 use lib.Pow.{pow-add, pow-mono}
 use lib.Seq.{ext-getD, drop-at}
 use Rattle.model.specs.Base.{value, checks, allOf, numbersFrom, littleEndian, bit}
-use Rattle.model.specs.Detect.{Test}
+use Rattle.model.specs.Detect.{Class, Test}
 use Rattle.model.specs.Encode.{testBytes}
 use Rattle.model.specs.Netlist.{Netlist}
 use Rattle.model.specs.Read.{vectorBytes, marked, inputBit, vector, spareZero, recordLength, v1Part, v2Part, testOf, testRules}
@@ -20,7 +20,7 @@ use Rattle.model.proofs.BoolLaws.{both, false→not, eq→eqb}
 use Rattle.model.proofs.ListLaws.{getD-map-in, length-numbersFrom, numbersFrom-at}
 use Rattle.model.proofs.ReportLaws.{littleEndian-back}
 use Rattle.simulation.proofs.BitLaws.{word-bit}
-use Rattle.load.specs.Load.{wordOf, packed, recordBytes}
+use Rattle.load.specs.Load.{Pair, wordOf, packed, recordBytes}
 use Rattle.load.proofs.WordLaws.{word-is, word-small}
 use Rattle.load.proofs.SizeLaws.{length-packed, Wide, length-record}
 
@@ -78,8 +78,12 @@ packed-spare v rest =
     all-numbers (λ j. not (inputBit (packed v ++ rest) j)) (length v) (8 * vectorBytes (length v) - length v)
     (λ j a b. false→not (inputBit (packed v ++ rest) j) (packed-bit v rest j (omega arith) ∙ List·getD-eq-default v false {n = j} a))
 
+-- a pair of vectors, judged in a class
+abbrev pub judgedPair : Class → Pair → Test
+judgedPair c t = record { v1 = t .v1; v2 = t .v2; class = c }
+
 -- A test's record on a netlist with as many inputs
-module _ (N : Netlist) (t : Test) (w : Wide (N .inputs) t) where
+module _ (N : Netlist) (t : Pair) (w : Wide (N .inputs) t) where
   first-part : v1Part N (recordBytes t) ≡ packed (t .v1) ++ packed (t .v2)
   unfolding recordBytes testBytes
   first-part = refl
@@ -106,12 +110,12 @@ module _ (N : Netlist) (t : Test) (w : Wide (N .inputs) t) where
       rw (second-part) (subst (λ (n : ℕ). T (spareZero n (packed (t .v2) ++ []))) (w .second) (packed-spare (t .v2) [])) in
       →checks (testRules N rec) (long, (mark, (both (spareZero (N .inputs) (v1Part N rec)) (spareZero (N .inputs) (v2Part N rec)) one two, tt)))
 
-  -- and is read as that test
-  pub record-back : testOf N (recordBytes t) ≡ t
+  -- and is read as that test, in every class
+  pub record-back : (c : Class) → testOf N c (recordBytes t) ≡ judgedPair c t
   unfolding testOf
-  record-back =
+  record-back c =
       let one : vector (N .inputs) (v1Part N (recordBytes t)) ≡ t .v1 =
       ap (vector (N .inputs)) first-part ∙ ap (λ n. vector n (packed (t .v1) ++ packed (t .v2))) (sym (w .first)) ∙ packed-back (t .v1) (packed (t .v2)) in
       let two : vector (N .inputs) (v2Part N (recordBytes t)) ≡ t .v2 =
       ap (vector (N .inputs)) second-part ∙ ap (λ n. vector n (packed (t .v2) ++ [])) (sym (w .second)) ∙ packed-back (t .v2) [] in
-      ap₂ (λ (x y : List Bool). record { v1 = x; v2 = y }) one two
+      ap₂ (λ (x y : List Bool). record { v1 = x; v2 = y; class = c }) one two

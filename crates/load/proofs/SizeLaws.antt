@@ -7,12 +7,11 @@ use Prim.Native.Nat.{ℕ, zero, suc, _+_, _-_, _*_, _≤_, _<_}
 use native.Mathlib.Nat.{suc-mul, mul-pos}
 use native.Mathlib.Omega.{arith}
 use lib.ListN.{length, set, length-append, length-set}
-use Rattle.model.specs.Detect.{Test}
 use Rattle.model.specs.Encode.{testBytes}
 use Rattle.model.specs.Path.{Edge, rising, falling}
 use Rattle.model.specs.Read.{vectorBytes}
 use Rattle.records.proofs.ByteLaws.{length-littleEndian}
-use Rattle.load.specs.Load.{nextState, stateAfter, drawn, inputTest, testsFrom, loadTests, wordOf, packed, recordBytes, fileBytes, loadRecords, vectorRecords}
+use Rattle.load.specs.Load.{Pair, nextState, stateAfter, drawn, inputTest, testsFrom, loadTests, wordOf, packed, recordBytes, fileBytes, loadRecords, vectorRecords}
 use Rattle.load.specs.Answers.{recordSize, vectorSize}
 use Rattle.load.proofs.ByteSteps.{size-small}
 use Rattle.load.proofs.VectorSteps.{length-drawn}
@@ -21,11 +20,11 @@ pub length-packed : (v : List Bool) → length (packed v) ≡ vectorBytes (lengt
 length-packed v = length-littleEndian (vectorBytes (length v)) (wordOf v)
 
 -- a test whose vectors have so many inputs
-pub record Wide (n : ℕ) (t : Test) : Type 0 where
+pub record Wide (n : ℕ) (t : Pair) : Type 0 where
   pub first : length (t .v1) ≡ n
   pub second : length (t .v2) ≡ n
 
-pub length-record : (n : ℕ) (t : Test) → Wide n t → length (recordBytes t) ≡ recordSize n
+pub length-record : (n : ℕ) (t : Pair) → Wide n t → length (recordBytes t) ≡ recordSize n
 unfolding recordBytes testBytes
 length-record n t w =
     let a : length (packed (t .v1)) ≡ vectorBytes n = length-packed (t .v1) ∙ ap vectorBytes (w .first) in

@@ -12,12 +12,11 @@ use lib.ListN.{length, getD, set, length-append, length-set}
 use lib.Pow.{pow-mono}
 use lib.Seq.{sets, getD-set-same, set-set}
 use Rattle.model.specs.Base.{littleEndian}
-use Rattle.model.specs.Detect.{Test}
 use Rattle.model.specs.Encode.{testBytes}
 use Rattle.model.specs.Path.{Edge, rising, falling}
 use Rattle.model.specs.Read.{vectorBytes}
 use Rattle.records.proofs.ByteLaws.{sets-append, length-littleEndian}
-use Rattle.load.specs.Load.{nextState, drawn, finalValue, invertedAt, inputTest, testsFrom, loadTests, wordOf, packed, recordBytes, fileBytes, loadRecords}
+use Rattle.load.specs.Load.{Pair, nextState, drawn, finalValue, invertedAt, inputTest, testsFrom, loadTests, wordOf, packed, recordBytes, fileBytes, loadRecords}
 use Rattle.load.specs.Answers.{DrawnTrue, vectorSize}
 use Rattle.load.specs.declared.inner.Drawn.{Drawn}
 use Rattle.load.proofs.WordLaws.{word-small, lowered-is, raised-is}
@@ -61,7 +60,7 @@ unfolding testsFrom
 tests-next v j zero h = absurd (omega arith)
 tests-next v j (suc n) h = let e : suc n - 1 ≡ n = omega arith in rw (add-one j, e) refl
 
-bytes-next : (t u : Test) (ts : List Test) → fileBytes (t ∷ u ∷ ts) ≡ recordBytes t ++ (recordBytes u ++ fileBytes ts)
+bytes-next : (t u : Pair) (ts : List Pair) → fileBytes (t ∷ u ∷ ts) ≡ recordBytes t ++ (recordBytes u ++ fileBytes ts)
 unfolding fileBytes
 bytes-next t u ts = refl
 
@@ -162,7 +161,7 @@ module _ (inputs state bytes at : ℕ) (found : List ℕ) where
             let up = rising-bytes (drawn inputs state) input bytes low high inside sizedV low-word high-word in
             let down = falling-bytes (drawn inputs state) input bytes low high inside sizedV low-word high-word in
             let n : inputs - input - 1 ≡ inputs - (input + 1) = omega arith in
-            let rest : List Test = testsFrom (drawn inputs state) (input + 1) (inputs - (input + 1)) in
+            let rest : List Pair = testsFrom (drawn inputs state) (input + 1) (inputs - (input + 1)) in
             let xs : List ℕ = testBytes (littleEndian bytes low) (littleEndian bytes high) in
             let ys : List ℕ = testBytes (littleEndian bytes high) (littleEndian bytes low) in
             let left : fileBytes (testsFrom (drawn inputs state) input (inputs - input)) ≡ xs ++ (ys ++ fileBytes rest) =

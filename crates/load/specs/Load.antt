@@ -1,4 +1,5 @@
 -- A test load that anyone can repeat: the state and its steps, the vector that is drawn, its two tests per input, and their records.
+-- A test is here a pair of vectors: a load does not depend on the class in which its tests are judged.
 -- Names: s is a state, v a vector (a value for each input, input 0 first), j an input, e an edge.
 -- Assumes nothing.
 use mathlib.Core.Bool.{Bool, true, false, not}
@@ -6,7 +7,6 @@ use mathlib.Core.List.{List, [], _∷_, _++_}
 use Prim.Native.Nat.{ℕ, zero, suc, _+_, _*_, _%_, _^_}
 use lib.ListN.{length, getD, set}
 use Rattle.model.specs.Base.{bit, littleEndian}
-use Rattle.model.specs.Detect.{Test}
 use Rattle.model.specs.Encode.{testBytes}
 use Rattle.model.specs.Path.{Edge, rising, falling}
 use Rattle.model.specs.Read.{vectorBytes}
@@ -39,17 +39,22 @@ finalValue falling = false
 abbrev pub invertedAt : ℕ → List Bool → List Bool
 invertedAt j v = set v j (not (getD v j false))
 
+-- The two vectors of a test, a value for each input, input 0 first
+pub record Pair : Type 0 where
+  pub v1 : List Bool
+  pub v2 : List Bool
+
 -- The test of an input and an edge: V2 is the vector with that input at its final value, V1 is V2 with it inverted
-unfoldable pub inputTest : List Bool → ℕ → Edge → Test
+unfoldable pub inputTest : List Bool → ℕ → Edge → Pair
 inputTest v j e = record { v1 = invertedAt j (set v j (finalValue e)); v2 = set v j (finalValue e) }
 
 -- a rising test and a falling one for each of `n` inputs from input j upward
-unfoldable pub testsFrom : List Bool → ℕ → ℕ → List Test
+unfoldable pub testsFrom : List Bool → ℕ → ℕ → List Pair
 testsFrom v j zero = []
 testsFrom v j (suc n) = inputTest v j rising ∷ inputTest v j falling ∷ testsFrom v (suc j) n
 
 -- The tests of the vector that is drawn from state s for `n` inputs: two per input, for input 0 upward
-unfoldable pub loadTests : ℕ → ℕ → List Test
+unfoldable pub loadTests : ℕ → ℕ → List Pair
 loadTests n s = testsFrom (drawn n s) 0 n
 
 -- a vector as a number, input j in bit j
@@ -62,10 +67,10 @@ abbrev pub packed : List Bool → List ℕ
 packed v = littleEndian (vectorBytes (length v)) (wordOf v)
 
 -- the record of a test, and the records of tests end to end
-unfoldable pub recordBytes : Test → List ℕ
+unfoldable pub recordBytes : Pair → List ℕ
 recordBytes t = testBytes (packed (t .v1)) (packed (t .v2))
 
-unfoldable pub fileBytes : List Test → List ℕ
+unfoldable pub fileBytes : List Pair → List ℕ
 fileBytes [] = []
 fileBytes (t ∷ ts) = recordBytes t ++ fileBytes ts
 

@@ -1,5 +1,5 @@
--- What ticket 3 says of every record of a load, over document 01's own reading of test records: it passes the test checks and moves exactly one
--- input. Names: i is a record's place in the load, from 0.
+-- What ticket 3 says of every record of a load, over document 01's own reading of test records: it passes the test checks and, in
+-- whatever class it is judged, moves exactly one input. Names: i is a record's place in the load, from 0.
 -- Assumes nothing.
 use mathlib.Core.Path.{_≡_}
 use mathlib.Core.Bool.{true, false}
@@ -8,7 +8,7 @@ use Prim.Native.Nat.{ℕ, zero, suc, _*_, _/_, _%_, _<_}
 use lib.Dec.{T, eqb}
 use lib.ListN.{length, getD}
 use Rattle.model.specs.Base.{value, checks}
-use Rattle.model.specs.Detect.{Test, hasEdge}
+use Rattle.model.specs.Detect.{Class, Test, hasEdge}
 use Rattle.model.specs.Netlist.{Netlist}
 use Rattle.model.specs.Path.{Edge, rising, falling}
 use Rattle.model.specs.Read.{recordLength, testRules, testOf}
@@ -38,13 +38,14 @@ loadFile N vectors s = fileRecords N (vectorRecords (N .inputs) vectors s)
 abbrev pub recordAt : Netlist → ℕ → ℕ → ℕ → List ℕ
 recordAt N vectors s i = getD (loadFile N vectors s) i []
 
--- A load for the inputs of a netlist is whole records, two for each vector and input. Each passes the test checks 30 to 32 on that netlist and moves
--- exactly one input: the one that the order says, in the edge that the order says
+-- A load for the inputs of a netlist is whole records, two for each vector and input. Each passes the test checks 30 to 32 on that netlist and, in
+-- every class, moves exactly one input: the one that the order says, in the edge that the order says
 pub record LoadPasses (N : Netlist) (vectors s : ℕ) : Type 0 where
   pub whole : length (vectorRecords (N .inputs) vectors s) ≡ length (loadFile N vectors s) * recordLength N
   pub count : length (loadFile N vectors s) ≡ vectors * (2 * N .inputs)
   pub passes : (i : ℕ) → i < vectors * (2 * N .inputs) → checks (testRules N (recordAt N vectors s i)) ≡ value tt
-  pub moves : (i : ℕ) → i < vectors * (2 * N .inputs) → MovesOnly (testOf N (recordAt N vectors s i)) (edgeAt (placeAt N i)) (inputAt (placeAt N i))
+  pub moves : (c : Class) (i : ℕ) → i < vectors * (2 * N .inputs)
+      → MovesOnly (testOf N c (recordAt N vectors s i)) (edgeAt (placeAt N i)) (inputAt (placeAt N i))
 
 -- the state after so many calls for `n` inputs, each handed the state that the one before handed back
 unfoldable pub stateAfterCalls : ℕ → ℕ → ℕ → ℕ

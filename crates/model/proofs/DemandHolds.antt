@@ -3,6 +3,7 @@
 -- Assumes nothing.
 use mathlib.Core.Path.{_≡_, refl, ap, sym, _∙_, subst}
 use mathlib.Core.Logic.{_↔_}
+use mathlib.Core.Bool.{not}
 use mathlib.Core.List.{List, [], _∷_}
 use Prim.Native.Nat.{ℕ, _≤_}
 use lib.Dec.{T, leb→le, le→leb}
@@ -10,15 +11,16 @@ use lib.ListN.{length}
 use Rattle.model.specs.Base.{Answer, refused, value, _>>_, Rule, checks, after}
 use Rattle.model.specs.Netlist.{Netlist, pathTotal}
 use Rattle.model.specs.Path.{Edge, Fault, valid, numberOf, pathOf}
-use Rattle.model.specs.Detect.{Test}
+use Rattle.model.specs.Detect.{Class, Test}
 use Rattle.model.specs.Runs.{Run, runsOf, inRuns, size}
-use Rattle.model.specs.Read.{readNetlist, testRules, testOf}
+use Rattle.model.specs.Read.{readNetlist, classOf, testRules, testOf}
 use Rattle.model.specs.Store.{byEdge, maxRuns, storeRuns, runsByEdge, storeRules}
-use Rattle.model.specs.Calls.{Tested, storeLeft, tested, FaultCounts, testStage, testCall, testAnswer, testStore, totalsCall, storeRule, workRule, workWords}
+use Rattle.model.specs.Calls.{Tested, storeLeft, tested, FaultCounts, testStage, testCall, testAnswer, testStore, beforeTest, totalsCall, storeRule, workRule, workWords}
 use Rattle.model.specs.Demand3 as demand
-use Rattle.model.specs.Demand3.{CountOf, Detected, RunsOfDetected, detectedBy, Call, State, start, next, afterCalls, NoTestRefusal, NoRefusal, Taken, Returned, StoreTrue}
+use Rattle.model.specs.Demand3.{CountOf, Detected, RunsOfDetected, detectedBy, Call, State, start, testIn, next, afterCalls, knownClass, NoTestRefusal, NoRefusal, Taken, Returned, StoreTrue}
 use Rattle.model.proofs.WellFormed.{WellFormed}
 use Rattle.model.proofs.AnswerLaws.{AllPass, steps, checks→, →checks, then-first, then-second, value-inj}
+use Rattle.model.proofs.BeforeLaws.{Reached, reached→, →reached, other-class}
 use Rattle.model.proofs.RunLaws.{separated→, in→, →in, unique}
 use Rattle.model.proofs.ReadLaws.{legal}
 use Rattle.model.proofs.NumberLaws.{path-of-number}
@@ -54,38 +56,38 @@ module _ (N : Netlist) (w : WellFormed N) (ts : List Test) (ws : List ℕ) (x : 
   pub sizes-true : (d : Edge) → CountOf (Detected N ts d) (size (storeRuns ws d))
   sizes-true d = as-countOf (sym (holding-size N ws (detectedAt N ts) x d)) (countOf-detected N w d ts)
 
-  module _ (rec : List ℕ) where
+  module _ (c : Class) (rec : List ℕ) where
     -- on it the test stage gives a result exactly when no condition of Test and Work holds
-    pub stage→ : (r : Tested) → testStage N rec ws ≡ value r → NoTestRefusal N ts rec
+    pub stage→ : (r : Tested) → testStage N c rec ws ≡ value r → NoTestRefusal N ts c rec
     unfolding detectedAt
     stage→ r q =
-        let p = stage-passes N rec ws r q in
+        let p = stage-passes N c rec ws r q in
         record {
-          legalRecord = →checks (testRules N rec) (test-part N rec ws (detectedAt N ts) x p);
-          fewWorking = work-few N rec ws (detectedAt N ts) x p;
-          runs = λ d. runsOf (detectedAt N (testOf N rec ∷ ts) d) (pathTotal N);
-          wouldHold = λ d. runs-detected N w d (testOf N rec ∷ ts);
-          room = work-room N rec ws (detectedAt N ts) x p;
+          legalRecord = →checks (testRules N rec) (test-part N c rec ws (detectedAt N ts) x p);
+          fewWorking = work-few N c rec ws (detectedAt N ts) x p;
+          runs = λ d. runsOf (detectedAt N (testOf N c rec ∷ ts) d) (pathTotal N);
+          wouldHold = λ d. runs-detected N w d (testOf N c rec ∷ ts);
+          room = work-room N c rec ws (detectedAt N ts) x p;
         }
 
-    pub →stage : NoTestRefusal N ts rec → testStage N rec ws ≡ value (tested N (runsByEdge ws) (testOf N rec))
+    pub →stage : NoTestRefusal N ts c rec → testStage N c rec ws ≡ value (tested N (runsByEdge ws) (testOf N c rec))
     unfolding detectedAt
     →stage n =
-        stage-taken N rec ws
-        (stage-rules N rec ws (detectedAt N ts) x
+        stage-taken N c rec ws
+        (stage-rules N c rec ws (detectedAt N ts) x
         (checks→ (testRules N rec) (record { got = tt; is = n .legalRecord }))
         (n .fewWorking)
-        (λ d. subst (λ rs. length rs ≤ maxRuns) (one-list N (testOf N rec ∷ ts) d (n .runs d) _ (n .wouldHold d) (runs-detected N w d (testOf N rec ∷ ts))) (n .room d)))
+        (λ d. subst (λ rs. length rs ≤ maxRuns) (one-list N (testOf N c rec ∷ ts) d (n .runs d) _ (n .wouldHold d) (runs-detected N w d (testOf N c rec ∷ ts))) (n .room d)))
 
-    pub stage-holding : (r : Tested) → testStage N rec ws ≡ value r → Holding N (storeLeft r) (detectedAt N (testOf N rec ∷ ts))
+    pub stage-holding : (r : Tested) → testStage N c rec ws ≡ value r → Holding N (storeLeft r) (detectedAt N (testOf N c rec ∷ ts))
     unfolding detectedAt
-    stage-holding r q = holding-next N rec ws (detectedAt N ts) x r q
+    stage-holding r q = holding-next N c rec ws (detectedAt N ts) x r q
 
-    pub stage-returned : (r : Tested) → testStage N rec ws ≡ value r → (d : Edge) → Returned N ts (testOf N rec) d (r .returned)
+    pub stage-returned : (r : Tested) → testStage N c rec ws ≡ value r → (d : Edge) → Returned N ts (testOf N c rec) d (r .returned)
     unfolding detectedAt
     stage-returned r q d = record {
-      newTrue = as-countOf (sym (returned-new N rec ws (detectedAt N ts) x r q d)) (countOf-new N w d (testOf N rec) ts);
-      heldTrue = as-countOf (sym (returned-held N rec ws (detectedAt N ts) x r q d)) (countOf-detected N w d (testOf N rec ∷ ts));
+      newTrue = as-countOf (sym (returned-new N c rec ws (detectedAt N ts) x r q d)) (countOf-new N w d (testOf N c rec) ts);
+      heldTrue = as-countOf (sym (returned-held N c rec ws (detectedAt N ts) x r q d)) (countOf-detected N w d (testOf N c rec ∷ ts));
     }
 
 -- the store's words are those of the runs of the detected numbers
@@ -97,46 +99,49 @@ unfolding detectedAt
 holds-start N = holding-empty N
 
 module _ (netlist : List ℕ) (N : Netlist) (e : readNetlist netlist ≡ value N) where
-  lent : List ℕ → List ℕ → List Rule
-  lent ws work = storeRule ws ∷ workRule work ∷ []
+  -- a call is taken exactly when its memory is long enough, its class is known and the stage gives a result
+  call-reached : (class : ℕ) (rec ws work : List ℕ) (r : Tested) → testCall netlist class rec ws work ≡ value r → Reached netlist class ws work N
+  unfolding testCall
+  call-reached class rec ws work r q =
+      let s = steps (beforeTest netlist class ws work) (λ M. testStage M (classOf class) rec ws) q in
+      let h = reached→ netlist class ws work (s .got) (s .first) in
+      subst (λ M. Reached netlist class ws work M) (value-inj (sym (h .isLegal) ∙ e)) h
 
-  -- a call is taken exactly when its memory is long enough and the stage gives a result
-  call-lent : (rec ws work : List ℕ) (r : Tested) → testCall netlist rec ws work ≡ value r → AllPass (lent ws work)
-  unfolding testCall lent
-  call-lent rec ws work r q =
-      checks→ (lent ws work)
-      (then-first (checks (lent ws work)) (readNetlist netlist)
-      (steps (checks (lent ws work) >> readNetlist netlist) (λ M. testStage M rec ws) q .first))
-
-  pub call-stage : (rec ws work : List ℕ) (r : Tested) → testCall netlist rec ws work ≡ value r → testStage N rec ws ≡ value r
-  unfolding testCall lent
-  call-stage rec ws work r q =
-      let s = steps (checks (lent ws work) >> readNetlist netlist) (λ M. testStage M rec ws) q in
-      let m : s .got ≡ N = value-inj (sym (then-second (checks (lent ws work)) (readNetlist netlist) (s .first)) ∙ e) in
-      subst (λ M. testStage M rec ws ≡ value r) m (s .second)
+  pub call-stage : (class : ℕ) (rec ws work : List ℕ) (r : Tested) → testCall netlist class rec ws work ≡ value r → testStage N (classOf class) rec ws ≡ value r
+  unfolding testCall
+  call-stage class rec ws work r q =
+      let s = steps (beforeTest netlist class ws work) (λ M. testStage M (classOf class) rec ws) q in
+      let m : s .got ≡ N = value-inj (sym (reached→ netlist class ws work (s .got) (s .first) .isLegal) ∙ e) in
+      subst (λ M. testStage M (classOf class) rec ws ≡ value r) m (s .second)
 
   module _ (s : State) (x : Holds N s) where
     w : WellFormed N
     w = legal netlist N e
 
-    pub stage-call : (c : Call) → workWords ≤ length (c .work) → (r : Tested) → testStage N (c .rec) (s .store) ≡ value r
-        → testCall netlist (c .rec) (s .store) (c .work) ≡ value r
+    call-lent : (c : Call) → workWords ≤ length (c .work) → AllPass (storeRule (s .store) ∷ workRule (c .work) ∷ [])
+    call-lent c l = (rw (holding-length N (s .store) (detectedAt N (s .taken)) x) tt, (le→leb workWords (length (c .work)) l, tt))
+
+    pub stage-call : (c : Call) → workWords ≤ length (c .work) → T (knownClass (c .class)) → (r : Tested)
+        → testStage N (classOf (c .class)) (c .rec) (s .store) ≡ value r → testCall netlist (c .class) (c .rec) (s .store) (c .work) ≡ value r
     unfolding testCall
-    stage-call c l r q =
-        let p : checks (storeRule (s .store) ∷ workRule (c .work) ∷ []) ≡ value tt =
-        →checks (storeRule (s .store) ∷ workRule (c .work) ∷ [])
-        (rw (holding-length N (s .store) (detectedAt N (s .taken)) x) tt, (le→leb workWords (length (c .work)) l, tt)) in
-        rw (p, e) q
+    stage-call c l k r q =
+        let p = →reached netlist (c .class) (s .store) (c .work) N (record { lent = call-lent c l; isLegal = e; known = k }) in
+        rw p q
+
+    other-refused : (c : Call) → workWords ≤ length (c .work) → T (not (knownClass (c .class)))
+        → testAnswer netlist (c .class) (c .rec) (s .store) (c .work) ≡ refused 83
+    unfolding testCall testAnswer
+    other-refused c l k = rw (other-class netlist (c .class) (s .store) (c .work) N (call-lent c l) e k) refl
 
     -- One more call keeps it
-    step : (c : Call) (a : Answer Tested) → testCall netlist (c .rec) (s .store) (c .work) ≡ a
-        → Holding N (after a (s .store) storeLeft) (detectedAt N (demand.withTest a (testOf N (c .rec)) (s .taken)))
+    step : (c : Call) (a : Answer Tested) → testCall netlist (c .class) (c .rec) (s .store) (c .work) ≡ a
+        → Holding N (after a (s .store) storeLeft) (detectedAt N (demand.withTest a (testIn N c) (s .taken)))
     step c (refused n) q = x
-    step c (value r) q = stage-holding N w (s .taken) (s .store) x (c .rec) r (call-stage (c .rec) (s .store) (c .work) r q)
+    step c (value r) q = stage-holding N w (s .taken) (s .store) x (classOf (c .class)) (c .rec) r (call-stage (c .class) (c .rec) (s .store) (c .work) r q)
 
     pub holds-next : (c : Call) → Holds N (next netlist N s c)
     unfolding testStore
-    holds-next c = step c (testCall netlist (c .rec) (s .store) (c .work)) refl
+    holds-next c = step c (testCall netlist (c .class) (c .rec) (s .store) (c .work)) refl
 
     totals-gives : totalsCall netlist (s .store) ≡ value (byEdge (λ d. size (storeRuns (s .store) d)))
     unfolding totalsCall
@@ -148,25 +153,27 @@ module _ (netlist : List ℕ) (N : Netlist) (e : readNetlist netlist ≡ value N
         rw (l, e) (rw p refl)
 
     taken→ : (c : Call) → Taken netlist s c → NoRefusal N (s .taken) c
-    unfolding lent
-    taken→ c k = record {
-      memory = leb→le workWords (length (c .work)) (call-lent (c .rec) (s .store) (c .work) (k .tested) (k .answer) .1 .0);
-      test = stage→ N w (s .taken) (s .store) x (c .rec) (k .tested) (call-stage (c .rec) (s .store) (c .work) (k .tested) (k .answer));
-    }
+    taken→ c k =
+        let h = call-reached (c .class) (c .rec) (s .store) (c .work) (k .tested) (k .answer) in
+        record {
+          memory = leb→le workWords (length (c .work)) (h .lent .1 .0);
+          known = h .known;
+          test = stage→ N w (s .taken) (s .store) x (classOf (c .class)) (c .rec) (k .tested) (call-stage (c .class) (c .rec) (s .store) (c .work) (k .tested) (k .answer));
+        }
 
     →taken : (c : Call) → NoRefusal N (s .taken) c → Taken netlist s c
     →taken c n = record {
-      tested = tested N (runsByEdge (s .store)) (testOf N (c .rec));
-      answer = stage-call c (n .memory) _ (→stage N w (s .taken) (s .store) x (c .rec) (n .test));
+      tested = tested N (runsByEdge (s .store)) (testIn N c);
+      answer = stage-call c (n .memory) (n .known) _ (→stage N w (s .taken) (s .store) x (classOf (c .class)) (c .rec) (n .test));
     }
 
-    returned-true : (c : Call) (r : FaultCounts) → testAnswer netlist (c .rec) (s .store) (c .work) ≡ value r
-        → (d : Edge) → Returned N (s .taken) (testOf N (c .rec)) d r
+    returned-true : (c : Call) (r : FaultCounts) → testAnswer netlist (c .class) (c .rec) (s .store) (c .work) ≡ value r
+        → (d : Edge) → Returned N (s .taken) (testIn N c) d r
     unfolding testAnswer
     returned-true c r k d =
-        let p = steps (testCall netlist (c .rec) (s .store) (c .work)) (λ t. value (t .returned)) k in
-        subst (Returned N (s .taken) (testOf N (c .rec)) d) (value-inj (p .second))
-        (stage-returned N w (s .taken) (s .store) x (c .rec) (p .got) (call-stage (c .rec) (s .store) (c .work) (p .got) (p .first)) d)
+        let p = steps (testCall netlist (c .class) (c .rec) (s .store) (c .work)) (λ t. value (t .returned)) k in
+        subst (Returned N (s .taken) (testIn N c) d) (value-inj (p .second))
+        (stage-returned N w (s .taken) (s .store) x (classOf (c .class)) (c .rec) (p .got) (call-stage (c .class) (c .rec) (s .store) (c .work) (p .got) (p .first)) d)
 
     store-true : StoreTrue netlist N s
     store-true = record {
@@ -177,6 +184,7 @@ module _ (netlist : List ℕ) (N : Netlist) (e : readNetlist netlist ≡ value N
       totalsTrue = λ d. as-countOf (sym (ofEdge-byEdge (λ g. size (storeRuns (s .store) g)) d)) (sizes-true N w (s .taken) (s .store) x d);
       takenExactly = λ c. (taken→ c, →taken c);
       returnedTrue = returned-true;
+      otherClass = other-refused;
     }
 
   pub holds-after : (calls : List Call) (s : State) → Holds N s → Holds N (afterCalls netlist N s calls)

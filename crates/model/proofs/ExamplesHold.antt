@@ -1,4 +1,4 @@
--- Every row of document 01's table of examples holds, computed from the definitions, and so does every row of the tickets' table.
+-- Every row of the tables of examples holds, computed from the definitions.
 -- Assumes nothing.
 use mathlib.Core.Path.{_≡_, ap}
 use mathlib.Core.Bool.{Bool, false, _&&_}
@@ -9,16 +9,18 @@ use lib.ListN.{length, getD}
 use Rattle.model.specs.Base.{Answer, refused, value, allOf}
 use Rattle.model.specs.Netlist.{counts, outputCount, pathTotal}
 use Rattle.model.specs.Path.{pathOf, pathAt, split, faultNumber}
-use Rattle.model.specs.Detect.{inNetSet, detects, allOpen, hasEdge, openPin, values, detectsNumber}
+use Rattle.model.specs.Detect.{inNetSet, detects, allOpen, hasEdge, openPin, evaluate, detectsNumber}
 use Rattle.model.specs.Runs.{runsOf, runsFrom, addNumber, workingRuns, inRuns, size, howMany, howManyFrom, separatedRuns}
 use Rattle.model.specs.Read.{readNetlist, readGates, readOutputs, testOf}
 use Rattle.model.specs.Store.{storeRuns, storeOf}
-use Rattle.model.specs.Calls.{testCall, testStage, tested}
+use Rattle.model.specs.Calls.{testCall, testStage, testStore, tested}
 use Rattle.model.specs.Report.{sameBytes, reportHead, reportRecord, testAll, auditCall}
+use Rattle.model.specs.Demand3.{afterCalls}
 use Rattle.model.specs.Encode.{headerBytes, netBytes, gateBytes, outputBytes, testBytes}
 use Rattle.model.specs.SinglePin.{readGatesBy, readNetlistBy}
-use Rattle.model.specs.Examples.{Row, row, starred, further, requested, reply, faultIf, faultList, enoughWork, firstRuns, netCounts}
+use Rattle.model.specs.Examples.{Row, row, starred, further, requested, robustRows, reply, faultIf, faultList, enoughWork, firstRuns, netCounts}
 use Rattle.model.specs.Examples.{Q, detectsNone, detectsFalling, detectsRising, chain, doubling, spread, aRises, reportOfThree, outputsBytes, oneGate, besideOnePin, bRises, withOutputs, halves}
+use Rattle.model.specs.Examples.{twice, aFalls, hazard, riseAndFall, carry, carryTest, callIn, steadyOf}
 use Rattle.model.proofs.ListLaws.{allOf-at}
 use Rattle.model.proofs.BoolLaws.{and-left, and-right}
 use Rattle.model.proofs.AnswerLaws.{same→}
@@ -42,15 +44,23 @@ right r = same (reply (r .netlist) (r .question)) (r .answer)
 all-right : T (allOf right starred && allOf right further)
 unfolding starred further right same row aRises spread doubling Q detectsNone detectsFalling detectsRising reportOfThree enoughWork firstRuns
     outputBytes headerBytes chain gateBytes netBytes testBytes reply faultList faultIf
-    readNetlist readGates readOutputs counts outputCount pathTotal pathOf pathAt split detectsNumber detects allOpen hasEdge openPin values faultNumber
+    readNetlist readGates readOutputs counts outputCount pathTotal pathOf pathAt split detectsNumber detects allOpen hasEdge openPin evaluate faultNumber
     testOf workingRuns inNetSet runsOf runsFrom addNumber testCall testStage tested storeRuns separatedRuns inRuns howMany howManyFrom
     auditCall testAll storeOf reportRecord reportHead size
 all-right = tt
 
+all-robust : T (allOf right robustRows)
+unfolding robustRows twice aFalls hazard riseAndFall carry carryTest callIn steadyOf afterCalls testStore right same row aRises spread Q detectsNone
+    detectsFalling detectsRising reportOfThree enoughWork firstRuns outputBytes headerBytes chain gateBytes netBytes testBytes reply faultList faultIf
+    readNetlist readGates readOutputs counts outputCount pathTotal pathOf pathAt split detectsNumber detects allOpen hasEdge openPin evaluate faultNumber
+    testOf workingRuns inNetSet runsOf runsFrom addNumber testCall testStage tested storeRuns separatedRuns inRuns howMany howManyFrom
+    auditCall testAll storeOf reportRecord reportHead size
+all-robust = tt
+
 all-requested : T (allOf right requested)
 unfolding requested right same row Q oneGate besideOnePin bRises withOutputs halves chain detectsRising outputsBytes outputBytes headerBytes gateBytes netBytes testBytes reply faultList faultIf
     readNetlist readNetlistBy readGates readGatesBy readOutputs counts outputCount pathTotal pathOf pathAt split detectsNumber detects allOpen hasEdge
-    openPin values faultNumber testOf
+    openPin evaluate faultNumber testOf
 all-requested = tt
 
 abbrev noRow : Row
@@ -72,3 +82,7 @@ further-hold = rows-hold further (and-right (allOf right starred) (allOf right f
 -- The tickets' small examples hold
 pub requested-hold : (i : ℕ) → i < length requested → reply (getD requested i noRow .netlist) (getD requested i noRow .question) ≡ getD requested i noRow .answer
 requested-hold = rows-hold requested all-requested
+
+-- The examples of robust tests hold
+pub robust-hold : (i : ℕ) → i < length robustRows → reply (getD robustRows i noRow .netlist) (getD robustRows i noRow .question) ≡ getD robustRows i noRow .answer
+robust-hold = rows-hold robustRows all-robust

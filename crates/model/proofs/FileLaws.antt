@@ -5,17 +5,18 @@ use mathlib.Core.Path.{_≡_, refl, sym, subst}
 use mathlib.Core.Bool.{Bool, true, false, _||_}
 use mathlib.Core.List.{List, [], _∷_, _++_, map}
 use Prim.Native.Nat.{ℕ}
-use lib.Dec.{T, leb, leb→le}
+use lib.Dec.{T, leb, eqb, leb→le, eqb→eq}
 use lib.ListN.{length, length-map}
 use Rattle.model.specs.Base.{value, allOf}
 use Rattle.model.specs.Netlist.{Netlist, pathTotal}
-use Rattle.model.specs.Detect.{Test, detectsNumber}
-use Rattle.model.specs.Read.{readNetlist, testOf}
+use Rattle.model.specs.Detect.{Class, Test, detectsNumber}
+use Rattle.model.specs.Read.{readNetlist, classOf, testOf}
 use Rattle.model.specs.Store.{storeWords, emptyStore, storeRules}
 use Rattle.model.specs.Calls.{Tested, storeLeft, testStage, testCall, testStore, workWords}
 use Rattle.model.specs.Report.{testAll, wholeRecords, fileRecords}
-use Rattle.model.specs.Demand3.{Call, State, start, next, afterCalls, AllTaken, WhollyTaken, FileCalls, leftBy, testsOf}
+use Rattle.model.specs.Demand3.{Call, State, start, next, afterCalls, knownClass, AllTaken, WhollyTaken, fileCall, FileCalls, leftBy, testsOf}
 use Rattle.model.proofs.WellFormed.{WellFormed}
+use Rattle.model.proofs.BoolLaws.{and-left, and-right}
 use Rattle.model.proofs.ListLaws.{allOf-head, allOf-tail}
 use Rattle.model.proofs.AnswerLaws.{AllPass, Passed, steps, value-inj}
 use Rattle.model.proofs.ReadLaws.{legal}
@@ -33,70 +34,71 @@ or-none true = refl
 or-none false = refl
 
 -- The store that test calls leave holds also what their tests detect
-pub all-holding : (N : Netlist) (recs : List (List ℕ)) (ws : List ℕ) (D : Sets) (left : List ℕ) → Holding N ws D → testAll N recs ws ≡ value left
-    → Holding N left (λ d k. detectedAt N (map (testOf N) recs) d k || D d k)
+pub all-holding : (N : Netlist) (c : Class) (recs : List (List ℕ)) (ws : List ℕ) (D : Sets) (left : List ℕ) → Holding N ws D → testAll N c recs ws ≡ value left
+    → Holding N left (λ d k. detectedAt N (map (testOf N c) recs) d k || D d k)
 unfolding testAll detectedAt
-all-holding N [] ws D left x q = subst (λ s. Holding N s D) (value-inj q) x
-all-holding N (r ∷ rs) ws D left x q =
-    let s = steps (testStage N r ws) (λ t. testAll N rs (storeLeft t)) q in
-    holding-same N left (λ d k. detectedAt N (map (testOf N) rs) d k || withTest N (testOf N r) D d k)
-    (λ d k. detectedAt N (map (testOf N) (r ∷ rs)) d k || D d k)
-    (λ d k. or-around (detectsNumber N (testOf N r) d k) (detectedAt N (map (testOf N) rs) d k) (D d k))
-    (all-holding N rs (storeLeft (s .got)) (withTest N (testOf N r) D) left (holding-next N r ws D x (s .got) (s .first)) (s .second))
+all-holding N c [] ws D left x q = subst (λ s. Holding N s D) (value-inj q) x
+all-holding N c (r ∷ rs) ws D left x q =
+    let s = steps (testStage N c r ws) (λ t. testAll N c rs (storeLeft t)) q in
+    holding-same N left (λ d k. detectedAt N (map (testOf N c) rs) d k || withTest N (testOf N c r) D d k)
+    (λ d k. detectedAt N (map (testOf N c) (r ∷ rs)) d k || D d k)
+    (λ d k. or-around (detectsNumber N (testOf N c r) d k) (detectedAt N (map (testOf N c) rs) d k) (D d k))
+    (all-holding N c rs (storeLeft (s .got)) (withTest N (testOf N c r) D) left (holding-next N c r ws D x (s .got) (s .first)) (s .second))
 
 -- From an empty store they leave one that holds exactly that, has its length and passes the rules
-module _ (N : Netlist) (recs : List (List ℕ)) (left : List ℕ) (q : testAll N recs emptyStore ≡ value left) where
-  pub left-holding : Holding N left (detectedAt N (map (testOf N) recs))
+module _ (N : Netlist) (c : Class) (recs : List (List ℕ)) (left : List ℕ) (q : testAll N c recs emptyStore ≡ value left) where
+  pub left-holding : Holding N left (detectedAt N (map (testOf N c) recs))
   left-holding =
-      let ts : List Test = map (testOf N) recs in
+      let ts : List Test = map (testOf N c) recs in
       holding-same N left (λ d k. detectedAt N ts d k || false) (detectedAt N ts) (λ d k. or-none (detectedAt N ts d k))
-      (all-holding N recs emptyStore (λ d k. false) left (holding-empty N) q)
+      (all-holding N c recs emptyStore (λ d k. false) left (holding-empty N) q)
 
   pub left-length : length left ≡ storeWords
-  left-length = holding-length N left (detectedAt N (map (testOf N) recs)) left-holding
+  left-length = holding-length N left (detectedAt N (map (testOf N c) recs)) left-holding
 
   pub left-passes : AllPass (storeRules (pathTotal N) left)
-  left-passes = holding-passes N left (detectedAt N (map (testOf N) recs)) left-holding
+  left-passes = holding-passes N left (detectedAt N (map (testOf N c) recs)) left-holding
 
 -- All records are taken exactly when the test calls with them give a store
-module _ (N : Netlist) (w : WellFormed N) where
-  pub all→ : (recs : List (List ℕ)) (ts : List Test) (ws : List ℕ) → Holding N ws (detectedAt N ts) → (left : List ℕ) → testAll N recs ws ≡ value left
-      → AllTaken N ts recs
+module _ (N : Netlist) (w : WellFormed N) (c : Class) where
+  pub all→ : (recs : List (List ℕ)) (ts : List Test) (ws : List ℕ) → Holding N ws (detectedAt N ts) → (left : List ℕ) → testAll N c recs ws ≡ value left
+      → AllTaken N c ts recs
   unfolding testAll
   all→ [] ts ws x left q = tt
   all→ (r ∷ rs) ts ws x left q =
-      let s = steps (testStage N r ws) (λ t. testAll N rs (storeLeft t)) q in
-      (stage→ N w ts ws x r (s .got) (s .first), all→ rs (testOf N r ∷ ts) _ (stage-holding N w ts ws x r (s .got) (s .first)) left (s .second))
+      let s = steps (testStage N c r ws) (λ t. testAll N c rs (storeLeft t)) q in
+      (stage→ N w ts ws x c r (s .got) (s .first), all→ rs (testOf N c r ∷ ts) _ (stage-holding N w ts ws x c r (s .got) (s .first)) left (s .second))
 
-  pub →all : (recs : List (List ℕ)) (ts : List Test) (ws : List ℕ) → Holding N ws (detectedAt N ts) → AllTaken N ts recs → Passed (testAll N recs ws)
+  pub →all : (recs : List (List ℕ)) (ts : List Test) (ws : List ℕ) → Holding N ws (detectedAt N ts) → AllTaken N c ts recs → Passed (testAll N c recs ws)
   unfolding testAll
   →all [] ts ws x k = record { got = ws; is = refl }
   →all (r ∷ rs) ts ws x k =
-      let q = →stage N w ts ws x r (k .0) in
-      let ih = →all rs (testOf N r ∷ ts) _ (stage-holding N w ts ws x r _ q) (k .1) in
+      let q = →stage N w ts ws x c r (k .0) in
+      let ih = →all rs (testOf N c r ∷ ts) _ (stage-holding N w ts ws x c r _ q) (k .1) in
       record { got = ih .got; is = rw q (ih .is) }
 
 abbrev recordsOf : List Call → List (List ℕ)
 recordsOf calls = map (λ c. c .rec) calls
 
-abbrev longEnough : Call → Bool
-longEnough c = leb workWords (length (c .work))
-
 module _ (netlist : List ℕ) (N : Netlist) (e : readNetlist netlist ≡ value N) where
-  store-after : (s : State) (c : Call) (r : Tested) → testCall netlist (c .rec) (s .store) (c .work) ≡ value r → next netlist N s c .store ≡ storeLeft r
+  store-after : (s : State) (c : Call) (r : Tested) → testCall netlist (c .class) (c .rec) (s .store) (c .work) ≡ value r → next netlist N s c .store ≡ storeLeft r
   unfolding testStore
   store-after s c r q = rw q refl
 
-  -- Calls with working memory long enough leave the store that the audit reaches with their records
-  pub calls-left : (calls : List Call) (s : State) → Holds N s → T (allOf longEnough calls) → (left : List ℕ) → testAll N (recordsOf calls) (s .store) ≡ value left
-      → afterCalls netlist N s calls .store ≡ left
-  unfolding testAll afterCalls
-  calls-left [] s x l left q = value-inj q
-  calls-left (c ∷ cs) s x l left q =
-      let p = steps (testStage N (c .rec) (s .store)) (λ t. testAll N (recordsOf cs) (storeLeft t)) q in
-      let a = stage-call netlist N e s x c (leb→le workWords (length (c .work)) (allOf-head longEnough c cs l)) (p .got) (p .first) in
-      calls-left cs (next netlist N s c) (holds-next netlist N e s x c) (allOf-tail longEnough c cs l) left
-      (subst (λ ws. testAll N (recordsOf cs) ws ≡ value left) (sym (store-after s c (p .got) a)) (p .second))
+  -- Calls in one class with working memory long enough leave the store that the audit reaches with their records
+  module _ (class : ℕ) (k : T (knownClass class)) where
+    pub calls-left : (calls : List Call) (s : State) → Holds N s → T (allOf (fileCall class) calls) → (left : List ℕ)
+        → testAll N (classOf class) (recordsOf calls) (s .store) ≡ value left → afterCalls netlist N s calls .store ≡ left
+    unfolding testAll afterCalls
+    calls-left [] s x l left q = value-inj q
+    calls-left (c ∷ cs) s x l left q =
+        let p = steps (testStage N (classOf class) (c .rec) (s .store)) (λ t. testAll N (classOf class) (recordsOf cs) (storeLeft t)) q in
+        let h : T (fileCall class c) = allOf-head (fileCall class) c cs l in
+        let m : c .class ≡ class = eqb→eq (c .class) class (and-left (eqb (c .class) class) (leb workWords (length (c .work))) h) in
+        let a = stage-call netlist N e s x c (leb→le workWords (length (c .work)) (and-right (eqb (c .class) class) (leb workWords (length (c .work))) h))
+        (subst (λ j. T (knownClass j)) (sym m) k) (p .got) (subst (λ j. testStage N (classOf j) (c .rec) (s .store) ≡ value (p .got)) (sym m) (p .first)) in
+        calls-left cs (next netlist N s c) (holds-next netlist N e s x c) (allOf-tail (fileCall class) c cs l) left
+        (subst (λ ws. testAll N (classOf class) (recordsOf cs) ws ≡ value left) (sym (store-after s c (p .got) a)) (p .second))
 
   -- a list is its first calls, then the others on the state that those left
   pub calls-append : (before rest : List Call) (s : State) → afterCalls netlist N s (before ++ rest) ≡ afterCalls netlist N (afterCalls netlist N s before) rest
@@ -104,19 +106,21 @@ module _ (netlist : List ℕ) (N : Netlist) (e : readNetlist netlist ≡ value N
   calls-append [] rest s = refl
   calls-append (c ∷ cs) rest s = calls-append cs rest (next netlist N s c)
 
-module _ (netlist : List ℕ) (N : Netlist) (e : readNetlist netlist ≡ value N) (testFile : List ℕ) where
+module _ (netlist : List ℕ) (N : Netlist) (e : readNetlist netlist ≡ value N) (c : Class) (testFile : List ℕ) where
   -- A file is wholly taken exactly when 33 does not hold and the audit's test calls give a store
-  pub file-passes : WhollyTaken N testFile → Passed (testAll N (fileRecords N testFile) emptyStore)
-  file-passes h = →all N (legal netlist N e) (fileRecords N testFile) [] emptyStore (holds-start N) (h .taken)
+  pub file-passes : WhollyTaken N c testFile → Passed (testAll N c (fileRecords N testFile) emptyStore)
+  file-passes h = →all N (legal netlist N e) c (fileRecords N testFile) [] emptyStore (holds-start N) (h .taken)
 
-  pub file-taken : (left : List ℕ) → T (wholeRecords N testFile) → testAll N (fileRecords N testFile) emptyStore ≡ value left → WhollyTaken N testFile
-  file-taken left h q = record { whole = h; taken = all→ N (legal netlist N e) (fileRecords N testFile) [] emptyStore (holds-start N) left q }
+  pub file-taken : (left : List ℕ) → T (wholeRecords N testFile) → testAll N c (fileRecords N testFile) emptyStore ≡ value left → WhollyTaken N c testFile
+  file-taken left h q = record { whole = h; taken = all→ N (legal netlist N e) c (fileRecords N testFile) [] emptyStore (holds-start N) left q }
 
-  -- and then leaves that store
-  pub file-left : (calls : List Call) → FileCalls N testFile calls → (left : List ℕ) → testAll N (fileRecords N testFile) emptyStore ≡ value left
-      → leftBy netlist N calls ≡ left
-  file-left calls f left q =
-      calls-left netlist N e calls start (holds-start N) (f .memory) left (subst (λ rs. testAll N rs emptyStore ≡ value left) (sym (f .records)) q)
+-- and then leaves that store
+pub file-left : (netlist : List ℕ) (N : Netlist) → readNetlist netlist ≡ value N → (class : ℕ) → T (knownClass class) → (testFile : List ℕ)
+    → (calls : List Call) → FileCalls N class testFile calls → (left : List ℕ) → testAll N (classOf class) (fileRecords N testFile) emptyStore ≡ value left
+    → leftBy netlist N calls ≡ left
+file-left netlist N e class k testFile calls f left q =
+    calls-left netlist N e class k calls start (holds-start N) (f .handed) left
+    (subst (λ rs. testAll N (classOf class) rs emptyStore ≡ value left) (sym (f .records)) q)
 
-pub length-testsOf : (N : Netlist) (testFile : List ℕ) → length (fileRecords N testFile) ≡ length (testsOf N testFile)
-length-testsOf N testFile = sym (length-map (fileRecords N testFile) (testOf N))
+pub length-testsOf : (N : Netlist) (c : Class) (testFile : List ℕ) → length (fileRecords N testFile) ≡ length (testsOf N c testFile)
+length-testsOf N c testFile = sym (length-map (fileRecords N testFile) (testOf N c))

@@ -10,7 +10,7 @@ use lib.ListN.{length}
 use Rattle.model.specs.Base.{value, checks}
 use Rattle.model.specs.Netlist.{Netlist, pathTotal}
 use Rattle.model.specs.Path.{Edge, rising, falling}
-use Rattle.model.specs.Detect.{Test, detectsNumber}
+use Rattle.model.specs.Detect.{Class, Test, detectsNumber}
 use Rattle.model.specs.Runs.{Run, runsOf, inRuns, howMany, workingRuns, size, separatedRuns}
 use Rattle.model.specs.Read.{testRules, testOf}
 use Rattle.model.specs.Store.{ByEdge, byEdge, ofEdge, storeWords, maxRuns, emptyStore, storeRuns, runsByEdge, storeOf, bothEdges, storeRules, runCount, firstWord}
@@ -96,75 +96,75 @@ pub at-both : (f : Edge → Bool) → ((e : Edge) → T (f e)) → T (bothEdges 
 at-both f h = both (f rising) (f falling) (h rising) (h falling)
 
 -- The places Test, Store and Work: all rules pass, exactly when there is a result
-pub stage-passes : (N : Netlist) (rec ws : List ℕ) (r : Tested) → testStage N rec ws ≡ value r → AllPass (stageRules N rec ws)
+pub stage-passes : (N : Netlist) (c : Class) (rec ws : List ℕ) (r : Tested) → testStage N c rec ws ≡ value r → AllPass (stageRules N c rec ws)
 unfolding testStage
-stage-passes N rec ws r e =
-    checks→ (stageRules N rec ws) (then-first (checks (stageRules N rec ws)) (value (tested N (runsByEdge ws) (testOf N rec))) e)
+stage-passes N c rec ws r e =
+    checks→ (stageRules N c rec ws) (then-first (checks (stageRules N c rec ws)) (value (tested N (runsByEdge ws) (testOf N c rec))) e)
 
-pub stage-result : (N : Netlist) (rec ws : List ℕ) (r : Tested) → testStage N rec ws ≡ value r → tested N (runsByEdge ws) (testOf N rec) ≡ r
+pub stage-result : (N : Netlist) (c : Class) (rec ws : List ℕ) (r : Tested) → testStage N c rec ws ≡ value r → tested N (runsByEdge ws) (testOf N c rec) ≡ r
 unfolding testStage
-stage-result N rec ws r e = value-inj (then-second (checks (stageRules N rec ws)) (value (tested N (runsByEdge ws) (testOf N rec))) e)
+stage-result N c rec ws r e = value-inj (then-second (checks (stageRules N c rec ws)) (value (tested N (runsByEdge ws) (testOf N c rec))) e)
 
-pub stage-taken : (N : Netlist) (rec ws : List ℕ) → AllPass (stageRules N rec ws) → testStage N rec ws ≡ value (tested N (runsByEdge ws) (testOf N rec))
+pub stage-taken : (N : Netlist) (c : Class) (rec ws : List ℕ) → AllPass (stageRules N c rec ws) → testStage N c rec ws ≡ value (tested N (runsByEdge ws) (testOf N c rec))
 unfolding testStage
-stage-taken N rec ws p = rw (→checks (stageRules N rec ws) p) refl
+stage-taken N c rec ws p = rw (→checks (stageRules N c rec ws) p) refl
 
-module _ (N : Netlist) (rec ws : List ℕ) (D : Sets) (x : Holding N ws D) where
-  pub test-part : AllPass (stageRules N rec ws) → AllPass (testRules N rec)
+module _ (N : Netlist) (c : Class) (rec ws : List ℕ) (D : Sets) (x : Holding N ws D) where
+  pub test-part : AllPass (stageRules N c rec ws) → AllPass (testRules N rec)
   test-part p = (p .0, (p .1 .0, (p .1 .1 .0, tt)))
 
-  work-part : AllPass (stageRules N rec ws) → AllPass (workRules N (runsByEdge ws) (testOf N rec))
+  work-part : AllPass (stageRules N c rec ws) → AllPass (workRules N (runsByEdge ws) (testOf N c rec))
   work-part p = p .1 .1 .1 .1 .1 .1
 
   -- the rules of Work, over the sets
-  pub work-few : AllPass (stageRules N rec ws) → (e : Edge) → workingRuns N (testOf N rec) e ≤ maxRuns
+  pub work-few : AllPass (stageRules N c rec ws) → (e : Edge) → workingRuns N (testOf N c rec) e ≤ maxRuns
   work-few p e =
-      leb→le _ _ (at-edge (λ d. leb (workingRuns N (testOf N rec) d) maxRuns)
+      leb→le _ _ (at-edge (λ d. leb (workingRuns N (testOf N c rec) d) maxRuns)
       (work-part p .0) e)
 
-  pub work-room : AllPass (stageRules N rec ws) → (e : Edge) → length (runsOf (withTest N (testOf N rec) D e) (pathTotal N)) ≤ maxRuns
+  pub work-room : AllPass (stageRules N c rec ws) → (e : Edge) → length (runsOf (withTest N (testOf N c rec) D e) (pathTotal N)) ≤ maxRuns
   work-room p e =
-      subst (λ rs. length rs ≤ maxRuns) (runs-then N ws D x (testOf N rec) e)
-      (leb→le _ _ (at-edge (λ d. leb (length (runsThen N (runsByEdge ws) (testOf N rec) d)) maxRuns)
+      subst (λ rs. length rs ≤ maxRuns) (runs-then N ws D x (testOf N c rec) e)
+      (leb→le _ _ (at-edge (λ d. leb (length (runsThen N (runsByEdge ws) (testOf N c rec) d)) maxRuns)
       (work-part p .1 .0) e))
 
-  pub stage-rules : AllPass (testRules N rec) → ((e : Edge) → workingRuns N (testOf N rec) e ≤ maxRuns)
-      → ((e : Edge) → length (runsOf (withTest N (testOf N rec) D e) (pathTotal N)) ≤ maxRuns) → AllPass (stageRules N rec ws)
+  pub stage-rules : AllPass (testRules N rec) → ((e : Edge) → workingRuns N (testOf N c rec) e ≤ maxRuns)
+      → ((e : Edge) → length (runsOf (withTest N (testOf N c rec) D e) (pathTotal N)) ≤ maxRuns) → AllPass (stageRules N c rec ws)
   stage-rules p f g =
-      pass-both (testRules N rec) (storeRules (pathTotal N) ws ++ workRules N (runsByEdge ws) (testOf N rec)) p
-      (pass-both (storeRules (pathTotal N) ws) (workRules N (runsByEdge ws) (testOf N rec)) (holding-passes N ws D x) (
-        at-both (λ d. leb (workingRuns N (testOf N rec) d) maxRuns) (λ e. le→leb _ _ (f e)),
+      pass-both (testRules N rec) (storeRules (pathTotal N) ws ++ workRules N (runsByEdge ws) (testOf N c rec)) p
+      (pass-both (storeRules (pathTotal N) ws) (workRules N (runsByEdge ws) (testOf N c rec)) (holding-passes N ws D x) (
+        at-both (λ d. leb (workingRuns N (testOf N c rec) d) maxRuns) (λ e. le→leb _ _ (f e)),
         (
-          at-both (λ d. leb (length (runsThen N (runsByEdge ws) (testOf N rec) d)) maxRuns)
-              (λ e. le→leb _ _ (subst (λ rs. length rs ≤ maxRuns) (sym (runs-then N ws D x (testOf N rec) e)) (g e))),
+          at-both (λ d. leb (length (runsThen N (runsByEdge ws) (testOf N c rec) d)) maxRuns)
+              (λ e. le→leb _ _ (subst (λ rs. length rs ≤ maxRuns) (sym (runs-then N ws D x (testOf N c rec) e)) (g e))),
           tt,
         ),
       ))
 
   -- One test: the store then holds its numbers too
-  pub holding-next : (r : Tested) → testStage N rec ws ≡ value r → Holding N (storeLeft r) (withTest N (testOf N rec) D)
+  pub holding-next : (r : Tested) → testStage N c rec ws ≡ value r → Holding N (storeLeft r) (withTest N (testOf N c rec) D)
   unfolding tested
   holding-next r e = record {
-    is = ap storeLeft (sym (stage-result N rec ws r e))
-        ∙ ap storeOf (λ i. record { onRising = runs-then N ws D x (testOf N rec) rising i; onFalling = runs-then N ws D x (testOf N rec) falling i });
-    fits = work-room (stage-passes N rec ws r e);
+    is = ap storeLeft (sym (stage-result N c rec ws r e))
+        ∙ ap storeOf (λ i. record { onRising = runs-then N ws D x (testOf N c rec) rising i; onFalling = runs-then N ws D x (testOf N c rec) falling i });
+    fits = work-room (stage-passes N c rec ws r e);
   }
 
-  pub returned-new : (r : Tested) → testStage N rec ws ≡ value r → (e : Edge)
-      → ofEdge (r .returned .newFaults) e ≡ howMany (λ k. detectsNumber N (testOf N rec) e k && not (D e k)) (pathTotal N)
+  pub returned-new : (r : Tested) → testStage N c rec ws ≡ value r → (e : Edge)
+      → ofEdge (r .returned .newFaults) e ≡ howMany (λ k. detectsNumber N (testOf N c rec) e k && not (D e k)) (pathTotal N)
   unfolding tested
   returned-new r q e =
-      ap (λ (y : Tested). ofEdge (y .returned .newFaults) e) (sym (stage-result N rec ws r q))
-      ∙ ofEdge-byEdge (λ d. howMany (newThen N (runsByEdge ws) (testOf N rec) d) (pathTotal N)) e
-      ∙ new-then N ws D x (testOf N rec) e
+      ap (λ (y : Tested). ofEdge (y .returned .newFaults) e) (sym (stage-result N c rec ws r q))
+      ∙ ofEdge-byEdge (λ d. howMany (newThen N (runsByEdge ws) (testOf N c rec) d) (pathTotal N)) e
+      ∙ new-then N ws D x (testOf N c rec) e
 
-  pub returned-held : (r : Tested) → testStage N rec ws ≡ value r → (e : Edge)
-      → ofEdge (r .returned .heldFaults) e ≡ howMany (withTest N (testOf N rec) D e) (pathTotal N)
+  pub returned-held : (r : Tested) → testStage N c rec ws ≡ value r → (e : Edge)
+      → ofEdge (r .returned .heldFaults) e ≡ howMany (withTest N (testOf N c rec) D e) (pathTotal N)
   unfolding tested
   returned-held r q e =
-      ap (λ (y : Tested). ofEdge (y .returned .heldFaults) e) (sym (stage-result N rec ws r q))
-      ∙ ofEdge-byEdge (λ d. howMany (heldThen N (runsByEdge ws) (testOf N rec) d) (pathTotal N)) e
-      ∙ held-then N ws D x (testOf N rec) e
+      ap (λ (y : Tested). ofEdge (y .returned .heldFaults) e) (sym (stage-result N c rec ws r q))
+      ∙ ofEdge-byEdge (λ d. howMany (heldThen N (runsByEdge ws) (testOf N c rec) d) (pathTotal N)) e
+      ∙ held-then N ws D x (testOf N c rec) e
 
 -- A store of its length that passes the rules holds exactly the numbers in its runs
 module _ (N : Netlist) (ws : List ℕ) (l : length ws ≡ storeWords) (p : AllPass (storeRules (pathTotal N) ws)) where
@@ -184,9 +184,9 @@ module _ (N : Netlist) (ws : List ℕ) (l : length ws ≡ storeWords) (p : AllPa
   }
 
   -- A test leaves such a store
-  module _ (rec : List ℕ) (r : Tested) (q : testStage N rec ws ≡ value r) where
+  module _ (c : Class) (rec : List ℕ) (r : Tested) (q : testStage N c rec ws ≡ value r) where
     pub stage-length : length (storeLeft r) ≡ storeWords
-    stage-length = holding-length N (storeLeft r) _ (holding-next N rec ws (λ e. inRuns (storeRuns ws e)) holding-own r q)
+    stage-length = holding-length N (storeLeft r) _ (holding-next N c rec ws (λ e. inRuns (storeRuns ws e)) holding-own r q)
 
     pub stage-sound : AllPass (storeRules (pathTotal N) (storeLeft r))
-    stage-sound = holding-passes N (storeLeft r) _ (holding-next N rec ws (λ e. inRuns (storeRuns ws e)) holding-own r q)
+    stage-sound = holding-passes N (storeLeft r) _ (holding-next N c rec ws (λ e. inRuns (storeRuns ws e)) holding-own r q)

@@ -16,6 +16,7 @@ pub mod StoreLaws
 pub mod FaultCallLaws
 pub mod FaultLaws
 pub mod HoldingLaws
+pub mod BeforeLaws
 pub mod DemandHolds
 pub mod RefusalLaws
 pub mod ReportLaws
@@ -25,3 +26,4 @@ pub mod ReportNames
 pub mod ExamplesHold
 pub mod ReportsHold
 pub mod WiresHold
+pub mod ClassesHold

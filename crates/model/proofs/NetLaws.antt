@@ -2,17 +2,17 @@
 -- Assumes nothing.
 use mathlib.Core.Path.{_≡_, refl, ap, ap₂, sym, _∙_, subst}
 use mathlib.Core.Bool.{Bool, true, false}
-use mathlib.Core.List.{List, [], _∷_, _++_}
+use mathlib.Core.List.{List, [], _∷_, _++_, map}
 use Prim.Native.Nat.{ℕ, zero, suc, _+_, _-_, _≤_, _<_}
-use native.Mathlib.Nat.{add-zero, add-suc, suc-add, le-of-suc-le-suc, not-suc-le-zero}
+use native.Mathlib.Nat.{add-zero, zero-add, add-suc, suc-add, le-of-suc-le-suc, not-suc-le-zero}
 use native.Mathlib.Omega.{arith}
 use lib.Dec.{T, ltb, ltb→lt, lt→ltb}
-use lib.ListN.{length, getD, replicate, length-append, length-replicate, getD-replicate, List·getD-append}
+use lib.ListN.{length, getD, replicate, length-map, length-append, length-replicate, getD-replicate, List·getD-append}
 use lib.Seq.{getD-append-seam}
-use Rattle.model.specs.Base.{allOf, sumOf}
+use Rattle.model.specs.Base.{allOf, sumOf, numbersFrom}
 use Rattle.model.specs.Netlist.{Netlist, Gate, noGate, netByNet, atNets, counts, gateCount, outputCount, pinsOf, nets, gateOf}
-use Rattle.model.specs.Detect.{values, gateValue}
-use Rattle.model.proofs.ListLaws.{allOf-head, allOf-tail}
+use Rattle.model.specs.Detect.{Evaluation, noEvaluation, inputEvaluation, gateEvaluation, evaluate, pinEvaluations}
+use Rattle.model.proofs.ListLaws.{allOf-head, allOf-tail, getD-map-in, length-numbersFrom, numbersFrom-at}
 use Rattle.model.proofs.WellFormed.{lower}
 use Rattle.model.proofs.BoolLaws.{and-left, and-right, T→true, lt-false}
 
@@ -90,15 +90,24 @@ pub output-count-same : {i j : ℕ} (cs ds : List ℕ) (net : ℕ) → i ≡ j �
 unfolding outputCount
 output-count-same cs ds net e d = ap₂ {C = ℕ} (λ k c. elim (ltb net k) [ true ↦ 0 | false ↦ c ]) e d
 
--- The values: the vector at an input, the gate's function of its pins at a gate
-module _ (N : Netlist) (v : List Bool) (h : length v ≡ N .inputs) where
-  pub value-input : (net : ℕ) → net < N .inputs → getD (values N v) net false ≡ getD v net false
-  unfolding values
-  value-input net i = kept (λ g vs. gateValue (g .kind) vs) false (N .gates) v net (omega arith)
+-- The evaluation: the vectors at an input, the gate's function of its pins at a gate
+module _ (N : Netlist) (v1 v2 : List Bool) where
+  abbrev inputNets : List Evaluation
+  inputNets = map (inputEvaluation v1 v2) (numbersFrom 0 (N .inputs))
 
-  pub value-gate : T (lower (N .inputs) (N .gates)) → (net : ℕ) → N .inputs ≤ net → net < nets N
-      → getD (values N v) net false ≡ gateValue (gateOf N net .kind) (atNets (values N v) false (pinsOf N net))
-  unfolding values
-  value-gate t net i l =
-      ap (λ k. getD (values N v) k false) (omega arith)
-      ∙ at-gate (λ g vs. gateValue (g .kind) vs) false (N .gates) v (rw h t) (net - N .inputs) (omega arith)
+  length-inputs : length inputNets ≡ N .inputs
+  length-inputs = length-map (numbersFrom 0 (N .inputs)) (inputEvaluation v1 v2) ∙ length-numbersFrom 0 (N .inputs)
+
+  pub evaluate-input : (net : ℕ) → net < N .inputs → getD (evaluate N v1 v2) net noEvaluation ≡ inputEvaluation v1 v2 net
+  unfolding evaluate
+  evaluate-input net i =
+      kept (λ g ns. gateEvaluation (g .kind) ns) noEvaluation (N .gates) inputNets net (omega (arith, length-inputs))
+      ∙ getD-map-in (inputEvaluation v1 v2) (numbersFrom 0 (N .inputs)) net 0 noEvaluation (omega (arith, length-numbersFrom 0 (N .inputs)))
+      ∙ ap (inputEvaluation v1 v2) (numbersFrom-at (N .inputs) 0 net i ∙ zero-add net)
+
+  pub evaluate-gate : T (lower (N .inputs) (N .gates)) → (net : ℕ) → N .inputs ≤ net → net < nets N
+      → getD (evaluate N v1 v2) net noEvaluation ≡ gateEvaluation (gateOf N net .kind) (pinEvaluations N v1 v2 net)
+  unfolding evaluate
+  evaluate-gate t net i l =
+      ap (λ k. getD (evaluate N v1 v2) k noEvaluation) (omega (arith, length-inputs))
+      ∙ at-gate (λ g ns. gateEvaluation (g .kind) ns) noEvaluation (N .gates) inputNets (subst (λ m. T (lower m (N .gates))) (sym length-inputs) t) (net - N .inputs) (omega arith)

@@ -8,6 +8,7 @@ use native.Mathlib.Omega.{arith}
 use lib.ListN.{length, take, drop, length-append, length-drop}
 use Rattle.model.specs.Base.{Answer, refused, value, _>>=_}
 use Rattle.model.specs.Netlist.{Netlist}
+use Rattle.model.specs.Detect.{Class}
 use Rattle.model.specs.Read.{recordLength}
 use Rattle.model.specs.Calls.{Tested, storeLeft, testStage}
 use Rattle.model.specs.Report.{records, fileRecords, testAll}
@@ -40,22 +41,24 @@ record-first : (N : Netlist) (x : Answer Tested) (f g : List ℕ → Answer (Lis
 record-first N (refused n) f g h q = refl
 record-first N (value d) f g h q = q (storeLeft d)
 
-pub testAll-append : (N : Netlist) (rs qs : List (List ℕ)) (ws : List ℕ) → testAll N (rs ++ qs) ws ≡ (testAll N rs ws >>= λ left. testAll N qs left)
+pub testAll-append : (N : Netlist) (c : Class) (rs qs : List (List ℕ)) (ws : List ℕ)
+    → testAll N c (rs ++ qs) ws ≡ (testAll N c rs ws >>= λ left. testAll N c qs left)
 unfolding testAll
-testAll-append N [] qs ws = refl
-testAll-append N (r ∷ rs) qs ws =
-    record-first N (testStage N r ws) (λ v. testAll N (rs ++ qs) v) (λ v. testAll N rs v) (λ left. testAll N qs left) (λ v. testAll-append N rs qs v)
+testAll-append N c [] qs ws = refl
+testAll-append N c (r ∷ rs) qs ws =
+    record-first N (testStage N c r ws) (λ v. testAll N c (rs ++ qs) v) (λ v. testAll N c rs v) (λ left. testAll N c qs left)
+    (λ v. testAll-append N c rs qs v)
 
 -- A piece of whole records, then the rest
-pub piece-first : (N : Netlist) (piece rest ws : List ℕ) → length piece % recordLength N ≡ 0
-    → testAll N (fileRecords N (piece ++ rest)) ws ≡ (testAll N (fileRecords N piece) ws >>= λ left. testAll N (fileRecords N rest) left)
-piece-first N piece rest ws h =
+pub piece-first : (N : Netlist) (c : Class) (piece rest ws : List ℕ) → length piece % recordLength N ≡ 0
+    → testAll N c (fileRecords N (piece ++ rest)) ws ≡ (testAll N c (fileRecords N piece) ws >>= λ left. testAll N c (fileRecords N rest) left)
+piece-first N c piece rest ws h =
     let len : ℕ = recordLength N in
     let m : ℕ = length piece / len in
     let pos : zero < len = omega arith in
     let whole : length piece ≡ m * len = omega (arith, h, mod-add-div (length piece) len, mul-comm len m) in
     let l : length (piece ++ rest) ≡ m * len + length rest = omega (arith, length-append piece rest, whole) in
     let n : length (piece ++ rest) / len ≡ m + length rest / len = ap (λ (k : ℕ). k / len) l ∙ mul-add-div-right pos m (length rest) in
-    ap (λ (k : ℕ). testAll N (records len k (piece ++ rest)) ws) n
-    ∙ ap (λ (rs : List (List ℕ)). testAll N rs ws) (records-append len m (length rest / len) piece rest whole)
-    ∙ testAll-append N (records len m piece) (fileRecords N rest) ws
+    ap (λ (k : ℕ). testAll N c (records len k (piece ++ rest)) ws) n
+    ∙ ap (λ (rs : List (List ℕ)). testAll N c rs ws) (records-append len m (length rest / len) piece rest whole)
+    ∙ testAll-append N c (records len m piece) (fileRecords N rest) ws

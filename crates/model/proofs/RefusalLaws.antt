@@ -9,9 +9,10 @@ use lib.Dec.{T, ltb, eqb, ltb→lt}
 use lib.ListN.{length, getD, drop}
 use Rattle.model.specs.Base.{Answer, refused, value, _>>=_, _>>_, check, Rule, checks, allOf, field}
 use Rattle.model.specs.Netlist.{Netlist, Gate, netByNet, gateCount, outputCount, pathTotal}
-use Rattle.model.specs.Read.{readGates, readOutputs, readNetlist, gateRules, outputRules, headerRules, gateIn, countIn, inputsIn, gatesIn, outputsIn, inputCounts, testOf}
+use Rattle.model.specs.Detect.{Class}
+use Rattle.model.specs.Read.{readGates, readOutputs, readNetlist, gateRules, outputRules, headerRules, gateIn, countIn, inputsIn, gatesIn, outputsIn, inputCounts, classOf, classRule, testOf}
 use Rattle.model.specs.Store.{emptyStore, runsByEdge}
-use Rattle.model.specs.Calls.{storeLeft, tested, storeRule, workRule, stageRules, testStage}
+use Rattle.model.specs.Calls.{storeLeft, tested, storeRule, workRule, stageRules, testStage, beforeTest}
 use Rattle.model.specs.Report.{wholeRecords, fileRecords, testAll, reportRecord, reportRules, auditCall, auditAfter, auditStore}
 use Rattle.model.proofs.BoolLaws.{and-left, and-right, le-true, lt-false}
 
@@ -83,16 +84,16 @@ netlist-over bs =
     (λ o. over-then 2 (checks ((20, eqb (length (o .1)) 0) ∷ [])) _ (over-checks 2 ((20, eqb (length (o .1)) 0) ∷ []) tt) tt))
 
 -- Test, Store and Work
-pub stage-over : (N : Netlist) (rec ws : List ℕ) → RefusesOver 2 (testStage N rec ws)
+pub stage-over : (N : Netlist) (c : Class) (rec ws : List ℕ) → RefusesOver 2 (testStage N c rec ws)
 unfolding testStage
-stage-over N rec ws =
-    over-then 2 (checks (stageRules N rec ws)) (value (tested N (runsByEdge ws) (testOf N rec))) (over-checks 2 (stageRules N rec ws) tt) tt
+stage-over N c rec ws =
+    over-then 2 (checks (stageRules N c rec ws)) (value (tested N (runsByEdge ws) (testOf N c rec))) (over-checks 2 (stageRules N c rec ws) tt) tt
 
-pub all-over : (N : Netlist) (recs : List (List ℕ)) (ws : List ℕ) → RefusesOver 2 (testAll N recs ws)
+pub all-over : (N : Netlist) (c : Class) (recs : List (List ℕ)) (ws : List ℕ) → RefusesOver 2 (testAll N c recs ws)
 unfolding testAll
-all-over N [] ws = tt
-all-over N (r ∷ rs) ws =
-    over-bind 2 (testStage N r ws) (λ d. testAll N rs (storeLeft d)) (stage-over N r ws) (λ d. all-over N rs (storeLeft d))
+all-over N c [] ws = tt
+all-over N c (r ∷ rs) ws =
+    over-bind 2 (testStage N c r ws) (λ d. testAll N c rs (storeLeft d)) (stage-over N c r ws) (λ d. all-over N c rs (storeLeft d))
 
 -- Report
 pub report-over : (report written : List ℕ) → RefusesOver 2 (checks (reportRules report written))
@@ -105,15 +106,19 @@ emptied-over n ws h = rw (lt-false n 2 h, auditAfter) refl
 pub found-under : (n : ℕ) (ws : List ℕ) → n ≤ 2 → auditAfter (refused n) ws ≡ ws
 found-under n ws h = rw (le-true n 2 h, auditAfter) refl
 
-module _ (netlist testFile report ws work : List ℕ) where
+module _ (netlist : List ℕ) (class : ℕ) (testFile report ws work : List ℕ) where
   abbrev lent : Answer (Unit {0})
   lent = checks (storeRule ws ∷ workRule work ∷ [])
 
-  -- after the lent memory
+  -- the class, after the netlist's checks
+  abbrev aClass : Answer (Unit {0})
+  aClass = checks (classRule class ∷ [])
+
+  -- after the lent memory, netlist and class
   auditRest : Netlist → Answer (List ℕ)
   auditRest N =
       checks ((33, wholeRecords N testFile) ∷ [])
-      >> testAll N (fileRecords N testFile) emptyStore
+      >> testAll N (classOf class) (fileRecords N testFile) emptyStore
       >>= λ left. checks (reportRules report (reportRecord (length (fileRecords N testFile)) (pathTotal N) (runsByEdge left)))
       >> value left
 
@@ -122,9 +127,9 @@ module _ (netlist testFile report ws work : List ℕ) where
   rest-over N =
       let whole = checks ((33, wholeRecords N testFile) ∷ []) in
       let rules : List ℕ → List Rule = λ left. reportRules report (reportRecord (length (fileRecords N testFile)) (pathTotal N) (runsByEdge left)) in
-      let tests = testAll N (fileRecords N testFile) emptyStore in
+      let tests = testAll N (classOf class) (fileRecords N testFile) emptyStore in
       over-bind 2 (whole >> tests) (λ left. checks (rules left) >> value left)
-      (over-then 2 whole tests (over-checks 2 ((33, wholeRecords N testFile) ∷ []) tt) (all-over N (fileRecords N testFile) emptyStore))
+      (over-then 2 whole tests (over-checks 2 ((33, wholeRecords N testFile) ∷ []) tt) (all-over N (classOf class) (fileRecords N testFile) emptyStore))
       (λ left. over-then 2 (checks (rules left)) (value left) (report-over report _) tt)
 
   lent-number : (n : ℕ) (a b : Bool) → checks ((1, a) ∷ (2, b) ∷ []) ≡ refused n → n ≤ 2
@@ -133,47 +138,54 @@ module _ (netlist testFile report ws work : List ℕ) where
   lent-number n true true q = let z : _≡_ {A = ℕ} 0 1 = cc in absurd (omega arith)
 
   -- Refused by the lent memory, the audit leaves the store as found
-  pub audit-found : (n : ℕ) → lent ≡ refused n → auditStore netlist testFile report ws work ≡ ws
+  pub audit-found : (n : ℕ) → lent ≡ refused n → auditStore netlist class testFile report ws work ≡ ws
   unfolding auditCall auditStore
   audit-found n q = rw q (found-under n ws (lent-number n (storeRule ws .1) (workRule work .1) q))
 
   -- Refused by a later place, it leaves the store all zeros
-  pub audit-emptied : (n : ℕ) → lent ≡ value tt → auditCall netlist testFile report ws work ≡ refused n → auditStore netlist testFile report ws work ≡ emptyStore
+  pub audit-emptied : (n : ℕ) → lent ≡ value tt → auditCall netlist class testFile report ws work ≡ refused n → auditStore netlist class testFile report ws work ≡ emptyStore
   unfolding auditCall auditStore auditRest
   audit-emptied n p q =
-      let o : RefusesOver 2 (lent >> readNetlist netlist >>= auditRest) =
-      over-bind 2 (lent >> readNetlist netlist) auditRest (rw p (netlist-over netlist)) rest-over in
-      ap (λ (a : Answer (List ℕ)). auditAfter a ws) q ∙ emptied-over n ws (refused-over 2 n (lent >> readNetlist netlist >>= auditRest) o q)
+      let o : RefusesOver 2 (beforeTest netlist class ws work >>= auditRest) =
+      over-bind 2 (beforeTest netlist class ws work) auditRest
+      (over-bind 2 (lent >> readNetlist netlist) (λ N. aClass >> value N) (rw p (netlist-over netlist))
+      (λ N. over-then 2 aClass (value N) (over-checks 2 (classRule class ∷ []) tt) tt)) rest-over in
+      ap (λ (a : Answer (List ℕ)). auditAfter a ws) q ∙ emptied-over n ws (refused-over 2 n (beforeTest netlist class ws work >>= auditRest) o q)
 
   -- Accepted, it leaves the store that the test calls left
-  pub audit-kept : (left : List ℕ) → auditCall netlist testFile report ws work ≡ value left → auditStore netlist testFile report ws work ≡ left
+  pub audit-kept : (left : List ℕ) → auditCall netlist class testFile report ws work ≡ value left → auditStore netlist class testFile report ws work ≡ left
   unfolding auditStore
   audit-kept left q = ap (λ (a : Answer (List ℕ)). auditAfter a ws) q
 
   -- the places, one after the other
   module _ (p : lent ≡ value tt) where
-    pub audit-at-netlist : (n : ℕ) → readNetlist netlist ≡ refused n → auditCall netlist testFile report ws work ≡ refused n
+    pub audit-at-netlist : (n : ℕ) → readNetlist netlist ≡ refused n → auditCall netlist class testFile report ws work ≡ refused n
     unfolding auditCall
     audit-at-netlist n q = rw (p, q) refl
 
     module _ (N : Netlist) (e : readNetlist netlist ≡ value N) where
-      pub audit-at-file : (n : ℕ) → checks ((33, wholeRecords N testFile) ∷ []) ≡ refused n → auditCall netlist testFile report ws work ≡ refused n
+      pub audit-at-class : (n : ℕ) → aClass ≡ refused n → auditCall netlist class testFile report ws work ≡ refused n
       unfolding auditCall
-      audit-at-file n q = rw (p, e) (rw q refl)
+      audit-at-class n q = rw (p, e) (rw q refl)
 
-      module _ (f : checks ((33, wholeRecords N testFile) ∷ []) ≡ value tt) where
-        pub audit-at-tests : (n : ℕ) → testAll N (fileRecords N testFile) emptyStore ≡ refused n → auditCall netlist testFile report ws work ≡ refused n
+      module _ (k : aClass ≡ value tt) where
+        pub audit-at-file : (n : ℕ) → checks ((33, wholeRecords N testFile) ∷ []) ≡ refused n → auditCall netlist class testFile report ws work ≡ refused n
         unfolding auditCall
-        audit-at-tests n q = rw (p, e) (rw (f, q) refl)
+        audit-at-file n q = rw (p, e) (rw k (rw q refl))
 
-        module _ (left : List ℕ) (t : testAll N (fileRecords N testFile) emptyStore ≡ value left) where
-          pub audit-at-report : (n : ℕ)
-              → checks (reportRules report (reportRecord (length (fileRecords N testFile)) (pathTotal N) (runsByEdge left))) ≡ refused n
-              → auditCall netlist testFile report ws work ≡ refused n
+        module _ (f : checks ((33, wholeRecords N testFile) ∷ []) ≡ value tt) where
+          pub audit-at-tests : (n : ℕ) → testAll N (classOf class) (fileRecords N testFile) emptyStore ≡ refused n → auditCall netlist class testFile report ws work ≡ refused n
           unfolding auditCall
-          audit-at-report n q = rw (p, e) (rw (f, t) (rw q refl))
+          audit-at-tests n q = rw (p, e) (rw k (rw (f, q) refl))
 
-          pub audit-at-end : checks (reportRules report (reportRecord (length (fileRecords N testFile)) (pathTotal N) (runsByEdge left))) ≡ value tt
-              → auditCall netlist testFile report ws work ≡ value left
-          unfolding auditCall
-          audit-at-end q = rw (p, e) (rw (f, t) (rw q refl))
+          module _ (left : List ℕ) (t : testAll N (classOf class) (fileRecords N testFile) emptyStore ≡ value left) where
+            pub audit-at-report : (n : ℕ)
+                → checks (reportRules report (reportRecord (length (fileRecords N testFile)) (pathTotal N) (runsByEdge left))) ≡ refused n
+                → auditCall netlist class testFile report ws work ≡ refused n
+            unfolding auditCall
+            audit-at-report n q = rw (p, e) (rw k (rw (f, t) (rw q refl)))
+
+            pub audit-at-end : checks (reportRules report (reportRecord (length (fileRecords N testFile)) (pathTotal N) (runsByEdge left))) ≡ value tt
+                → auditCall netlist class testFile report ws work ≡ value left
+            unfolding auditCall
+            audit-at-end q = rw (p, e) (rw k (rw (f, t) (rw q refl)))

@@ -2,7 +2,7 @@
 -- stricter one takes as the stricter one does.
 -- Assumes nothing.
 use mathlib.Core.Path.{_≡_, refl, ap, _∙_}
-use mathlib.Core.Bool.{Bool, true, false, _&&_}
+use mathlib.Core.Bool.{Bool, true, false, _&&_, Bool·beq}
 use mathlib.Core.List.{List, [], _∷_, _++_}
 use mathlib.Core.Logic.{⊎-elim}
 use Prim.Native.Nat.{ℕ, zero, suc, _+_, _*_}
@@ -11,7 +11,7 @@ use lib.Dec.{T, leb, eqb, leb→le, le→leb}
 use lib.ListN.{length, getD, drop}
 use Rattle.model.specs.Base.{Answer, value, _>>=_, _>>_, checks}
 use Rattle.model.specs.Netlist.{Netlist, Gate, Kind, buffer, inverter, and, nand, or, nor, xor, xnor, gateCount, netByNet}
-use Rattle.model.specs.Detect.{gateValue, isOpen}
+use Rattle.model.specs.Detect.{nonRobust, robust, Evaluation, gateValue, differs, robustAmong, isOpen}
 use Rattle.model.specs.Read.{within, pinsFit, gateIn, readGates, readOutputs, inputsIn, gatesIn, outputsIn, headerRules, inputCounts, readNetlist}
 use Rattle.model.specs.Calls.{surveyOf, surveyCall}
 use Rattle.model.specs.SinglePin.{onePinActs, pinsFitBefore, gateRulesBy, readGatesBy, readNetlistBy, SinglePin}
@@ -35,15 +35,39 @@ one-pin-value xor false = refl
 one-pin-value xnor true = refl
 one-pin-value xnor false = refl
 
-pub one-pin-open : (kind : Kind) (v : Bool) → isOpen kind (v ∷ []) 0 ≡ true
-one-pin-open buffer v = refl
-one-pin-open inverter v = refl
-one-pin-open and v = refl
-one-pin-open nand v = refl
-one-pin-open or v = refl
-one-pin-open nor v = refl
-one-pin-open xor v = refl
-one-pin-open xnor v = refl
+pub one-pin-open : (kind : Kind) (n : Evaluation) → isOpen nonRobust kind (n ∷ []) 0 ≡ true
+one-pin-open buffer n = refl
+one-pin-open inverter n = refl
+one-pin-open and n = refl
+one-pin-open nand n = refl
+one-pin-open or n = refl
+one-pin-open nor n = refl
+one-pin-open xor n = refl
+one-pin-open xnor n = refl
+
+-- robustly open: there is no other pin, so that only the pin's net decides
+no-sides : (b v : Bool) → elim (Bool·beq b v) [ true ↦ true | false ↦ true ] ≡ true
+no-sides true true = refl
+no-sides true false = refl
+no-sides false true = refl
+no-sides false false = refl
+
+alone-robust : (kind : Kind) (n : Evaluation) → robustAmong kind (n ∷ []) 0 ≡ true
+alone-robust buffer n = refl
+alone-robust inverter n = refl
+alone-robust and n = no-sides true (n .underV2)
+alone-robust nand n = no-sides true (n .underV2)
+alone-robust or n = no-sides false (n .underV2)
+alone-robust nor n = no-sides false (n .underV2)
+alone-robust xor n = refl
+alone-robust xnor n = refl
+
+and-true : (b : Bool) → b && true ≡ b
+and-true true = refl
+and-true false = refl
+
+pub one-pin-robust : (kind : Kind) (n : Evaluation) → isOpen robust kind (n ∷ []) 0 ≡ differs n
+one-pin-robust kind n = ap (λ b. differs n && b) (alone-robust kind n) ∙ and-true (differs n)
 
 -- what fitted before fits now
 pub still-fits : (kind n : ℕ) → T (pinsFitBefore kind n) → T (pinsFit kind n)
@@ -110,6 +134,7 @@ pub single-pin : SinglePin
 single-pin = record {
   onePinValue = one-pin-value;
   onePinOpen = one-pin-open;
+  onePinRobust = one-pin-robust;
   sameReader = reader-now;
   sameNetlist = legal-before;
   sameSurvey = survey-before;

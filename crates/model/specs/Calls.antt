@@ -1,5 +1,6 @@
 -- The calls on netlist, store and paths, each as a function of what it is handed: its answer, and the lent memory afterwards.
--- Names: netlist, rec and words are the bytes and words handed over; ws is the store, work the working memory, buffer the path buffer.
+-- Names: netlist, rec and words are the bytes and words handed over; class is the number of a class; ws is the store, work the working memory,
+-- buffer the path buffer.
 -- Assumes nothing.
 use mathlib.Core.Path.{_≡_}
 use mathlib.Core.Bool.{Bool, _&&_, _||_, not}
@@ -10,9 +11,9 @@ use lib.ListN.{length, getD, drop, replicate}
 use Rattle.model.specs.Base.{Answer, refused, value, _>>=_, _>>_, Rule, checks, passes, after}
 use Rattle.model.specs.Netlist.{Netlist, maxNets, counts, pathTotal}
 use Rattle.model.specs.Path.{CircuitPath, Edge, valid, numberOf, pathOf, edgeOfFault, pathOfFault}
-use Rattle.model.specs.Detect.{Test, detectsNumber}
+use Rattle.model.specs.Detect.{Class, Test, detectsNumber}
 use Rattle.model.specs.Runs.{Run, runsOf, inRuns, size, howMany, workingRuns}
-use Rattle.model.specs.Read.{within, readNetlist, testRules, testOf}
+use Rattle.model.specs.Read.{within, readNetlist, classOf, classRule, testRules, testOf}
 use Rattle.model.specs.Store.{ByEdge, byEdge, ofEdge, storeWords, maxRuns, emptyStore, storeOf, storeRuns, runsByEdge, storeRules, bothEdges}
 
 -- words of working memory and of a path buffer, at the least
@@ -155,29 +156,30 @@ tested N s t = record {
   runs = byEdge (runsThen N s t);
 }
 
--- The places Test, Store and Work for one record
-abbrev pub stageRules : Netlist → List ℕ → List ℕ → List Rule
-stageRules N rec ws = testRules N rec ++ (storeRules (pathTotal N) ws ++ workRules N (runsByEdge ws) (testOf N rec))
+-- The places Test, Store and Work for one record, judged in a class
+abbrev pub stageRules : Netlist → Class → List ℕ → List ℕ → List Rule
+stageRules N c rec ws = testRules N rec ++ (storeRules (pathTotal N) ws ++ workRules N (runsByEdge ws) (testOf N c rec))
 
-unfoldable pub testStage : Netlist → List ℕ → List ℕ → Answer Tested
-testStage N rec ws = checks (stageRules N rec ws) >> value (tested N (runsByEdge ws) (testOf N rec))
+unfoldable pub testStage : Netlist → Class → List ℕ → List ℕ → Answer Tested
+testStage N c rec ws = checks (stageRules N c rec ws) >> value (tested N (runsByEdge ws) (testOf N c rec))
 
--- the places before Test, for a call that is handed a store and working memory: the test stage is reached where they refuse nothing
-abbrev pub beforeTest : List ℕ → List ℕ → List ℕ → Answer Netlist
-beforeTest netlist ws work = checks (storeRule ws ∷ workRule work ∷ []) >> readNetlist netlist
+-- the places before Test, for a call that is handed a class, a store and working memory: the test stage is reached where they refuse nothing
+abbrev pub beforeTest : List ℕ → ℕ → List ℕ → List ℕ → Answer Netlist
+beforeTest netlist class ws work =
+    checks (storeRule ws ∷ workRule work ∷ []) >> readNetlist netlist >>= λ N. checks (classRule class ∷ []) >> value N
 
 -- The test call
-unfoldable pub testCall : List ℕ → List ℕ → List ℕ → List ℕ → Answer Tested
-testCall netlist rec ws work = beforeTest netlist ws work >>= λ N. testStage N rec ws
+unfoldable pub testCall : List ℕ → ℕ → List ℕ → List ℕ → List ℕ → Answer Tested
+testCall netlist class rec ws work = beforeTest netlist class ws work >>= λ N. testStage N (classOf class) rec ws
 
-unfoldable pub testAnswer : List ℕ → List ℕ → List ℕ → List ℕ → Answer FaultCounts
-testAnswer netlist rec ws work = testCall netlist rec ws work >>= λ r. value (r .returned)
+unfoldable pub testAnswer : List ℕ → ℕ → List ℕ → List ℕ → List ℕ → Answer FaultCounts
+testAnswer netlist class rec ws work = testCall netlist class rec ws work >>= λ r. value (r .returned)
 
-unfoldable pub testStore : List ℕ → List ℕ → List ℕ → List ℕ → List ℕ
-testStore netlist rec ws work = after (testCall netlist rec ws work) ws storeLeft
+unfoldable pub testStore : List ℕ → ℕ → List ℕ → List ℕ → List ℕ → List ℕ
+testStore netlist class rec ws work = after (testCall netlist class rec ws work) ws storeLeft
 
 -- Working memory after a test call or an audit: it may hold anything in its first 8,192 words if the test stage was reached, else it is as before
-pub record WorkAfter (netlist ws found left : List ℕ) : Type 0 where
+pub record WorkAfter (netlist : List ℕ) (class : ℕ) (ws found left : List ℕ) : Type 0 where
   pub sameLength : length left ≡ length found
   pub pastWork : drop workWords left ≡ drop workWords found
-  pub notReached : (n : ℕ) → beforeTest netlist ws found ≡ refused n → left ≡ found
+  pub notReached : (n : ℕ) → beforeTest netlist class ws found ≡ refused n → left ≡ found

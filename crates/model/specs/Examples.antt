@@ -1,19 +1,21 @@
--- Document 01's examples as questions with their answers: `starred` is its table of those marked *, `further` one list of test calls and its
--- audit; `requested` has small examples of document 02's tickets, worked out by hand. proofs/ExamplesHold.antt has the theorems over them.
+-- Examples as questions with their answers: `starred` is document 01's table of those marked *, judged in class 1; `further` one list of test
+-- calls and its audit; `requested` has small examples of document 02's tickets, worked out by hand, `robustRows` those of robust tests.
+-- proofs/ExamplesHold.antt has the theorems over them.
 -- Assumes nothing.
-use mathlib.Core.Bool.{true, false}
-use mathlib.Core.List.{List, [], _∷_, _++_}
+use mathlib.Core.Bool.{Bool, true, false}
+use mathlib.Core.List.{List, [], _∷_, _++_, map}
 use Prim.Native.Nat.{ℕ, zero, suc, _+_, _^_}
 use lib.ListN.{length, replicate, take, drop}
 use Rattle.model.specs.Base.{Answer, refused, value, _>>=_, _>>_, checks, numbersFrom, littleEndian}
 use Rattle.model.specs.Netlist.{Netlist, counts, pathTotal}
 use Rattle.model.specs.Path.{Edge, rising, falling, pathOf, faultNumber}
-use Rattle.model.specs.Detect.{Test, detectsNumber}
+use Rattle.model.specs.Detect.{Class, nonRobust, robust, Test, Evaluation, evaluate, detectsNumber}
 use Rattle.model.specs.Runs.{workingRuns}
 use Rattle.model.specs.Read.{readNetlist, testRules, testOf}
 use Rattle.model.specs.Store.{headWords, emptyStore, firstWord}
 use Rattle.model.specs.Calls.{testCall, wordsOf, workWords}
 use Rattle.model.specs.Report.{auditCall}
+use Rattle.model.specs.Demand3.{Call, start, afterCalls}
 use Rattle.model.specs.SinglePin.{pinsFitBefore, readNetlistBy}
 use Rattle.model.specs.Encode.{headerBytes, gateBytes, outputBytes, testBytes}
 
@@ -23,10 +25,16 @@ pub data Question : Type 0 where
   paths : Question
   pathsBefore : Question
   pathNumber : ℕ → Question
-  faultsOf : List ℕ → Question
-  risingWork : List ℕ → Question
-  newRising : List ℕ → Question
-  audited : List ℕ → List ℕ → Question
+  steadyNets : List ℕ → Question
+  faultsOf : Class → List ℕ → Question
+  risingWork : Class → List ℕ → Question
+  newRising : ℕ → List ℕ → Question
+  listed : List Call → Question
+  audited : ℕ → List ℕ → List ℕ → Question
+
+abbrev pub oneIf : Bool → ℕ
+oneIf true = 1
+oneIf false = 0
 
 unfoldable pub faultIf : Netlist → Test → Edge → ℕ → List ℕ
 faultIf N t e i = elim (detectsNumber N t e i) [ true ↦ faultNumber e i ∷ [] | false ↦ [] ]
@@ -35,6 +43,10 @@ faultIf N t e i = elim (detectsNumber N t e i) [ true ↦ faultNumber e i ∷ []
 unfoldable pub faultList : Netlist → Test → List ℕ → List ℕ
 faultList N t [] = []
 faultList N t (i ∷ is) = faultIf N t rising i ++ faultIf N t falling i ++ faultList N t is
+
+-- for each net 1 where it is steady, else 0
+unfoldable pub steadyOf : Netlist → Test → List ℕ
+steadyOf N t = map (λ n. oneIf (n .steady)) (evaluate N (t .v1) (t .v2))
 
 -- working memory long enough
 unfoldable pub enoughWork : List ℕ
@@ -50,10 +62,12 @@ reply netlist paths = readNetlist netlist >>= λ N. value (pathTotal N ∷ [])
 -- as `paths`, with the pin rule before ticket 1
 reply netlist pathsBefore = readNetlistBy pinsFitBefore netlist >>= λ N. value (pathTotal N ∷ [])
 reply netlist (pathNumber k) = readNetlist netlist >>= λ N. value (wordsOf (pathOf N k))
-reply netlist (faultsOf rec) = readNetlist netlist >>= λ N. checks (testRules N rec) >> value (faultList N (testOf N rec) (numbersFrom 1 (pathTotal N)))
-reply netlist (risingWork rec) = readNetlist netlist >>= λ N. checks (testRules N rec) >> value (workingRuns N (testOf N rec) rising ∷ [])
-reply netlist (newRising rec) = testCall netlist rec emptyStore enoughWork >>= λ r. value (r .returned .newFaults .onRising ∷ [])
-reply netlist (audited testFile report) = auditCall netlist testFile report emptyStore enoughWork >>= λ left. value (firstRuns left)
+reply netlist (steadyNets rec) = readNetlist netlist >>= λ N. checks (testRules N rec) >> value (steadyOf N (testOf N robust rec))
+reply netlist (faultsOf c rec) = readNetlist netlist >>= λ N. checks (testRules N rec) >> value (faultList N (testOf N c rec) (numbersFrom 1 (pathTotal N)))
+reply netlist (risingWork c rec) = readNetlist netlist >>= λ N. checks (testRules N rec) >> value (workingRuns N (testOf N c rec) rising ∷ [])
+reply netlist (newRising class rec) = testCall netlist class rec emptyStore enoughWork >>= λ r. value (r .returned .newFaults .onRising ∷ [])
+reply netlist (listed calls) = readNetlist netlist >>= λ N. value (firstRuns (afterCalls netlist N start calls .store))
+reply netlist (audited class testFile report) = auditCall netlist class testFile report emptyStore enoughWork >>= λ left. value (firstRuns left)
 
 -- document 01's Q: net 2 AND of 0, 1; net 3 OR of 2, 1
 unfoldable pub Q : List ℕ
@@ -135,22 +149,81 @@ starred =
     ∷ row Q paths (value (3 ∷ []))
     ∷ row Q (pathNumber 2) (value (0 ∷ 2 ∷ 0 ∷ 1 ∷ []))
     ∷ row Q (pathNumber 3) (value (0 ∷ 1 ∷ 1 ∷ []))
-    ∷ row Q (faultsOf detectsNone) (value [])
-    ∷ row Q (faultsOf detectsFalling) (value (4 ∷ 6 ∷ []))
-    ∷ row Q (faultsOf detectsRising) (value (5 ∷ []))
+    ∷ row Q (faultsOf nonRobust detectsNone) (value [])
+    ∷ row Q (faultsOf nonRobust detectsFalling) (value (4 ∷ 6 ∷ []))
+    ∷ row Q (faultsOf nonRobust detectsRising) (value (5 ∷ []))
     ∷ row (doubling 62) paths (value (2 ^ 62 ∷ []))
     ∷ row (doubling 63) paths (refused 17)
     ∷ row (headerBytes 1 0 1 ++ outputBytes 0) paths (value (0 ∷ []))
-    ∷ row (spread 2) (risingWork aRises) (value (293 ∷ []))
-    ∷ row (spread 3) (risingWork aRises) (value (2341 ∷ []))
-    ∷ row (spread 3) (newRising aRises) (refused 50)
+    ∷ row (spread 2) (risingWork nonRobust aRises) (value (293 ∷ []))
+    ∷ row (spread 3) (risingWork nonRobust aRises) (value (2341 ∷ []))
+    ∷ row (spread 3) (newRising 1 aRises) (refused 50)
     ∷ []
 
 -- The three tests as a file: the true report is accepted and leaves one run of each edge; with another number of tests it is refused 72
 unfoldable pub further : List Row
 further =
-    row Q (audited (detectsNone ++ detectsFalling ++ detectsRising) (reportOfThree 3)) (value (1 ∷ 1 ∷ 3 ∷ 3 ∷ 2 ∷ 3 ∷ []))
-    ∷ row Q (audited (detectsNone ++ detectsFalling ++ detectsRising) (reportOfThree 4)) (refused 72)
+    row Q (audited 1 (detectsNone ++ detectsFalling ++ detectsRising) (reportOfThree 3)) (value (1 ∷ 1 ∷ 3 ∷ 3 ∷ 2 ∷ 3 ∷ []))
+    ∷ row Q (audited 1 (detectsNone ++ detectsFalling ++ detectsRising) (reportOfThree 4)) (refused 72)
+    ∷ []
+
+-- one input a and a gate of two pins, both from a
+unfoldable pub twice : ℕ → List ℕ
+twice kind = headerBytes 1 1 1 ++ gateBytes kind (0 ∷ 0 ∷ []) ++ outputBytes 1
+
+unfoldable pub aFalls : List ℕ
+aFalls = testBytes (1 ∷ []) (0 ∷ [])
+
+-- inputs a, b; net 2 NOT a, net 3 AND(a, 2), which is 0 under every vector and has a hazard when a moves, net 4 OR(3, b)
+unfoldable pub hazard : List ℕ
+hazard = headerBytes 2 3 1 ++ gateBytes 2 (0 ∷ []) ++ gateBytes 3 (0 ∷ 2 ∷ []) ++ gateBytes 5 (3 ∷ 1 ∷ []) ++ outputBytes 4
+
+-- a rises, b falls
+unfoldable pub riseAndFall : List ℕ
+riseAndFall = testBytes (2 ∷ []) (1 ∷ [])
+
+-- the carry of a full adder, source document 003's figure 10: inputs a, b, c; net 3 AND(a, b), net 4 OR(a, b), net 5 AND(4, c), net 6 OR(3, 5)
+unfoldable pub carry : List ℕ
+carry = headerBytes 3 4 1 ++ gateBytes 3 (0 ∷ 1 ∷ []) ++ gateBytes 5 (0 ∷ 1 ∷ []) ++ gateBytes 3 (4 ∷ 2 ∷ []) ++ gateBytes 5 (3 ∷ 5 ∷ []) ++ outputBytes 6
+
+-- a test of it, V1 and V2 each with a in the lowest bit
+unfoldable pub carryTest : ℕ → ℕ → List ℕ
+carryTest v1 v2 = testBytes (v1 ∷ []) (v2 ∷ [])
+
+-- a call in a class, with working memory long enough
+unfoldable pub callIn : ℕ → List ℕ → Call
+callIn class rec = record { class = class; rec = rec; work = enoughWork }
+
+-- Robust tests. AND(a, a) is robustly open on both pins when a rises and on none when a falls, XOR(a, a) never. A hazard at a side pin that
+-- has to be steady keeps a pin shut, although the side pin's values are right. The tests of the carry are the robust tests of source document
+-- 003, table 1, for its paths 174, 274, 18124, 28124 and 3124, here 1 to 5
+unfoldable pub robustRows : List Row
+robustRows =
+    row (twice 3) (faultsOf robust aRises) (value (1 ∷ 3 ∷ []))
+    ∷ row (twice 3) (faultsOf robust aFalls) (value [])
+    ∷ row (twice 7) (faultsOf nonRobust aRises) (value (1 ∷ 3 ∷ []))
+    ∷ row (twice 7) (faultsOf robust aRises) (value [])
+    ∷ row hazard (steadyNets (testBytes (0 ∷ []) (3 ∷ []))) (value (0 ∷ 0 ∷ 0 ∷ 0 ∷ 0 ∷ []))
+    ∷ row hazard (steadyNets (testBytes (0 ∷ []) (2 ∷ []))) (value (1 ∷ 0 ∷ 1 ∷ 1 ∷ 0 ∷ []))
+    ∷ row hazard (faultsOf nonRobust (testBytes (0 ∷ []) (3 ∷ []))) (value (5 ∷ []))
+    ∷ row hazard (faultsOf robust (testBytes (0 ∷ []) (3 ∷ []))) (value [])
+    ∷ row hazard (faultsOf nonRobust riseAndFall) (value (3 ∷ 6 ∷ []))
+    ∷ row hazard (faultsOf robust riseAndFall) (value (6 ∷ []))
+    ∷ row hazard (listed (callIn 2 riseAndFall ∷ [])) (value (0 ∷ 1 ∷ 0 ∷ 0 ∷ 3 ∷ 3 ∷ []))
+    ∷ row hazard (listed (callIn 2 riseAndFall ∷ callIn 3 riseAndFall ∷ callIn 1 riseAndFall ∷ [])) (value (1 ∷ 1 ∷ 2 ∷ 2 ∷ 3 ∷ 3 ∷ []))
+    ∷ row carry (steadyNets (carryTest 0 5)) (value (0 ∷ 1 ∷ 0 ∷ 1 ∷ 0 ∷ 0 ∷ 0 ∷ []))
+    ∷ row carry (faultsOf robust (carryTest 7 2)) (value (2 ∷ 10 ∷ []))
+    ∷ row carry (faultsOf robust (carryTest 0 3)) (value (1 ∷ 3 ∷ []))
+    ∷ row carry (faultsOf robust (carryTest 7 1)) (value (4 ∷ 10 ∷ []))
+    ∷ row carry (faultsOf robust (carryTest 7 4)) (value (6 ∷ 8 ∷ []))
+    ∷ row carry (faultsOf robust (carryTest 0 5)) (value (5 ∷ 9 ∷ []))
+    ∷ row carry (faultsOf robust (carryTest 0 6)) (value (7 ∷ 9 ∷ []))
+    ∷ row (spread 2) (risingWork robust aRises) (value (1 ∷ []))
+    ∷ row Q (newRising 2 detectsRising) (value (1 ∷ []))
+    ∷ row Q (newRising 3 detectsRising) (refused 83)
+    ∷ row [] (newRising 3 detectsRising) (refused 10)
+    ∷ row Q (audited 2 (detectsNone ++ detectsFalling ++ detectsRising) (reportOfThree 3)) (value (1 ∷ 1 ∷ 3 ∷ 3 ∷ 2 ∷ 3 ∷ []))
+    ∷ row Q (audited 0 (0 ∷ []) []) (refused 83)
     ∷ []
 
 -- Ticket 1: a gate of one pin was 14 and is taken; no pin and nine pins are 14, two pins of NOT too. NAND of one pin is NOT, and its pin is open.
@@ -164,14 +237,14 @@ requested =
     ∷ row (oneGate 8 0) paths (refused 14)
     ∷ row (oneGate 8 9) paths (refused 14)
     ∷ row (oneGate 2 2) paths (refused 14)
-    ∷ row (oneGate 5 1) (faultsOf (testBytes (1 ∷ []) (0 ∷ []))) (value (2 ∷ []))
-    ∷ row (besideOnePin 4) (faultsOf (bRises 0)) (value (1 ∷ []))
-    ∷ row (besideOnePin 4) (faultsOf (bRises 1)) (value [])
-    ∷ row (besideOnePin 7) (faultsOf (bRises 1)) (value (1 ∷ []))
+    ∷ row (oneGate 5 1) (faultsOf nonRobust (testBytes (1 ∷ []) (0 ∷ []))) (value (2 ∷ []))
+    ∷ row (besideOnePin 4) (faultsOf nonRobust (bRises 0)) (value (1 ∷ []))
+    ∷ row (besideOnePin 4) (faultsOf nonRobust (bRises 1)) (value [])
+    ∷ row (besideOnePin 7) (faultsOf nonRobust (bRises 1)) (value (1 ∷ []))
     ∷ row (withOutputs (0 ∷ 1 ∷ 3 ∷ [])) netCounts (value (1 ∷ 1 ∷ 2 ∷ 3 ∷ []))
     ∷ row (withOutputs (0 ∷ 1 ∷ 3 ∷ [])) paths (value (3 ∷ []))
     ∷ row (withOutputs (0 ∷ 1 ∷ 3 ∷ [])) (pathNumber 1) (value (2 ∷ 2 ∷ 0 ∷ 0 ∷ []))
-    ∷ row (withOutputs (0 ∷ 1 ∷ 3 ∷ [])) (faultsOf detectsRising) (value (5 ∷ []))
+    ∷ row (withOutputs (0 ∷ 1 ∷ 3 ∷ [])) (faultsOf nonRobust detectsRising) (value (5 ∷ []))
     ∷ row (withOutputs (0 ∷ 3 ∷ 1 ∷ [])) paths (refused 19)
     ∷ row halves paths (value (2 ^ 62 ∷ []))
     ∷ []

@@ -12,6 +12,7 @@ pub mod Report
 pub mod Numbering
 pub mod Demand3
 pub mod Wires
+pub mod Classes
 pub mod Encode
 pub mod Examples
 pub mod Refusals

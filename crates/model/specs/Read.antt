@@ -7,7 +7,7 @@ use lib.Dec.{ltb, leb, eqb}
 use lib.ListN.{length, getD, drop, replicate}
 use Rattle.model.specs.Base.{Answer, value, _>>=_, _>>_, Rule, checks, allOf, numbersFrom, field, bit}
 use Rattle.model.specs.Netlist.{Netlist, Gate, Kind, buffer, inverter, and, nand, or, nor, xor, xnor, maxNets, maxCount, gateCount, netByNet, atNets, outputCount}
-use Rattle.model.specs.Detect.{Test}
+use Rattle.model.specs.Detect.{Class, nonRobust, robust, Test}
 
 -- the part begins with the two bytes of a mark
 abbrev pub marked : ℕ → ℕ → List ℕ → Bool
@@ -133,9 +133,17 @@ v1Part N bs = drop 2 bs
 abbrev pub v2Part : Netlist → List ℕ → List ℕ
 v2Part N bs = drop (2 + vectorBytes (N .inputs)) bs
 
--- The test in a record
-unfoldable pub testOf : Netlist → List ℕ → Test
-testOf N bs = record { v1 = vector (N .inputs) (v1Part N bs); v2 = vector (N .inputs) (v2Part N bs) }
+-- classes by their number, from 1
+abbrev pub classOf : ℕ → Class
+classOf k = getD (nonRobust ∷ nonRobust ∷ robust ∷ []) k nonRobust
+
+-- Class: 1 (non-robust) or 2 (robust), else 83, after the netlist's checks and before 33 and 30
+abbrev pub classRule : ℕ → Rule
+classRule class = (83, within 1 2 class)
+
+-- The test in a record, judged in a class
+unfoldable pub testOf : Netlist → Class → List ℕ → Test
+testOf N c bs = record { v1 = vector (N .inputs) (v1Part N bs); v2 = vector (N .inputs) (v2Part N bs); class = c }
 
 -- Test, for a single call
 abbrev pub testRules : Netlist → List ℕ → List Rule

@@ -38,3 +38,4 @@ refusalNumber why.NetlistBufferLength = 4
 refusalNumber why.BenchLine = 80
 refusalNumber why.BenchName = 81
 refusalNumber why.BenchCount = 82
+refusalNumber why.UnknownClass = 83

@@ -1,5 +1,5 @@
 -- The report record, the writer and the audit, each as a function of what it is handed.
--- Names: testFile is the bytes that an audit is handed as test records, report those that it is handed as report; testCount is a number of tests.
+-- Names: class is the number of a class, for all records of a file; testFile is the bytes that an audit is handed as test records, report those that it is handed as report; testCount is a number of tests.
 -- Assumes nothing.
 use mathlib.Core.Bool.{Bool, true, false, _&&_}
 use mathlib.Core.List.{List, [], _∷_, _++_}
@@ -10,7 +10,8 @@ use Rattle.model.specs.Base.{Answer, refused, value, _>>=_, _>>_, Rule, 
 use Rattle.model.specs.Netlist.{Netlist, pathTotal}
 use Rattle.model.specs.Path.{Edge, rising, falling}
 use Rattle.model.specs.Runs.{Run, size}
-use Rattle.model.specs.Read.{marked, readNetlist, recordLength}
+use Rattle.model.specs.Detect.{Class}
+use Rattle.model.specs.Read.{marked, readNetlist, classOf, recordLength}
 use Rattle.model.specs.Store.{ByEdge, emptyStore, runsByEdge, storeRules}
 use Rattle.model.specs.Calls.{storeRule, storeLeft, testStage, beforeTest}
 
@@ -78,10 +79,10 @@ fileRecords N testFile = records (recordLength N) (length testFile / recordLengt
 abbrev pub wholeRecords : Netlist → List ℕ → Bool
 wholeRecords N testFile = eqb (length testFile % recordLength N) 0 && leb (length testFile / recordLength N) 4294967295
 
--- the test calls with the records in order; the store that they leave
-unfoldable pub testAll : Netlist → List (List ℕ) → List ℕ → Answer (List ℕ)
-testAll N [] ws = value ws
-testAll N (r ∷ rs) ws = testStage N r ws >>= λ d. testAll N rs (storeLeft d)
+-- the test calls with the records in order, all in one class; the store that they leave
+unfoldable pub testAll : Netlist → Class → List (List ℕ) → List ℕ → Answer (List ℕ)
+testAll N c [] ws = value ws
+testAll N c (r ∷ rs) ws = testStage N c r ws >>= λ d. testAll N c rs (storeLeft d)
 
 abbrev pub sameBytes : List ℕ → List ℕ → Bool
 sameBytes [] [] = true
@@ -99,21 +100,21 @@ reportRules report written =
 
 -- The audit: it empties the store unread, makes the test calls in file order, and accepts if the report's bytes are those that the writer
 -- gives for the store then reached and the number of records in the file
-unfoldable pub auditCall : List ℕ → List ℕ → List ℕ → List ℕ → List ℕ → Answer (List ℕ)
-auditCall netlist testFile report ws work =
-    beforeTest netlist ws work
+unfoldable pub auditCall : List ℕ → ℕ → List ℕ → List ℕ → List ℕ → List ℕ → Answer (List ℕ)
+auditCall netlist class testFile report ws work =
+    beforeTest netlist class ws work
     >>= λ N. checks ((33, wholeRecords N testFile) ∷ [])
-    >> testAll N (fileRecords N testFile) emptyStore
+    >> testAll N (classOf class) (fileRecords N testFile) emptyStore
     >>= λ left. checks (reportRules report (reportRecord (length (fileRecords N testFile)) (pathTotal N) (runsByEdge left)))
     >> value left
 
-unfoldable pub auditAnswer : List ℕ → List ℕ → List ℕ → List ℕ → List ℕ → Answer (Unit {0})
-auditAnswer netlist testFile report ws work = passes (auditCall netlist testFile report ws work)
+unfoldable pub auditAnswer : List ℕ → ℕ → List ℕ → List ℕ → List ℕ → List ℕ → Answer (Unit {0})
+auditAnswer netlist class testFile report ws work = passes (auditCall netlist class testFile report ws work)
 
 -- the store afterwards: refused with a number over 2 it is all zeros, with 1 or 2 as found
 abbrev pub auditAfter : Answer (List ℕ) → List ℕ → List ℕ
 auditAfter (refused n) ws = elim (leb n 2) [ true ↦ ws | false ↦ emptyStore ]
 auditAfter (value left) ws = left
 
-unfoldable pub auditStore : List ℕ → List ℕ → List ℕ → List ℕ → List ℕ → List ℕ
-auditStore netlist testFile report ws work = auditAfter (auditCall netlist testFile report ws work) ws
+unfoldable pub auditStore : List ℕ → ℕ → List ℕ → List ℕ → List ℕ → List ℕ → List ℕ
+auditStore netlist class testFile report ws work = auditAfter (auditCall netlist class testFile report ws work) ws

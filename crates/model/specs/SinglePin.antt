@@ -9,7 +9,7 @@ use lib.Dec.{ltb, leb, eqb}
 use lib.ListN.{length, getD, drop}
 use Rattle.model.specs.Base.{Answer, value, _>>=_, _>>_, Rule, checks, allOf}
 use Rattle.model.specs.Netlist.{Netlist, Gate, Kind, buffer, inverter, and, nand, or, nor, xor, xnor, maxCount, gateCount, netByNet}
-use Rattle.model.specs.Detect.{gateValue, isOpen}
+use Rattle.model.specs.Detect.{nonRobust, robust, Evaluation, gateValue, differs, isOpen}
 use Rattle.model.specs.Read.{marked, within, pinsFit, gateIn, countIn, readOutputs, inputsIn, gatesIn, outputsIn, headerRules, inputCounts, readNetlist}
 use Rattle.model.specs.Calls.{surveyOf, surveyCall}
 
@@ -58,7 +58,8 @@ readNetlistBy fit bs =
 pub record SinglePin : Type 0 where
   -- what one pin does
   pub onePinValue : (kind : Kind) (v : Bool) → gateValue kind (v ∷ []) ≡ gateValue (onePinActs kind) (v ∷ [])
-  pub onePinOpen : (kind : Kind) (v : Bool) → isOpen kind (v ∷ []) 0 ≡ true
+  pub onePinOpen : (kind : Kind) (n : Evaluation) → isOpen nonRobust kind (n ∷ []) 0 ≡ true
+  pub onePinRobust : (kind : Kind) (n : Evaluation) → isOpen robust kind (n ∷ []) 0 ≡ differs n
   -- the reader that the calls use is the one with `pinsFit`
   pub sameReader : (file : List ℕ) → readNetlistBy pinsFit file ≡ readNetlist file
   -- a netlist that was legal is read as it was, and has the same survey; every other call sees it through `readNetlist` alone

@@ -1,5 +1,6 @@
 // What the crates share: the papers' refusals, and the sizes that they name. What the calls mean stands in specs/.
 ghost use mathlib.Core.Path.{_≡_};
+ghost use Rattle.model.specs.Read.{within};
 ghost use Rattle.model.specs.Refusals.{refusalNumber};
 
 // The words of a store: two numbers of runs, then the places of each edge.
@@ -23,6 +24,11 @@ pub const REPORT_BYTES: usize = 32802;
 
 // No count and no total passes this: 2^62.
 pub const MAX_COUNT: u64 = 0x4000_0000_0000_0000;
+
+// The classes of tests by their numbers.
+pub const NON_ROBUST: u32 = 1;
+
+pub const ROBUST: u32 = 2;
 
 // Why a call is refused, a case for each condition of document 01's table, then for those of document 02.
 pub enum Refusal {
@@ -59,6 +65,14 @@ pub enum Refusal {
     BenchLine,
     BenchName,
     BenchCount,
+    UnknownClass,
+}
+
+// Class 1 or 2.
+pub fn known_class(class: u32) -> bool
+    ensures { λ r. ⌜ r ≡ within 1 2 class ⌝ }
+{
+    NON_ROBUST <= class && class <= ROBUST
 }
 
 // The papers' number of a refusal.
@@ -99,5 +113,6 @@ pub fn refusal_number(why: Refusal) -> u32
         Refusal::BenchLine => 80,
         Refusal::BenchName => 81,
         Refusal::BenchCount => 82,
+        Refusal::UnknownClass => 83,
     }
 }

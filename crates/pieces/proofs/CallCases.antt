@@ -1,14 +1,16 @@
 -- The public calls of an audit in pieces, beginning and piece, case by case as the code meets them.
 -- Assumes nothing.
 use mathlib.Core.Path.{_≡_, refl, ap, ap₂, sym, _∙_}
+use mathlib.Core.Bool.{Bool, true, false, not}
 use mathlib.Core.List.{List}
 use Prim.Native.Nat.{ℕ, _+_, _^_, _≤_, _<_}
 use native.Mathlib.Omega.{arith}
 use borrow.Author.Needs.{needs}
+use borrow.Author.Tests.{not-true, not-false}
 use lib.ListN.{length, replicate}
 use Rattle.model.specs.Base.{Answer, refused, value, checks, passes}
 use Rattle.model.specs.Netlist.{Netlist, pathTotal}
-use Rattle.model.specs.Read.{readNetlist}
+use Rattle.model.specs.Read.{within, readNetlist, classOf}
 use Rattle.model.specs.Refusals.{refusalNumber}
 use Rattle.model.specs.Store.{storeWords, storeRules}
 use Rattle.model.specs.Calls.{workWords, beforeTest}
@@ -37,11 +39,12 @@ use Rattle.pieces.specs.Calls.{BegunTrue, RecordsSaid, pieceOf, recordsS
 use Rattle.pieces.proofs.StepCases.{lent-words, lent-short, lent-passed}
 
 -- The beginning
-pub begun-answer : (r : Begun) (netlist ws ws′ work : List ℕ) → BeginTrue r netlist ws ws′ work → BegunTrue (r .answer) netlist ws ws′ work
-begun-answer r netlist ws ws′ work t = record { answer = t .answer; store = t .store }
+pub begun-answer : (r : Begun) (netlist : List ℕ) (class : ℕ) (ws ws′ work : List ℕ) → BeginTrue r netlist class ws ws′ work
+    → BegunTrue (r .answer) netlist class ws ws′ work
+begun-answer r netlist class ws ws′ work t = record { answer = t .answer; store = t .store }
 
 -- A piece on a legal netlist
-module _ (netlist : List ℕ) (loaded : Loaded) (bytes ws work : List ℕ) (ready : PieceReady netlist loaded ws work) where
+module _ (netlist : List ℕ) (loaded : Loaded) (class : ℕ) (bytes ws work : List ℕ) (ready : PieceReady netlist loaded ws work) where
   pub on-paths : loaded .survey .total ≤ 2 ^ 62
   on-paths = omega (arith, ready .totalIs, limits netlist (ready .circuit) (ready .tables .legal) .totalFits)
 
@@ -53,7 +56,7 @@ module _ (netlist : List ℕ) (loaded : Loaded) (bytes ws work : List ℕ) (read
     checked-is N q = ap (λ (p : ℕ). checks (storeRules p ws)) (sym (total-of N q)) ∙ sym ek
 
     pub on-refused : (w : Refusal) → k ≡ check.Refused w → (ws′ : List ℕ) → ws′ ≡ replicate (length ws) 0
-        → PieceStaged (piece.Refused w) netlist bytes ws ws′ work work
+        → PieceStaged (piece.Refused w) netlist class bytes ws ws′ work work
     unfolding leftStore
     on-refused w e ws′ z =
         let x : (N : Netlist) → readNetlist netlist ≡ value N → checks (storeRules (pathTotal N) ws) ≡ refused (refusalNumber w) =
@@ -78,16 +81,16 @@ module _ (netlist : List ℕ) (loaded : Loaded) (bytes ws work : List ℕ) (read
         memory = record { storeLength = ready .storeLength; sound = sound-is (ready .circuit) (ready .tables .legal); workLength = ready .workLength };
       }
 
-      module _ (r : TakenRecords) (ws′ work′ : List ℕ) (t : PieceTaken r netlist loaded (record { taken = 0; answer = file.Taken }) bytes ws ws′ work work′) where
-        said-is : (N : Netlist) → readNetlist netlist ≡ value N → record { taken = r .taken; said = passes (fileOf (r .answer) ws′) } ≡ recordsSaid N bytes ws
+      module _ (r : TakenRecords) (ws′ work′ : List ℕ) (t : PieceTaken r netlist loaded class (record { taken = 0; answer = file.Taken }) bytes ws ws′ work work′) where
+        said-is : (N : Netlist) → readNetlist netlist ≡ value N → record { taken = r .taken; said = passes (fileOf (r .answer) ws′) } ≡ recordsSaid N (classOf class) bytes ws
         unfolding recordsSaid withPiece takenWith
         said-is N q =
-            let a : r .taken ≡ takenOf N (fileRecords N bytes) ws = omega (arith, t .taken N q) in
-            let b : passes (fileOf (r .answer) ws′) ≡ passes (testAll N (fileRecords N bytes) ws) = ap (λ (x : Answer (List ℕ)). passes x) (t .answer N q) in
+            let a : r .taken ≡ takenOf N (classOf class) (fileRecords N bytes) ws = omega (arith, t .taken N q) in
+            let b : passes (fileOf (r .answer) ws′) ≡ passes (testAll N (classOf class) (fileRecords N bytes) ws) = ap (λ (x : Answer (List ℕ)). passes x) (t .answer N q) in
             λ i. record { taken = a i; said = b i }
 
         staged : (p : PieceAnswer) → pieceOf p ≡ value (record { taken = r .taken; said = passes (fileOf (r .answer) ws′) })
-            → PieceStaged p netlist bytes ws ws′ work work′
+            → PieceStaged p netlist class bytes ws ws′ work work′
         unfolding pieceStore
         staged p e = record {
           answer = λ N q. rw (sound-is N q) (e ∙ ap (λ (x : RecordsSaid). value x) (said-is N q));
@@ -99,33 +102,33 @@ module _ (netlist : List ℕ) (loaded : Loaded) (bytes ws work : List ℕ) (read
               absurd (not-refused (sym f ∙ x));
         }
 
-        pub on-taken : r .answer ≡ file.Taken → PieceStaged (piece.Taken (r .taken)) netlist bytes ws ws′ work work′
+        pub on-taken : r .answer ≡ file.Taken → PieceStaged (piece.Taken (r .taken)) netlist class bytes ws ws′ work work′
         on-taken e = staged (piece.Taken (r .taken)) (rw e refl)
 
-        pub on-record : (w : Refusal) → r .answer ≡ file.Refused w → PieceStaged (piece.RecordRefused (r .taken) w) netlist bytes ws ws′ work work′
+        pub on-record : (w : Refusal) → r .answer ≡ file.Refused w → PieceStaged (piece.RecordRefused (r .taken) w) netlist class bytes ws ws′ work work′
         on-record w e = staged (piece.RecordRefused (r .taken) w) (rw e refl)
 
 pub ruleset on-cases = (on-paths, on-refused, on-ready, on-taken, on-record, needs)
 
 -- A piece
-module _ (netlist bytes ws work : List ℕ) where
-  untouched : PieceWork netlist ws work work
+module _ (netlist : List ℕ) (class : ℕ) (bytes ws work : List ℕ) where
+  untouched : PieceWork netlist class ws work work
   untouched = record { sameLength = refl; pastWork = refl; notReached = λ n e. refl }
 
-  at-lent : (w : Refusal) → lentRules ws work ≡ refused (refusalNumber w) → PieceTrue (piece.Refused w) netlist bytes ws ws work work
+  at-lent : (w : Refusal) → lentRules ws work ≡ refused (refusalNumber w) → PieceTrue (piece.Refused w) netlist class bytes ws ws work work
   unfolding pieceAnswer pieceLeft
   at-lent w e = record { answer = rw e refl; store = rw e refl; memory = untouched }
 
-  pub piece-words : (length ws ≡ storeWords → ⊥) → PieceTrue (piece.Refused why.StoreLength) netlist bytes ws ws work work
+  pub piece-words : (length ws ≡ storeWords → ⊥) → PieceTrue (piece.Refused why.StoreLength) netlist class bytes ws ws work work
   piece-words d = at-lent why.StoreLength (lent-words ws work d)
 
   module _ (l : length ws ≡ storeWords) where
-    pub piece-short : length work < workWords → PieceTrue (piece.Refused why.WorkLength) netlist bytes ws ws work work
+    pub piece-short : length work < workWords → PieceTrue (piece.Refused why.WorkLength) netlist class bytes ws ws work work
     piece-short h = at-lent why.WorkLength (lent-short ws work l h)
 
     module _ (h : workWords ≤ length work) (loaded : Loaded) (t : LoadTrue loaded netlist) where
       pub piece-netlist : (w : Refusal) → loaded .answer ≡ survey.Refused w → (ws′ : List ℕ) → ws′ ≡ replicate (length ws) 0
-          → PieceTrue (piece.Refused w) netlist bytes ws ws′ work work
+          → PieceTrue (piece.Refused w) netlist class bytes ws ws′ work work
       unfolding pieceAnswer pieceLeft pieceCall leftStore
       piece-netlist w e ws′ z =
           let p = lent-passed ws work l h in
@@ -155,15 +158,30 @@ module _ (netlist bytes ws work : List ℕ) where
               workLength = h;
             }
 
-        pub piece-done : (r : PieceAnswer) (ws′ work′ : List ℕ) → PieceStaged r netlist bytes ws ws′ work work′ → PieceTrue r netlist bytes ws ws′ work work′
+        pub piece-class : (k : Bool) → k ≡ within 1 2 class → not k ≡ true → (ws′ : List ℕ) → ws′ ≡ replicate (length ws) 0
+            → PieceTrue (piece.Refused why.UnknownClass) netlist class bytes ws ws′ work work
+        unfolding pieceAnswer pieceLeft pieceCall leftStore
+        piece-class k ek n ws′ z =
+            let p = lent-passed ws work l h in
+            let q = loaded-legal loaded netlist t e .isRead in
+            let u : within 1 2 class ≡ false = sym ek ∙ not-true k n in
+            record {
+              answer = rw (p, q) (rw u refl);
+              store = emptied ws′ (length ws) z l ∙ rw (p, q) (rw u refl);
+              memory = untouched;
+            }
+
+        pub piece-done : (r : PieceAnswer) (ws′ work′ : List ℕ) (k : Bool) → k ≡ within 1 2 class → not k ≡ false
+            → PieceStaged r netlist class bytes ws ws′ work work′ → PieceTrue r netlist class bytes ws ws′ work work′
         unfolding pieceAnswer pieceLeft pieceCall
-        piece-done r ws′ work′ s =
+        piece-done r ws′ work′ k ek n s =
             let d = loaded-legal loaded netlist t e in
             let p = lent-passed ws work l h in
-            let before : beforeTest netlist ws work ≡ value (d .netlist) = rw (p, d .isRead) refl in
+            let u : within 1 2 class ≡ true = sym ek ∙ not-false k n in
+            let before : beforeTest netlist class ws work ≡ value (d .netlist) = rw (p, d .isRead) (rw u refl) in
             record {
-              answer = s .answer (d .netlist) (d .isRead) ∙ rw (p, d .isRead) refl;
-              store = s .store (d .netlist) (d .isRead) ∙ rw (p, d .isRead) refl;
+              answer = s .answer (d .netlist) (d .isRead) ∙ rw (p, d .isRead) (rw u refl);
+              store = s .store (d .netlist) (d .isRead) ∙ rw (p, d .isRead) (rw u refl);
               memory = record {
                 sameLength = s .sameLength;
                 pastWork = s .pastWork;
@@ -171,4 +189,4 @@ module _ (netlist bytes ws work : List ℕ) where
               };
             }
 
-pub ruleset call-piece-cases = (piece-words, piece-short, piece-netlist, piece-legal, piece-done, needs)
+pub ruleset call-piece-cases = (piece-words, piece-short, piece-netlist, piece-class, piece-legal, piece-done, needs)

@@ -11,10 +11,11 @@ use lib.Dec.{eqb}
 use lib.ListN.{length, drop}
 use Rattle.model.specs.Base.{Answer, refused, value, _>>=_, _>>_, checks, passes}
 use Rattle.model.specs.Netlist.{Netlist, pathTotal}
-use Rattle.model.specs.Read.{readNetlist}
+use Rattle.model.specs.Detect.{Class}
+use Rattle.model.specs.Read.{within, readNetlist, classOf}
 use Rattle.model.specs.Refusals.{refusalNumber}
 use Rattle.model.specs.Store.{storeWords, emptyStore, storeRules}
-use Rattle.model.specs.Calls.{workWords, storeRule}
+use Rattle.model.specs.Calls.{workWords, storeRule, beforeTest}
 use Rattle.model.specs.Report.{fileRecords, testAll}
 use Rattle.model.specs.declared.Refusal.{Refusal}
 use Rattle.model.proofs.AnswerLaws.{not-refused, value-inj}
@@ -32,34 +33,37 @@ use Rattle.pieces.specs.Calls.{soFar, endLegal, endStage, endCall, endAn
 use Rattle.pieces.specs.Together.{joined, withPieces, MadeCall, callBytes, firstOf, takenIn, HandedOver, lastFirst, lastTaken, lastStore, lastMemory}
 use Rattle.pieces.specs.Together.{OnlyByRecords, PiecesMade, WholeAudit}
 use Rattle.pieces.proofs.StepCases.{lent-passed, left-memory}
-use Rattle.pieces.proofs.TogetherHolds.{pieces-joined, end-answer, end-store, end-work, begun-lent, begun-empty, begun-memory}
+use Rattle.pieces.proofs.TogetherHolds.{pieces-joined, end-answer, end-store, end-work, begun-lent, begun-known, begun-before, begun-empty, begun-memory}
 use Rattle.pieces.proofs.TakenLaws.{takenWiths, taken-whole}
 
 -- One call on a legal netlist and a store that no rule refuses
-module _ (netlist : List ℕ) (N : Netlist) (e : readNetlist netlist ≡ value N) (bytes ws ws′ work work′ : List ℕ) (m : MemoryReady N ws work)
-    (r : PieceAnswer) (t : PieceTrue r netlist bytes ws ws′ work work′) where
+module _ (netlist : List ℕ) (N : Netlist) (e : readNetlist netlist ≡ value N) (class : ℕ) (known : within 1 2 class ≡ true)
+    (bytes ws ws′ work work′ : List ℕ) (m : MemoryReady N ws work) (r : PieceAnswer) (t : PieceTrue r netlist class bytes ws ws′ work work′) where
+  abbrev c : Class
+  c = classOf class
+
   abbrev tests : Answer (List ℕ)
-  tests = testAll N (fileRecords N bytes) ws
+  tests = testAll N c (fileRecords N bytes) ws
 
   lent : lentRules ws work ≡ value tt
   lent = lent-passed ws work (m .storeLength) (m .workLength)
 
-  said : pieceOf r ≡ value (recordsSaid N bytes ws)
+  said : pieceOf r ≡ value (recordsSaid N c bytes ws)
   unfolding pieceAnswer
-  said = t .answer ∙ rw (lent, e) (rw (m .sound) refl)
+  said = t .answer ∙ rw (lent, e) (rw known (rw (m .sound) refl))
 
   left-is : ws′ ≡ leftStore tests
   unfolding pieceLeft pieceCall
-  left-is = t .store ∙ rw (lent, e) (rw (m .sound) refl)
+  left-is = t .store ∙ rw (lent, e) (rw known (rw (m .sound) refl))
 
   pub memory-then : MemoryReady N ws′ work′
-  memory-then = subst (λ (s : List ℕ). MemoryReady N s work′) (sym left-is) (left-memory N ws work work′ m (t .memory .sameLength) (fileRecords N bytes))
+  memory-then = subst (λ (s : List ℕ). MemoryReady N s work′) (sym left-is) (left-memory N c ws work work′ m (t .memory .sameLength) (fileRecords N bytes))
 
   -- it is not refused before its records
   pub not-before : (w : Refusal) → r ≡ piece.Refused w → ⊥
   not-before w q = not-refused (sym (ap pieceOf q) ∙ said)
 
-  state-by : (a : PieceAnswer) → pieceOf a ≡ value (recordsSaid N bytes ws) → soFar (firstOf a) ws′ ≡ tests
+  state-by : (a : PieceAnswer) → pieceOf a ≡ value (recordsSaid N c bytes ws) → soFar (firstOf a) ws′ ≡ tests
   unfolding recordsSaid soFar leftStore
   state-by (piece.Taken k) q =
       let p : value tt ≡ passes tests = ap (λ (x : RecordsSaid). x .said) (value-inj q) in
@@ -68,75 +72,76 @@ module _ (netlist : List ℕ) (N : Netlist) (e : readNetlist netlist ≡ value N
   state-by (piece.RecordRefused k w) q =
       let p : refused (refusalNumber w) ≡ passes tests = ap (λ (x : RecordsSaid). x .said) (value-inj q) in
       let g : tests ≡ refused (refusalNumber w) = refused-by tests (refusalNumber w) p in
-      let o : 2 < refusalNumber w = refused-over 2 (refusalNumber w) tests (all-over N (fileRecords N bytes) ws) g in
+      let o : 2 < refusalNumber w = refused-over 2 (refusalNumber w) tests (all-over N c (fileRecords N bytes) ws) g in
       let z : eqb (refusalNumber w) 0 ≡ false = ne-eqb (refusalNumber w) 0 (λ h. absurd (omega (arith, o, h))) in
       rw (z, soFar) (sym g)
   state-by (piece.Refused w) q = absurd (not-refused q)
 
-  pub state-then : soFar (firstOf r) ws′ ≡ withPiece N bytes (value ws)
+  pub state-then : soFar (firstOf r) ws′ ≡ withPiece N c bytes (value ws)
   unfolding withPiece
   state-then = state-by r said
 
-  taken-by-answer : (a : PieceAnswer) → pieceOf a ≡ value (recordsSaid N bytes ws) → takenIn a ≡ takenOf N (fileRecords N bytes) ws
+  taken-by-answer : (a : PieceAnswer) → pieceOf a ≡ value (recordsSaid N c bytes ws) → takenIn a ≡ takenOf N c (fileRecords N bytes) ws
   unfolding recordsSaid
   taken-by-answer (piece.Taken k) q = ap (λ (x : RecordsSaid). x .taken) (value-inj q)
   taken-by-answer (piece.RecordRefused k w) q = ap (λ (x : RecordsSaid). x .taken) (value-inj q)
   taken-by-answer (piece.Refused w) q = absurd (not-refused q)
 
-  pub taken-then : takenIn r ≡ takenOf N (fileRecords N bytes) ws
+  pub taken-then : takenIn r ≡ takenOf N c (fileRecords N bytes) ws
   taken-then = taken-by-answer r said
 
 -- What holds after a list of calls
-record AfterCalls (N : Netlist) (first : ℕ) (ws work : List ℕ) (ms : List MadeCall) : Type 0 where
-  pub state : soFar (lastFirst first ms) (lastStore ws ms) ≡ withPieces N (callBytes ms) (soFar first ws)
+record AfterCalls (N : Netlist) (c : Class) (first : ℕ) (ws work : List ℕ) (ms : List MadeCall) : Type 0 where
+  pub state : soFar (lastFirst first ms) (lastStore ws ms) ≡ withPieces N c (callBytes ms) (soFar first ws)
   pub memory : MemoryReady N (lastStore ws ms) (lastMemory work ms)
   pub sameLength : length (lastMemory work ms) ≡ length work
   pub pastWork : drop workWords (lastMemory work ms) ≡ drop workWords work
-  pub taken : (k : ℕ) → lastTaken first k ms ≡ takenWiths N (callBytes ms) (soFar first ws) k
+  pub taken : (k : ℕ) → lastTaken first k ms ≡ takenWiths N c (callBytes ms) (soFar first ws) k
   pub byRecords : OnlyByRecords first ms
 
 -- once there is a refusal, nothing changes
-module _ (N : Netlist) (n : ℕ) where
+module _ (N : Netlist) (c : Class) (n : ℕ) where
   refused-so-far : (ws : List ℕ) → soFar (suc n) ws ≡ refused (suc n)
   unfolding soFar
   refused-so-far ws = rw (ne-eqb (suc n) 0 (λ h. absurd (omega (arith, h))), soFar) refl
 
-  kept-state : (bytes ws left : List ℕ) → soFar (suc n) left ≡ withPiece N bytes (soFar (suc n) ws)
+  kept-state : (bytes ws left : List ℕ) → soFar (suc n) left ≡ withPiece N c bytes (soFar (suc n) ws)
   unfolding withPiece
-  kept-state bytes ws left = refused-so-far left ∙ sym (ap (withPiece N bytes) (refused-so-far ws))
+  kept-state bytes ws left = refused-so-far left ∙ sym (ap (withPiece N c bytes) (refused-so-far ws))
 
-  kept-taken : (bytes ws : List ℕ) (k : ℕ) → k ≡ takenWith N bytes (soFar (suc n) ws) k
+  kept-taken : (bytes ws : List ℕ) (k : ℕ) → k ≡ takenWith N c bytes (soFar (suc n) ws) k
   unfolding takenWith
-  kept-taken bytes ws k = sym (ap (λ (x : Answer (List ℕ)). takenWith N bytes x k) (refused-so-far ws))
+  kept-taken bytes ws k = sym (ap (λ (x : Answer (List ℕ)). takenWith N c bytes x k) (refused-so-far ws))
 
-after-calls : (netlist : List ℕ) (N : Netlist) → readNetlist netlist ≡ value N → (ms : List MadeCall) (first : ℕ) (ws work : List ℕ)
-    → MemoryReady N ws work → HandedOver netlist first ws work ms → AfterCalls N first ws work ms
+after-calls : (netlist : List ℕ) (N : Netlist) → readNetlist netlist ≡ value N → (class : ℕ) → within 1 2 class ≡ true
+    → (ms : List MadeCall) (first : ℕ) (ws work : List ℕ)
+    → MemoryReady N ws work → HandedOver netlist class first ws work ms → AfterCalls N (classOf class) first ws work ms
 unfolding withPieces withPiece takenWith soFar
-after-calls netlist N e [] zero ws work m p = record { state = refl; memory = m; sameLength = refl; pastWork = refl; taken = λ k. refl; byRecords = tt }
-after-calls netlist N e [] (suc n) ws work m p = record { state = refl; memory = m; sameLength = refl; pastWork = refl; taken = λ k. refl; byRecords = tt }
-after-calls netlist N e (c ∷ cs) zero ws work m p =
+after-calls netlist N e class known [] zero ws work m p = record { state = refl; memory = m; sameLength = refl; pastWork = refl; taken = λ k. refl; byRecords = tt }
+after-calls netlist N e class known [] (suc n) ws work m p = record { state = refl; memory = m; sameLength = refl; pastWork = refl; taken = λ k. refl; byRecords = tt }
+after-calls netlist N e class known (c ∷ cs) zero ws work m p =
     let t = p .0 in
-    let s = state-then netlist N e (c .bytes) ws (c .left) work (c .workLeft) m (c .answer) t in
-    let m′ = memory-then netlist N e (c .bytes) ws (c .left) work (c .workLeft) m (c .answer) t in
-    let i = after-calls netlist N e cs (firstOf (c .answer)) (c .left) (c .workLeft) m′ (p .1) in
+    let s = state-then netlist N e class known (c .bytes) ws (c .left) work (c .workLeft) m (c .answer) t in
+    let m′ = memory-then netlist N e class known (c .bytes) ws (c .left) work (c .workLeft) m (c .answer) t in
+    let i = after-calls netlist N e class known cs (firstOf (c .answer)) (c .left) (c .workLeft) m′ (p .1) in
     record {
-      state = i .state ∙ ap (withPieces N (callBytes cs)) s;
+      state = i .state ∙ ap (withPieces N (classOf class) (callBytes cs)) s;
       memory = i .memory;
       sameLength = i .sameLength ∙ t .memory .sameLength;
       pastWork = i .pastWork ∙ t .memory .pastWork;
       taken = λ k. i .taken (k + takenIn (c .answer))
-          ∙ ap₂ (λ x j. takenWiths N (callBytes cs) x (k + j)) s (taken-then netlist N e (c .bytes) ws (c .left) work (c .workLeft) m (c .answer) t);
-      byRecords = (not-before netlist N e (c .bytes) ws (c .left) work (c .workLeft) m (c .answer) t, i .byRecords);
+          ∙ ap₂ (λ x j. takenWiths N (classOf class) (callBytes cs) x (k + j)) s (taken-then netlist N e class known (c .bytes) ws (c .left) work (c .workLeft) m (c .answer) t);
+      byRecords = (not-before netlist N e class known (c .bytes) ws (c .left) work (c .workLeft) m (c .answer) t, i .byRecords);
     }
-after-calls netlist N e (c ∷ cs) (suc n) ws work m p =
+after-calls netlist N e class known (c ∷ cs) (suc n) ws work m p =
     let m′ = subst (λ (s : List ℕ). MemoryReady N s (c .workLeft)) (sym (p .0)) (subst (λ (w : List ℕ). MemoryReady N ws w) (sym (p .1)) m) in
-    let i = after-calls netlist N e cs (suc n) (c .left) (c .workLeft) m′ (p .2) in
+    let i = after-calls netlist N e class known cs (suc n) (c .left) (c .workLeft) m′ (p .2) in
     record {
-      state = i .state ∙ ap (withPieces N (callBytes cs)) (kept-state N n (c .bytes) ws (c .left));
+      state = i .state ∙ ap (withPieces N (classOf class) (callBytes cs)) (kept-state N (classOf class) n (c .bytes) ws (c .left));
       memory = i .memory;
       sameLength = i .sameLength ∙ ap (length {A = ℕ}) (p .1);
       pastWork = i .pastWork ∙ ap (λ (w : List ℕ). drop workWords w) (p .1);
-      taken = λ k. i .taken k ∙ ap₂ (λ x j. takenWiths N (callBytes cs) x j) (kept-state N n (c .bytes) ws (c .left)) (kept-taken N n (c .bytes) ws k);
+      taken = λ k. i .taken k ∙ ap₂ (λ x j. takenWiths N (classOf class) (callBytes cs) x j) (kept-state N (classOf class) n (c .bytes) ws (c .left)) (kept-taken N (classOf class) n (c .bytes) ws k);
       byRecords = i .byRecords;
     }
 
@@ -161,38 +166,44 @@ module _ (netlist : List ℕ) (N : Netlist) (e : readNetlist netlist ≡ value N
       rw l (ap leftStore end-is)
 
 -- The pieces that were made
-module _ (netlist : List ℕ) (ms : List MadeCall) (ws work : List ℕ) (p : PiecesMade netlist ms ws work) where
+module _ (netlist : List ℕ) (class : ℕ) (ms : List MadeCall) (ws work : List ℕ) (p : PiecesMade netlist class ms ws work) where
   lent-then : lentRules ws work ≡ value tt
-  lent-then = begun-lent netlist ws (p .emptied) work beginning.Ready (p .begins .answer) refl
+  lent-then = begun-lent netlist class ws (p .emptied) work beginning.Ready (p .begins .answer) refl
 
   empty-then : p .emptied ≡ emptyStore
-  empty-then = begun-empty netlist ws (p .emptied) work beginning.Ready (p .begins .answer) refl (p .begins .store)
+  empty-then = begun-empty netlist class ws (p .emptied) work beginning.Ready (p .begins .answer) refl (p .begins .store)
 
-  done : AfterCalls (p .circuit) 0 (p .emptied) work ms
-  done = after-calls netlist (p .circuit) (p .legal) ms 0 (p .emptied) work
-      (begun-memory netlist ws (p .emptied) work beginning.Ready (p .begins .answer) refl (p .circuit) (p .begins .store)) (p .takes)
+  before-then : beforeTest netlist class ws work ≡ value (p .circuit)
+  before-then = begun-before netlist class ws (p .emptied) work beginning.Ready (p .begins .answer) refl (p .circuit) (p .legal)
+
+  known-then : within 1 2 class ≡ true
+  known-then = begun-known netlist class ws (p .emptied) work beginning.Ready (p .begins .answer) refl
+
+  done : AfterCalls (p .circuit) (classOf class) 0 (p .emptied) work ms
+  done = after-calls netlist (p .circuit) (p .legal) class known-then ms 0 (p .emptied) work
+      (begun-memory netlist class ws (p .emptied) work beginning.Ready (p .begins .answer) refl (p .circuit) (p .begins .store)) (p .takes)
 
   pub never-for-store : OnlyByRecords 0 ms
   never-for-store = done .byRecords
 
-  pub call-places : lastTaken 0 0 ms ≡ takenOf (p .circuit) (fileRecords (p .circuit) (joined (callBytes ms))) emptyStore
+  pub call-places : lastTaken 0 0 ms ≡ takenOf (p .circuit) (classOf class) (fileRecords (p .circuit) (joined (callBytes ms))) emptyStore
   unfolding soFar
   call-places =
       done .taken 0
-      ∙ ap (λ (s : List ℕ). takenWiths (p .circuit) (callBytes ms) (value s) 0) empty-then
-      ∙ taken-whole (p .circuit) (callBytes ms) (p .whole) emptyStore
+      ∙ ap (λ (s : List ℕ). takenWiths (p .circuit) (classOf class) (callBytes ms) (value s) 0) empty-then
+      ∙ taken-whole (p .circuit) (classOf class) (callBytes ms) (p .whole) emptyStore
 
-  state-last : soFar (lastFirst 0 ms) (lastStore (p .emptied) ms) ≡ withPiece (p .circuit) (joined (callBytes ms)) (value emptyStore)
+  state-last : soFar (lastFirst 0 ms) (lastStore (p .emptied) ms) ≡ withPiece (p .circuit) (classOf class) (joined (callBytes ms)) (value emptyStore)
   unfolding soFar
   state-last =
       done .state
-      ∙ pieces-joined (p .circuit) (callBytes ms) (p .whole) (value (p .emptied))
-      ∙ ap (λ (s : List ℕ). withPiece (p .circuit) (joined (callBytes ms)) (value s)) empty-then
+      ∙ pieces-joined (p .circuit) (classOf class) (callBytes ms) (p .whole) (value (p .emptied))
+      ∙ ap (λ (s : List ℕ). withPiece (p .circuit) (classOf class) (joined (callBytes ms)) (value s)) empty-then
 
   -- and the end
   module _ (report ws′ : List ℕ) (r : EndAnswer)
       (t : EndTrue r netlist (length (joined (callBytes ms))) (lastFirst 0 ms) report (lastStore (p .emptied) ms) ws′) where
-    pub calls-made : WholeAudit r netlist (joined (callBytes ms)) report ws ws′ work (lastMemory work ms)
+    pub calls-made : WholeAudit r netlist class (joined (callBytes ms)) report ws ws′ work (lastMemory work ms)
     unfolding endAnswer
     calls-made =
         let N : Netlist = p .circuit in
@@ -203,8 +214,8 @@ module _ (netlist : List ℕ) (ms : List MadeCall) (ws work : List ℕ) (p : Pie
         let left-is = end-left-is netlist N (p .legal) total (lastFirst 0 ms) report left (lastMemory work ms) (done .memory) in
         record {
           answer = t .answer ∙ ap (λ (x : Answer (List ℕ)). passes x) (is ∙ ap (λ (x : Answer (List ℕ)). endOf N total report x) state-last)
-              ∙ end-answer netlist testFile report ws work N (p .legal) lent-then;
+              ∙ end-answer netlist class testFile report ws work N lent-then before-then;
           store = t .store ∙ left-is ∙ ap (λ (x : Answer (List ℕ)). leftStore (endOf N total report x)) state-last
-              ∙ end-store netlist testFile report ws work N (p .legal) lent-then;
-          work = end-work netlist testFile report ws work N (p .legal) lent-then (lastMemory work ms) (done .sameLength) (done .pastWork);
+              ∙ end-store netlist class testFile report ws work N lent-then before-then;
+          work = end-work netlist class testFile report ws work N lent-then before-then (lastMemory work ms) (done .sameLength) (done .pastWork);
         }

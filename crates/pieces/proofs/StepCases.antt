@@ -11,7 +11,8 @@ use lib.Dec.{leb, eqb}
 use lib.ListN.{length, replicate}
 use Rattle.model.specs.Base.{Answer, refused, value, checks, passes}
 use Rattle.model.specs.Netlist.{Netlist, pathTotal}
-use Rattle.model.specs.Read.{vectorBytes, readNetlist}
+use Rattle.model.specs.Detect.{Class, nonRobust}
+use Rattle.model.specs.Read.{within, vectorBytes, readNetlist, classOf}
 use Rattle.model.specs.Refusals.{refusalNumber}
 use Rattle.model.specs.Store.{storeWords, emptyStore, storeRuns, runsByEdge, storeRules}
 use Rattle.model.specs.Runs.{inRuns}
@@ -55,21 +56,21 @@ module _ (ws work : List ℕ) where
     lent-passed h = rw (eq-eqb (length ws) storeWords l, le-leb workWords (length work) h) refl
 
 -- The beginning
-module _ (netlist ws work : List ℕ) (loaded : Loaded) (t : LoadTrue loaded netlist) where
+module _ (netlist : List ℕ) (class : ℕ) (ws work : List ℕ) (loaded : Loaded) (t : LoadTrue loaded netlist) where
   pub begin-words : (length ws ≡ storeWords → ⊥)
-      → BeginTrue (record { answer = beginning.Refused why.StoreLength; loaded = loaded }) netlist ws ws work
+      → BeginTrue (record { answer = beginning.Refused why.StoreLength; loaded = loaded }) netlist class ws ws work
   unfolding beginAnswer beginStore
   begin-words d = record { answer = rw (lent-words ws work d) refl; store = rw (lent-words ws work d) refl; tables = t }
 
   module _ (l : length ws ≡ storeWords) where
     pub begin-short : length work < workWords
-        → BeginTrue (record { answer = beginning.Refused why.WorkLength; loaded = loaded }) netlist ws ws work
+        → BeginTrue (record { answer = beginning.Refused why.WorkLength; loaded = loaded }) netlist class ws ws work
     unfolding beginAnswer beginStore
     begin-short h = record { answer = rw (lent-short ws work l h) refl; store = rw (lent-short ws work l h) refl; tables = t }
 
     module _ (h : workWords ≤ length work) (ws′ : List ℕ) (z : ws′ ≡ replicate (length ws) 0) where
       pub begin-netlist : (w : Refusal) → loaded .answer ≡ survey.Refused w
-          → BeginTrue (record { answer = beginning.Refused w; loaded = loaded }) netlist ws ws′ work
+          → BeginTrue (record { answer = beginning.Refused w; loaded = loaded }) netlist class ws ws′ work
       unfolding beginAnswer beginStore
       begin-netlist w e = record {
         answer = rw (lent-passed ws work l h, loaded-refused loaded netlist t w e) refl;
@@ -77,31 +78,40 @@ module _ (netlist ws work : List ℕ) (loaded : Loaded) (t : LoadTrue loaded net
         tables = t;
       }
 
-      pub begin-ready : loaded .answer ≡ survey.Legal → BeginTrue (record { answer = beginning.Ready; loaded = loaded }) netlist ws ws′ work
-      unfolding beginAnswer beginStore
-      begin-ready e = record {
-        answer = rw (lent-passed ws work l h, loaded-legal loaded netlist t e .isRead) refl;
-        store = emptied ws′ (length ws) z l ∙ rw (lent-passed ws work l h) refl;
-        tables = t;
-      }
+      module _ (e : loaded .answer ≡ survey.Legal) (k : Bool) (ek : k ≡ within 1 2 class) where
+        pub begin-class : not k ≡ true → BeginTrue (record { answer = beginning.Refused why.UnknownClass; loaded = loaded }) netlist class ws ws′ work
+        unfolding beginAnswer beginStore
+        begin-class n = record {
+          answer = rw (lent-passed ws work l h, loaded-legal loaded netlist t e .isRead) (rw (sym ek ∙ not-true k n) refl);
+          store = emptied ws′ (length ws) z l ∙ rw (lent-passed ws work l h) refl;
+          tables = t;
+        }
 
-pub ruleset begin-cases = (begin-words, begin-short, begin-netlist, begin-ready, needs)
+        pub begin-ready : not k ≡ false → BeginTrue (record { answer = beginning.Ready; loaded = loaded }) netlist class ws ws′ work
+        unfolding beginAnswer beginStore
+        begin-ready n = record {
+          answer = rw (lent-passed ws work l h, loaded-legal loaded netlist t e .isRead) (rw (sym ek ∙ not-false k n) refl);
+          store = emptied ws′ (length ws) z l ∙ rw (lent-passed ws work l h) refl;
+          tables = t;
+        }
+
+pub ruleset begin-cases = (begin-words, begin-short, begin-netlist, begin-class, begin-ready, needs)
 
 -- An empty store passes the rules
 pub empty-memory : (N : Netlist) (work : List ℕ) → workWords ≤ length work → MemoryReady N emptyStore work
 unfolding testAll
 empty-memory N work h = record {
-  storeLength = left-length N [] emptyStore refl;
-  sound = →checks (storeRules (pathTotal N) emptyStore) (left-passes N [] emptyStore refl);
+  storeLength = left-length N nonRobust [] emptyStore refl;
+  sound = →checks (storeRules (pathTotal N) emptyStore) (left-passes N nonRobust [] emptyStore refl);
   workLength = h;
 }
 
 -- and so does what test calls leave of a store that passes
-pub all-memory : (N : Netlist) (ws work work′ : List ℕ) → MemoryReady N ws work → length work′ ≡ length work
-    → (recs : List (List ℕ)) (left : List ℕ) → testAll N recs ws ≡ value left → MemoryReady N left work′
-all-memory N ws work work′ m l recs left q =
+pub all-memory : (N : Netlist) (c : Class) (ws work work′ : List ℕ) → MemoryReady N ws work → length work′ ≡ length work
+    → (recs : List (List ℕ)) (left : List ℕ) → testAll N c recs ws ≡ value left → MemoryReady N left work′
+all-memory N c ws work work′ m l recs left q =
     let p : AllPass (storeRules (pathTotal N) ws) = checks→ (storeRules (pathTotal N) ws) (record { got = tt; is = m .sound }) in
-    let h = all-holding N recs ws (λ e. inRuns (storeRuns ws e)) left (holding-own N ws (m .storeLength) p) q in
+    let h = all-holding N c recs ws (λ e. inRuns (storeRuns ws e)) left (holding-own N ws (m .storeLength) p) q in
     record {
       storeLength = holding-length N left _ h;
       sound = →checks (storeRules (pathTotal N) left) (holding-passes N left _ h);
@@ -109,15 +119,15 @@ all-memory N ws work work′ m l recs left q =
     }
 
 -- whatever they answer, the store that is left passes
-memory-after : (N : Netlist) (ws work work′ : List ℕ) → MemoryReady N ws work → length work′ ≡ length work
-    → (recs : List (List ℕ)) (x : Answer (List ℕ)) → testAll N recs ws ≡ x → MemoryReady N (leftStore x) work′
+memory-after : (N : Netlist) (c : Class) (ws work work′ : List ℕ) → MemoryReady N ws work → length work′ ≡ length work
+    → (recs : List (List ℕ)) (x : Answer (List ℕ)) → testAll N c recs ws ≡ x → MemoryReady N (leftStore x) work′
 unfolding leftStore
-memory-after N ws work work′ m l recs (refused n) q = empty-memory N work′ (omega (arith, l, m .workLength))
-memory-after N ws work work′ m l recs (value left) q = all-memory N ws work work′ m l recs left q
+memory-after N c ws work work′ m l recs (refused n) q = empty-memory N work′ (omega (arith, l, m .workLength))
+memory-after N c ws work work′ m l recs (value left) q = all-memory N c ws work work′ m l recs left q
 
-pub left-memory : (N : Netlist) (ws work work′ : List ℕ) → MemoryReady N ws work → length work′ ≡ length work
-    → (recs : List (List ℕ)) → MemoryReady N (leftStore (testAll N recs ws)) work′
-left-memory N ws work work′ m l recs = memory-after N ws work work′ m l recs (testAll N recs ws) refl
+pub left-memory : (N : Netlist) (c : Class) (ws work work′ : List ℕ) → MemoryReady N ws work → length work′ ≡ length work
+    → (recs : List (List ℕ)) → MemoryReady N (leftStore (testAll N c recs ws)) work′
+left-memory N c ws work work′ m l recs = memory-after N c ws work work′ m l recs (testAll N c recs ws) refl
 
 module _ (netlist : List ℕ) (loaded : Loaded) (ws work : List ℕ) (ready : Ready netlist loaded ws work) where
   pub ready-nets : loaded .survey .inputs + loaded .survey .gates ≤ 512
@@ -135,9 +145,9 @@ module _ (netlist : List ℕ) (loaded : Loaded) (ws work : List ℕ) (ready : Re
   of-netlist P p N e = subst P (value-inj (sym (ready .tables .legal) ∙ e)) p
 
   -- A piece
-  module _ (before : TakenRecords) (piece : List ℕ) where
+  module _ (class : ℕ) (before : TakenRecords) (piece : List ℕ) where
     pub piece-refused : (w : Refusal) → before .answer ≡ file.Refused w
-        → PieceTaken (record { taken = before .taken; answer = file.Refused w }) netlist loaded before piece ws ws work work
+        → PieceTaken (record { taken = before .taken; answer = file.Refused w }) netlist loaded class before piece ws ws work work
     unfolding withPiece takenWith pieceStore
     piece-refused w e = record {
       answer = λ N q. rw e refl;
@@ -151,26 +161,26 @@ module _ (netlist : List ℕ) (loaded : Loaded) (ws work : List ℕ) (ready : Re
 
     module _ (e : before .answer ≡ file.Taken) (more : TakenRecords) (ws′ work′ : List ℕ)
         (t : FileTaken more netlist (loaded .positions) (loaded .survey .counts) (loaded .survey .inputs) (loaded .survey .inputs + loaded .survey .gates)
-        (loaded .survey .outputs) piece ws ws′ work work′) where
+        (loaded .survey .outputs) class piece ws ws′ work work′) where
       abbrev C : Netlist
       C = ready .circuit
 
-      pub piece-taken : PieceTaken (record { taken = before .taken + more .taken; answer = more .answer }) netlist loaded before piece ws ws′ work work′
+      pub piece-taken : PieceTaken (record { taken = before .taken + more .taken; answer = more .answer }) netlist loaded class before piece ws ws′ work work′
       unfolding withPiece takenWith pieceStore
       piece-taken =
           let x = t .ofCircuit C (ready .tables) in
           record {
-            answer = of-netlist (λ N. fileOf (more .answer) ws′ ≡ withPiece N piece (fileOf (before .answer) ws)) (rw e (x .answer));
-            taken = of-netlist (λ N. before .taken + more .taken ≡ takenWith N piece (fileOf (before .answer) ws) (before .taken))
+            answer = of-netlist (λ N. fileOf (more .answer) ws′ ≡ withPiece N (classOf class) piece (fileOf (before .answer) ws)) (rw e (x .answer));
+            taken = of-netlist (λ N. before .taken + more .taken ≡ takenWith N (classOf class) piece (fileOf (before .answer) ws) (before .taken))
                 (rw e (ap (λ (k : ℕ). before .taken + k) (x .taken)));
-            store = of-netlist (λ N. ws′ ≡ pieceStore N (before .answer) piece ws) (rw e (x .store));
+            store = of-netlist (λ N. ws′ ≡ pieceStore N (classOf class) (before .answer) piece ws) (rw e (x .store));
             few = omega (arith, t .few);
             ready = record {
               circuit = C;
               tables = ready .tables;
               totalIs = ready .totalIs;
               memory = subst (λ (s : List ℕ). MemoryReady C s work′) (sym (x .store))
-                  (left-memory C ws work work′ (ready .memory) (t .sameLength) (fileRecords C piece));
+                  (left-memory C (classOf class) ws work work′ (ready .memory) (t .sameLength) (fileRecords C piece));
             };
             sameLength = t .sameLength;
             pastWork = t .pastWork;

@@ -9,7 +9,8 @@ use lib.ListN.{length, take, drop, length-append, length-drop}
 use lib.Seq.{take-append-le, drop-append-le}
 use Rattle.model.specs.Base.{Answer, refused, value, _>>=_}
 use Rattle.model.specs.Netlist.{Netlist}
-use Rattle.model.specs.Read.{readNetlist, recordLength}
+use Rattle.model.specs.Detect.{Class}
+use Rattle.model.specs.Read.{readNetlist, classOf, recordLength}
 use Rattle.model.specs.Calls.{Tested, testStage, storeLeft}
 use Rattle.model.specs.Report.{records, fileRecords, testAll}
 use Rattle.netlist.specs.declared.inner.Loaded.{Loaded}
@@ -41,76 +42,77 @@ file-append N piece rest h =
     ap (λ (k : ℕ). records len k (piece ++ rest)) n ∙ records-append len m (length rest / len) piece rest whole
 
 -- the records `qs` after those that answered `x`
-abbrev takenThen : Netlist → List (List ℕ) → Answer (List ℕ) → ℕ → ℕ
-takenThen N qs (refused n) k = k
-takenThen N qs (value left) k = k + takenOf N qs left
+abbrev takenThen : Netlist → Class → List (List ℕ) → Answer (List ℕ) → ℕ → ℕ
+takenThen N c qs (refused n) k = k
+takenThen N c qs (value left) k = k + takenOf N c qs left
 
-then-more : (N : Netlist) (qs : List (List ℕ)) (x : Answer (List ℕ)) (j k : ℕ) → j + takenThen N qs x k ≡ takenThen N qs x (j + k)
-then-more N qs (refused n) j k = refl
-then-more N qs (value left) j k = omega arith
+then-more : (N : Netlist) (c : Class) (qs : List (List ℕ)) (x : Answer (List ℕ)) (j k : ℕ) → j + takenThen N c qs x k ≡ takenThen N c qs x (j + k)
+then-more N c qs (refused n) j k = refl
+then-more N c qs (value left) j k = omega arith
 
 -- one record, then the others
-taken-one : (N : Netlist) (qs : List (List ℕ)) (x : Answer Tested) (f g : List ℕ → ℕ) (h : List ℕ → Answer (List ℕ))
-    → ((ws : List ℕ) → f ws ≡ takenThen N qs (h ws) (g ws))
-    → oneMore x (λ d. f (storeLeft d)) ≡ takenThen N qs (x >>= λ d. h (storeLeft d)) (oneMore x (λ d. g (storeLeft d)))
-taken-one N qs (refused n) f g h q = refl
-taken-one N qs (value d) f g h q =
+taken-one : (N : Netlist) (c : Class) (qs : List (List ℕ)) (x : Answer Tested) (f g : List ℕ → ℕ) (h : List ℕ → Answer (List ℕ))
+    → ((ws : List ℕ) → f ws ≡ takenThen N c qs (h ws) (g ws))
+    → oneMore x (λ d. f (storeLeft d)) ≡ takenThen N c qs (x >>= λ d. h (storeLeft d)) (oneMore x (λ d. g (storeLeft d)))
+taken-one N c qs (refused n) f g h q = refl
+taken-one N c qs (value d) f g h q =
     let ws : List ℕ = storeLeft d in
-    ap (λ (k : ℕ). 1 + k) (q ws) ∙ then-more N qs (h ws) 1 (g ws)
+    ap (λ (k : ℕ). 1 + k) (q ws) ∙ then-more N c qs (h ws) 1 (g ws)
 
-taken-append : (N : Netlist) (rs qs : List (List ℕ)) (ws : List ℕ) → takenOf N (rs ++ qs) ws ≡ takenThen N qs (testAll N rs ws) (takenOf N rs ws)
+taken-append : (N : Netlist) (c : Class) (rs qs : List (List ℕ)) (ws : List ℕ)
+    → takenOf N c (rs ++ qs) ws ≡ takenThen N c qs (testAll N c rs ws) (takenOf N c rs ws)
 unfolding takenOf testAll
-taken-append N [] qs ws = sym (zero-add (takenOf N qs ws))
-taken-append N (r ∷ rs) qs ws =
-    taken-one N qs (testStage N r ws) (λ v. takenOf N (rs ++ qs) v) (λ v. takenOf N rs v) (λ v. testAll N rs v) (λ v. taken-append N rs qs v)
+taken-append N c [] qs ws = sym (zero-add (takenOf N c qs ws))
+taken-append N c (r ∷ rs) qs ws =
+    taken-one N c qs (testStage N c r ws) (λ v. takenOf N c (rs ++ qs) v) (λ v. takenOf N c rs v) (λ v. testAll N c rs v) (λ v. taken-append N c rs qs v)
 
-as-then : (N : Netlist) (piece : List ℕ) (x : Answer (List ℕ)) (k : ℕ) → takenWith N piece x k ≡ takenThen N (fileRecords N piece) x k
+as-then : (N : Netlist) (c : Class) (piece : List ℕ) (x : Answer (List ℕ)) (k : ℕ) → takenWith N c piece x k ≡ takenThen N c (fileRecords N piece) x k
 unfolding takenWith
-as-then N piece (refused n) k = refl
-as-then N piece (value left) k = refl
+as-then N c piece (refused n) k = refl
+as-then N c piece (value left) k = refl
 
 -- a piece of whole records, then another
-pub taken-both : (N : Netlist) (piece rest : List ℕ) (x : Answer (List ℕ)) (k : ℕ) → length piece % recordLength N ≡ 0
-    → takenWith N rest (withPiece N piece x) (takenWith N piece x k) ≡ takenWith N (piece ++ rest) x k
+pub taken-both : (N : Netlist) (c : Class) (piece rest : List ℕ) (x : Answer (List ℕ)) (k : ℕ) → length piece % recordLength N ≡ 0
+    → takenWith N c rest (withPiece N c piece x) (takenWith N c piece x k) ≡ takenWith N c (piece ++ rest) x k
 unfolding withPiece takenWith
-taken-both N piece rest (refused n) k h = refl
-taken-both N piece rest (value ws) k h =
-    let x : Answer (List ℕ) = testAll N (fileRecords N piece) ws in
+taken-both N c piece rest (refused n) k h = refl
+taken-both N c piece rest (value ws) k h =
+    let x : Answer (List ℕ) = testAll N c (fileRecords N piece) ws in
     let qs : List (List ℕ) = fileRecords N rest in
-    as-then N rest x (k + takenOf N (fileRecords N piece) ws)
-    ∙ sym (then-more N qs x k (takenOf N (fileRecords N piece) ws))
-    ∙ ap (λ (j : ℕ). k + j) (sym (taken-append N (fileRecords N piece) qs ws))
-    ∙ ap (λ (rs : List (List ℕ)). k + takenOf N rs ws) (sym (file-append N piece rest h))
+    as-then N c rest x (k + takenOf N c (fileRecords N piece) ws)
+    ∙ sym (then-more N c qs x k (takenOf N c (fileRecords N piece) ws))
+    ∙ ap (λ (j : ℕ). k + j) (sym (taken-append N c (fileRecords N piece) qs ws))
+    ∙ ap (λ (rs : List (List ℕ)). k + takenOf N c rs ws) (sym (file-append N piece rest h))
 
 -- no piece
-pub taken-none : (N : Netlist) (x : Answer (List ℕ)) (k : ℕ) → k ≡ takenWith N [] x k
+pub taken-none : (N : Netlist) (c : Class) (x : Answer (List ℕ)) (k : ℕ) → k ≡ takenWith N c [] x k
 unfolding takenWith takenOf
-taken-none N (refused n) k = refl
-taken-none N (value ws) k =
+taken-none N c (refused n) k = refl
+taken-none N c (value ws) k =
     let d : 0 / recordLength N ≡ 0 = div-eq-of-lt {n = 0} {m = recordLength N} (omega arith) in
-    let z : takenOf N (fileRecords N []) ws ≡ 0 = ap (λ (i : ℕ). takenOf N (records (recordLength N) i []) ws) d in
+    let z : takenOf N c (fileRecords N []) ws ≡ 0 = ap (λ (i : ℕ). takenOf N c (records (recordLength N) i []) ws) d in
     omega (arith, z)
 
 -- the pieces in order
-abbrev pub takenWiths : Netlist → List (List ℕ) → Answer (List ℕ) → ℕ → ℕ
-takenWiths N [] x k = k
-takenWiths N (p ∷ ps) x k = takenWiths N ps (withPiece N p x) (takenWith N p x k)
+abbrev pub takenWiths : Netlist → Class → List (List ℕ) → Answer (List ℕ) → ℕ → ℕ
+takenWiths N c [] x k = k
+takenWiths N c (p ∷ ps) x k = takenWiths N c ps (withPiece N c p x) (takenWith N c p x k)
 
-taken-joined : (N : Netlist) (ps : List (List ℕ)) → WholeButLast N ps → (x : Answer (List ℕ)) (k : ℕ) → takenWiths N ps x k ≡ takenWith N (joined ps) x k
-taken-joined N [] h x k = taken-none N x k
-taken-joined N (p ∷ []) h x k = ap (λ (b : List ℕ). takenWith N b x k) (sym (append-nil p))
-taken-joined N (p ∷ q ∷ ps) h x k = taken-joined N (q ∷ ps) (h .1) (withPiece N p x) (takenWith N p x k) ∙ taken-both N p (joined (q ∷ ps)) x k (h .0)
+taken-joined : (N : Netlist) (c : Class) (ps : List (List ℕ)) → WholeButLast N ps → (x : Answer (List ℕ)) (k : ℕ) → takenWiths N c ps x k ≡ takenWith N c (joined ps) x k
+taken-joined N c [] h x k = taken-none N c x k
+taken-joined N c (p ∷ []) h x k = ap (λ (b : List ℕ). takenWith N c b x k) (sym (append-nil p))
+taken-joined N c (p ∷ q ∷ ps) h x k = taken-joined N c (q ∷ ps) (h .1) (withPiece N c p x) (takenWith N c p x k) ∙ taken-both N c p (joined (q ∷ ps)) x k (h .0)
 
 -- from a store, and none taken before
-pub taken-whole : (N : Netlist) (ps : List (List ℕ)) → WholeButLast N ps → (ws : List ℕ) → takenWiths N ps (value ws) 0 ≡ takenOf N (fileRecords N (joined ps)) ws
+pub taken-whole : (N : Netlist) (c : Class) (ps : List (List ℕ)) → WholeButLast N ps → (ws : List ℕ) → takenWiths N c ps (value ws) 0 ≡ takenOf N c (fileRecords N (joined ps)) ws
 unfolding takenWith
-taken-whole N ps h ws = taken-joined N ps h (value ws) 0 ∙ zero-add (takenOf N (fileRecords N (joined ps)) ws)
+taken-whole N c ps h ws = taken-joined N c ps h (value ws) 0 ∙ zero-add (takenOf N c (fileRecords N (joined ps)) ws)
 
 -- of the values that the pieces return
-pub last-taken : (netlist : List ℕ) (loaded : Loaded) (N : Netlist) → readNetlist netlist ≡ value N
-    → (before : TakenRecords) (ws work : List ℕ) (ms : List MadePiece) → Promised netlist loaded before ws work ms
-    → lastAnswer before ms .taken ≡ takenWiths N (bytesOf ms) (fileOf (before .answer) ws) (before .taken)
-last-taken netlist loaded N e before ws work [] p = refl
-last-taken netlist loaded N e before ws work (m ∷ ms) p =
-    last-taken netlist loaded N e (m .answer) (m .left) (m .workLeft) ms (p .1)
-    ∙ ap₂ (λ x k. takenWiths N (bytesOf ms) x k) (p .0 .answer N e) (p .0 .taken N e)
+pub last-taken : (netlist : List ℕ) (loaded : Loaded) (class : ℕ) (N : Netlist) → readNetlist netlist ≡ value N
+    → (before : TakenRecords) (ws work : List ℕ) (ms : List MadePiece) → Promised netlist loaded class before ws work ms
+    → lastAnswer before ms .taken ≡ takenWiths N (classOf class) (bytesOf ms) (fileOf (before .answer) ws) (before .taken)
+last-taken netlist loaded class N e before ws work [] p = refl
+last-taken netlist loaded class N e before ws work (m ∷ ms) p =
+    last-taken netlist loaded class N e (m .answer) (m .left) (m .workLeft) ms (p .1)
+    ∙ ap₂ (λ x k. takenWiths N (classOf class) (bytesOf ms) x k) (p .0 .answer N e) (p .0 .taken N e)

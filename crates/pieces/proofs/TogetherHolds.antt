@@ -1,20 +1,24 @@
 -- The steps together are the audit of the whole file: the state after each piece is that of the test calls with all records so far.
 -- Assumes nothing.
 use mathlib.Core.Path.{_≡_, refl, ap, ap₂, sym, _∙_, subst}
+use mathlib.Core.Bool.{Bool, true, false}
 use mathlib.Core.List.{List, [], _∷_, _++_, append-nil}
 use Prim.Native.Nat.{ℕ, _+_, _/_, _%_}
 use native.Mathlib.Nat.{div-eq-of-lt}
 use native.Mathlib.Omega.{arith}
-use lib.Dec.{leb→le}
+use lib.Dec.{T, leb→le}
 use lib.ListN.{length, drop}
 use Rattle.model.specs.Base.{Answer, refused, value, _>>=_, _>>_, checks, passes}
 use Rattle.model.specs.Netlist.{Netlist}
-use Rattle.model.specs.Read.{readNetlist, recordLength}
+use Rattle.model.specs.Detect.{Class}
+use Rattle.model.specs.Read.{within, readNetlist, classOf, recordLength}
 use Rattle.model.specs.Refusals.{refusalNumber}
 use Rattle.model.specs.Store.{emptyStore}
 use Rattle.model.specs.Calls.{workWords, storeRule, workRule, beforeTest, WorkAfter}
 use Rattle.model.specs.Report.{records, testAll, auditCall, auditAnswer, auditStore}
-use Rattle.model.proofs.AnswerLaws.{checks→, then-first, not-refused}
+use Rattle.model.proofs.BoolLaws.{T→true}
+use Rattle.model.proofs.AnswerLaws.{Passed, checks→, →checks, then-first, not-refused, value-inj}
+use Rattle.model.proofs.BeforeLaws.{Reached, reached→}
 use Rattle.model.proofs.RefusalLaws.{audit-found, audit-emptied, audit-kept}
 use Rattle.model.proofs.PieceLaws.{piece-first}
 use Rattle.netlist.specs.Places.{positionsOf}
@@ -36,101 +40,122 @@ use Rattle.pieces.specs.Together.{joined, WholeButLast, withPieces, piec
 use Rattle.pieces.proofs.StepCases.{empty-memory}
 
 -- no piece changes nothing
-pub no-bytes : (N : Netlist) (x : Answer (List ℕ)) → withPiece N [] x ≡ x
+pub no-bytes : (N : Netlist) (c : Class) (x : Answer (List ℕ)) → withPiece N c [] x ≡ x
 unfolding withPiece testAll
-no-bytes N (refused n) = refl
-no-bytes N (value ws) =
+no-bytes N c (refused n) = refl
+no-bytes N c (value ws) =
     let d : 0 / recordLength N ≡ 0 = div-eq-of-lt {n = 0} {m = recordLength N} (omega arith) in
-    ap (λ (k : ℕ). testAll N (records (recordLength N) k []) ws) d
+    ap (λ (k : ℕ). testAll N c (records (recordLength N) k []) ws) d
 
 -- a piece of whole records, then another
-pub piece-then : (N : Netlist) (piece rest : List ℕ) (x : Answer (List ℕ)) → length piece % recordLength N ≡ 0
-    → withPiece N rest (withPiece N piece x) ≡ withPiece N (piece ++ rest) x
+pub piece-then : (N : Netlist) (c : Class) (piece rest : List ℕ) (x : Answer (List ℕ)) → length piece % recordLength N ≡ 0
+    → withPiece N c rest (withPiece N c piece x) ≡ withPiece N c (piece ++ rest) x
 unfolding withPiece
-piece-then N piece rest (refused n) h = refl
-piece-then N piece rest (value ws) h = sym (piece-first N piece rest ws h)
+piece-then N c piece rest (refused n) h = refl
+piece-then N c piece rest (value ws) h = sym (piece-first N c piece rest ws h)
 
 -- The pieces of a file, one after the other, are the file
-pub pieces-joined : (N : Netlist) (ps : List (List ℕ)) → WholeButLast N ps → (x : Answer (List ℕ)) → withPieces N ps x ≡ withPiece N (joined ps) x
+pub pieces-joined : (N : Netlist) (c : Class) (ps : List (List ℕ)) → WholeButLast N ps → (x : Answer (List ℕ))
+    → withPieces N c ps x ≡ withPiece N c (joined ps) x
 unfolding withPieces
-pieces-joined N [] h x = sym (no-bytes N x)
-pieces-joined N (p ∷ []) h x = ap (λ (b : List ℕ). withPiece N b x) (sym (append-nil p))
-pieces-joined N (p ∷ q ∷ ps) h x = pieces-joined N (q ∷ ps) (h .1) (withPiece N p x) ∙ piece-then N p (joined (q ∷ ps)) x (h .0)
+pieces-joined N c [] h x = sym (no-bytes N c x)
+pieces-joined N c (p ∷ []) h x = ap (λ (b : List ℕ). withPiece N c b x) (sym (append-nil p))
+pieces-joined N c (p ∷ q ∷ ps) h x = pieces-joined N c (q ∷ ps) (h .1) (withPiece N c p x) ∙ piece-then N c p (joined (q ∷ ps)) x (h .0)
 
 -- The end of a file that was taken whole is the audit from 33 on
-pub end-file : (N : Netlist) (testFile report : List ℕ) → endOf N (length testFile) report (withPiece N testFile (value emptyStore)) ≡ auditFile N testFile report
+pub end-file : (N : Netlist) (c : Class) (testFile report : List ℕ)
+    → endOf N (length testFile) report (withPiece N c testFile (value emptyStore)) ≡ auditFile N c testFile report
 unfolding endBy withPiece auditFile
-end-file N testFile report =
+end-file N c testFile report =
     rw (length-records (recordLength N) (length testFile / recordLength N) testFile) refl
 
 -- The definitions
-pub calls-joined : (netlist : List ℕ) (N : Netlist) → readNetlist netlist ≡ value N → (pieces : List (List ℕ)) → WholeButLast N pieces
-    → (report ws work : List ℕ) → piecesCall netlist pieces report ws work ≡ auditCall netlist (joined pieces) report ws work
-unfolding piecesCall auditCall auditFile
-calls-joined netlist N e pieces h report ws work =
-    let a : endOf N (length (joined pieces)) report (withPieces N pieces (value emptyStore)) ≡ auditFile N (joined pieces) report =
-    ap (λ (x : Answer (List ℕ)). endOf N (length (joined pieces)) report x) (pieces-joined N pieces h (value emptyStore)) ∙ end-file N (joined pieces) report in
-    go (checks (storeRule ws ∷ workRule work ∷ [])) a
-  where
-    go : (lent : Answer (Unit {0})) → endOf N (length (joined pieces)) report (withPieces N pieces (value emptyStore)) ≡ auditFile N (joined pieces) report
-        → (lent >> readNetlist netlist >>= λ M. endOf M (length (joined pieces)) report (withPieces M pieces (value emptyStore)))
-        ≡ (lent >> readNetlist netlist >>= λ M. auditFile M (joined pieces) report)
-    go (refused n) a = refl
-    go (value u) a = rw e a
+module _ (netlist : List ℕ) (N : Netlist) (e : readNetlist netlist ≡ value N) (class : ℕ) (pieces : List (List ℕ)) (h : WholeButLast N pieces)
+    (report ws work : List ℕ) where
+  abbrev c : Class
+  c = classOf class
+
+  abbrev joinedEnd : Netlist → Answer (List ℕ)
+  joinedEnd M = endOf M (length (joined pieces)) report (withPieces M c pieces (value emptyStore))
+
+  same-end : joinedEnd N ≡ auditFile N c (joined pieces) report
+  same-end =
+      ap (λ (x : Answer (List ℕ)). endOf N (length (joined pieces)) report x) (pieces-joined N c pieces h (value emptyStore)) ∙ end-file N c (joined pieces) report
+
+  from-here : (x : Answer Netlist) → beforeTest netlist class ws work ≡ x → (x >>= joinedEnd) ≡ (x >>= λ M. auditFile M c (joined pieces) report)
+  from-here (refused n) q = refl
+  from-here (value M) q =
+      let r = reached→ netlist class ws work M q in
+      subst (λ (L : Netlist). joinedEnd L ≡ auditFile L c (joined pieces) report) (value-inj (sym e ∙ r .isLegal)) same-end
+
+  pub calls-joined : piecesCall netlist class pieces report ws work ≡ auditCall netlist class (joined pieces) report ws work
+  unfolding piecesCall auditCall auditFile
+  calls-joined = from-here (beforeTest netlist class ws work) refl
 
 -- The values that the pieces return: the state after them, and the working memory
-module _ (netlist : List ℕ) (loaded : Loaded) (N : Netlist) (e : readNetlist netlist ≡ value N) where
-  pub last-state : (before : TakenRecords) (ws work : List ℕ) (ms : List MadePiece) → Promised netlist loaded before ws work ms
-      → fileOf (lastAnswer before ms .answer) (lastLeft ws ms) ≡ withPieces N (bytesOf ms) (fileOf (before .answer) ws)
+module _ (netlist : List ℕ) (loaded : Loaded) (class : ℕ) (N : Netlist) (e : readNetlist netlist ≡ value N) where
+  pub last-state : (before : TakenRecords) (ws work : List ℕ) (ms : List MadePiece) → Promised netlist loaded class before ws work ms
+      → fileOf (lastAnswer before ms .answer) (lastLeft ws ms) ≡ withPieces N (classOf class) (bytesOf ms) (fileOf (before .answer) ws)
   unfolding withPieces
   last-state before ws work [] p = refl
   last-state before ws work (m ∷ ms) p =
-      last-state (m .answer) (m .left) (m .workLeft) ms (p .1) ∙ ap (withPieces N (bytesOf ms)) (p .0 .answer N e)
+      last-state (m .answer) (m .left) (m .workLeft) ms (p .1) ∙ ap (withPieces N (classOf class) (bytesOf ms)) (p .0 .answer N e)
 
-  pub last-length : (before : TakenRecords) (ws work : List ℕ) (ms : List MadePiece) → Promised netlist loaded before ws work ms
+  pub last-length : (before : TakenRecords) (ws work : List ℕ) (ms : List MadePiece) → Promised netlist loaded class before ws work ms
       → length (lastWork work ms) ≡ length work
   last-length before ws work [] p = refl
   last-length before ws work (m ∷ ms) p = last-length (m .answer) (m .left) (m .workLeft) ms (p .1) ∙ p .0 .sameLength
 
-  pub last-past : (before : TakenRecords) (ws work : List ℕ) (ms : List MadePiece) → Promised netlist loaded before ws work ms
+  pub last-past : (before : TakenRecords) (ws work : List ℕ) (ms : List MadePiece) → Promised netlist loaded class before ws work ms
       → drop workWords (lastWork work ms) ≡ drop workWords work
   last-past before ws work [] p = refl
   last-past before ws work (m ∷ ms) p = last-past (m .answer) (m .left) (m .workLeft) ms (p .1) ∙ p .0 .pastWork
 
 -- An audit whose beginning passed, by its end
-module _ (netlist testFile report ws work : List ℕ) (N : Netlist) (e : readNetlist netlist ≡ value N) (l : lentRules ws work ≡ value tt) where
+module _ (netlist : List ℕ) (class : ℕ) (testFile report ws work : List ℕ) (N : Netlist) (l : lentRules ws work ≡ value tt)
+    (b : beforeTest netlist class ws work ≡ value N) where
   abbrev atEnd : Answer (List ℕ)
-  atEnd = endOf N (length testFile) report (withPiece N testFile (value emptyStore))
+  atEnd = endOf N (length testFile) report (withPiece N (classOf class) testFile (value emptyStore))
 
-  is-file : auditCall netlist testFile report ws work ≡ auditFile N testFile report
+  is-file : auditCall netlist class testFile report ws work ≡ auditFile N (classOf class) testFile report
   unfolding auditCall auditFile
-  is-file = rw (l, e) refl
+  is-file = rw b refl
 
-  left-store : (x : Answer (List ℕ)) → auditCall netlist testFile report ws work ≡ x → leftStore x ≡ auditStore netlist testFile report ws work
+  left-store : (x : Answer (List ℕ)) → auditCall netlist class testFile report ws work ≡ x → leftStore x ≡ auditStore netlist class testFile report ws work
   unfolding leftStore
-  left-store (refused n) q = sym (audit-emptied netlist testFile report ws work n l q)
-  left-store (value w) q = sym (audit-kept netlist testFile report ws work w q)
+  left-store (refused n) q = sym (audit-emptied netlist class testFile report ws work n l q)
+  left-store (value w) q = sym (audit-kept netlist class testFile report ws work w q)
 
-  pub end-answer : passes atEnd ≡ auditAnswer netlist testFile report ws work
+  pub end-answer : passes atEnd ≡ auditAnswer netlist class testFile report ws work
   unfolding auditAnswer
-  end-answer = ap (λ (x : Answer (List ℕ)). passes x) (end-file N testFile report ∙ sym is-file)
+  end-answer = ap (λ (x : Answer (List ℕ)). passes x) (end-file N (classOf class) testFile report ∙ sym is-file)
 
-  pub end-store : leftStore atEnd ≡ auditStore netlist testFile report ws work
-  end-store = ap leftStore (end-file N testFile report) ∙ left-store (auditFile N testFile report) is-file
+  pub end-store : leftStore atEnd ≡ auditStore netlist class testFile report ws work
+  end-store = ap leftStore (end-file N (classOf class) testFile report) ∙ left-store (auditFile N (classOf class) testFile report) is-file
 
-  pub end-work : (work′ : List ℕ) → length work′ ≡ length work → drop workWords work′ ≡ drop workWords work → WorkAfter netlist ws work work′
-  end-work work′ k p =
-      let before : beforeTest netlist ws work ≡ value N = rw (l, e) refl in
-      record { sameLength = k; pastWork = p; notReached = λ n q. absurd (not-refused (sym q ∙ before)) }
+  pub end-work : (work′ : List ℕ) → length work′ ≡ length work → drop workWords work′ ≡ drop workWords work → WorkAfter netlist class ws work work′
+  end-work work′ k p = record { sameLength = k; pastWork = p; notReached = λ n q. absurd (not-refused (sym q ∙ b)) }
 
 -- a beginning that passed
-module _ (netlist ws ws₀ work : List ℕ) (b : BeginAnswer) (a : begunOf b ≡ beginAnswer netlist ws work) (q : b ≡ beginning.Ready) where
-  pub begun-lent : lentRules ws work ≡ value tt
+module _ (netlist : List ℕ) (class : ℕ) (ws ws₀ work : List ℕ) (b : BeginAnswer) (a : begunOf b ≡ beginAnswer netlist class ws work)
+    (q : b ≡ beginning.Ready) where
+  passed : Passed (beforeTest netlist class ws work)
   unfolding beginAnswer
-  begun-lent =
-      let p : value tt ≡ passes (beforeTest netlist ws work) = sym (ap begunOf q) ∙ a in
-      let f = then-first (lentRules ws work >> readNetlist netlist) (value tt) (sym p) in
-      then-first (lentRules ws work) (readNetlist netlist) (f .is) .is
+  passed =
+      let p : value tt ≡ passes (beforeTest netlist class ws work) = sym (ap begunOf q) ∙ a in
+      then-first (beforeTest netlist class ws work) (value tt) (sym p)
+
+  reached : Reached netlist class ws work (passed .got)
+  reached = reached→ netlist class ws work (passed .got) (passed .is)
+
+  pub begun-lent : lentRules ws work ≡ value tt
+  begun-lent = →checks (storeRule ws ∷ workRule work ∷ []) (reached .lent)
+
+  pub begun-known : within 1 2 class ≡ true
+  begun-known = T→true (within 1 2 class) (reached .known)
+
+  pub begun-before : (N : Netlist) → readNetlist netlist ≡ value N → beforeTest netlist class ws work ≡ value N
+  begun-before N e = passed .is ∙ ap (λ (M : Netlist). value M) (value-inj (sym (reached .isLegal) ∙ e))
 
   pub begun-empty : ws₀ ≡ beginStore ws work → ws₀ ≡ emptyStore
   unfolding beginStore
@@ -142,37 +167,40 @@ module _ (netlist ws ws₀ work : List ℕ) (b : BeginAnswer) (a : begunOf b ≡
       subst (λ (x : List ℕ). MemoryReady N x work) (sym (begun-empty s)) (empty-memory N work (leb→le workWords (length work) (p .1 .0)))
 
 -- The steps that were made
-pub pieces-made : (netlist : List ℕ) (ms : List MadePiece) (report ws ws′ work : List ℕ) (r : AuditAnswer) → StepsMade netlist ms report ws ws′ work r
-    → AuditTrue r netlist (joined (bytesOf ms)) report ws ws′ work (lastWork work ms)
-pieces-made netlist ms report ws ws′ work r m =
+pub pieces-made : (netlist : List ℕ) (class : ℕ) (ms : List MadePiece) (report ws ws′ work : List ℕ) (r : AuditAnswer)
+    → StepsMade netlist class ms report ws ws′ work r → AuditTrue r netlist class (joined (bytesOf ms)) report ws ws′ work (lastWork work ms)
+pieces-made netlist class ms report ws ws′ work r m =
     let N : Netlist = m .circuit in
+    let c : Class = classOf class in
     let testFile : List ℕ = joined (bytesOf ms) in
     let ws₀ : List ℕ = m .emptied in
     let loaded : Loaded = m .begun .loaded in
-    let lent = begun-lent netlist ws ws₀ work (m .begun .answer) (m .begins .answer) (m .isReady) in
-    let empty = begun-empty netlist ws ws₀ work (m .begun .answer) (m .begins .answer) (m .isReady) (m .begins .store) in
-    let s : fileOf (lastAnswer noRecords ms .answer) (lastLeft ws₀ ms) ≡ withPiece N testFile (value emptyStore) =
-    last-state netlist loaded N (m .legal) noRecords ws₀ work ms (m .takes)
-    ∙ pieces-joined N (bytesOf ms) (m .whole) (value ws₀)
-    ∙ ap (λ (x : List ℕ). withPiece N testFile (value x)) empty in
+    let lent = begun-lent netlist class ws ws₀ work (m .begun .answer) (m .begins .answer) (m .isReady) in
+    let before = begun-before netlist class ws ws₀ work (m .begun .answer) (m .begins .answer) (m .isReady) N (m .legal) in
+    let empty = begun-empty netlist class ws ws₀ work (m .begun .answer) (m .begins .answer) (m .isReady) (m .begins .store) in
+    let s : fileOf (lastAnswer noRecords ms .answer) (lastLeft ws₀ ms) ≡ withPiece N c testFile (value emptyStore) =
+    last-state netlist loaded class N (m .legal) noRecords ws₀ work ms (m .takes)
+    ∙ pieces-joined N c (bytesOf ms) (m .whole) (value ws₀)
+    ∙ ap (λ (x : List ℕ). withPiece N c testFile (value x)) empty in
     record {
       answer = m .ends .answer N (m .legal) ∙ ap (λ (x : Answer (List ℕ)). passes (endOf N (length testFile) report x)) s
-          ∙ end-answer netlist testFile report ws work N (m .legal) lent;
+          ∙ end-answer netlist class testFile report ws work N lent before;
       store = m .ends .store N (m .legal) ∙ ap (λ (x : Answer (List ℕ)). leftStore (endOf N (length testFile) report x)) s
-          ∙ end-store netlist testFile report ws work N (m .legal) lent;
-      work = end-work netlist testFile report ws work N (m .legal) lent (lastWork work ms)
-          (last-length netlist loaded N (m .legal) noRecords ws₀ work ms (m .takes)) (last-past netlist loaded N (m .legal) noRecords ws₀ work ms (m .takes));
+          ∙ end-store netlist class testFile report ws work N lent before;
+      work = end-work netlist class testFile report ws work N lent before (lastWork work ms)
+          (last-length netlist loaded class N (m .legal) noRecords ws₀ work ms (m .takes))
+          (last-past netlist loaded class N (m .legal) noRecords ws₀ work ms (m .takes));
     }
 
 -- The other steps can then be made
-pub begun-ready : (netlist ws ws₀ work : List ℕ) (b : Begun) → BeginTrue b netlist ws ws₀ work → b .answer ≡ beginning.Ready
+pub begun-ready : (netlist : List ℕ) (class : ℕ) (ws ws₀ work : List ℕ) (b : Begun) → BeginTrue b netlist class ws ws₀ work → b .answer ≡ beginning.Ready
     → Ready netlist (b .loaded) ws₀ work
 unfolding beginAnswer
-begun-ready netlist ws ws₀ work b t q = go (b .loaded .answer) refl
+begun-ready netlist class ws ws₀ work b t q = go (b .loaded .answer) refl
   where
     go : (x : SurveyAnswer) → b .loaded .answer ≡ x → Ready netlist (b .loaded) ws₀ work
     go (survey.Refused w) e =
-        let l = begun-lent netlist ws ws₀ work (b .answer) (t .answer) q in
+        let l = begun-lent netlist class ws ws₀ work (b .answer) (t .answer) q in
         let a : value tt ≡ refused (refusalNumber w) =
         sym (ap begunOf q) ∙ t .answer ∙ rw (l, loaded-refused (b .loaded) netlist (t .tables) w e) refl in
         absurd (not-refused (sym a))
@@ -189,30 +217,37 @@ begun-ready netlist ws ws₀ work b t q = go (b .loaded .answer) refl
             outputsAre = d .outputsAre;
           };
           totalIs = d .totalIs;
-          memory = begun-memory netlist ws ws₀ work (b .answer) (t .answer) q (d .netlist) (t .store);
+          memory = begun-memory netlist class ws ws₀ work (b .answer) (t .answer) q (d .netlist) (t .store);
         }
 
 -- a beginning that was refused, with the number `n`
-module _ (netlist testFile report ws ws₀ work : List ℕ) (n : ℕ) (a : refused n ≡ beginAnswer netlist ws work) (s : ws₀ ≡ beginStore ws work) where
-  pub untouched : WorkAfter netlist ws work work
+module _ (netlist : List ℕ) (class : ℕ) (testFile report ws ws₀ work : List ℕ) (n : ℕ) (a : refused n ≡ beginAnswer netlist class ws work) (s : ws₀ ≡ beginStore ws work) where
+  pub untouched : WorkAfter netlist class ws work work
   untouched = record { sameLength = refl; pastWork = refl; notReached = λ n e. refl }
 
   -- answer and store of the audit
   abbrev Refuses : Type 0
-  Refuses = (refused n ≡ auditAnswer netlist testFile report ws work) × (ws₀ ≡ auditStore netlist testFile report ws work)
+  Refuses = (refused n ≡ auditAnswer netlist class testFile report ws work) × (ws₀ ≡ auditStore netlist class testFile report ws work)
+
+  at-class : (N : Netlist) → lentRules ws work ≡ value tt → readNetlist netlist ≡ value N → (k : Bool) → within 1 2 class ≡ k → Refuses
+  unfolding auditAnswer auditCall beginAnswer beginStore
+  at-class N l e true k =
+      let c : refused n ≡ value tt = a ∙ rw (l, e) (rw k refl) in
+      absurd (not-refused c)
+  at-class N l e false k =
+      let c : auditCall netlist class testFile report ws work ≡ refused 83 = rw (l, e) (rw k refl) in
+      (a ∙ rw (l, e) (rw k refl), s ∙ rw l refl ∙ sym (audit-emptied netlist class testFile report ws work 83 l c))
 
   at-netlist : (y : Answer Netlist) → lentRules ws work ≡ value tt → readNetlist netlist ≡ y → Refuses
   unfolding auditAnswer auditCall beginAnswer beginStore
   at-netlist (refused k) l e =
-      let c : auditCall netlist testFile report ws work ≡ refused k = rw (l, e) refl in
-      (a ∙ rw (l, e) refl, s ∙ rw l refl ∙ sym (audit-emptied netlist testFile report ws work k l c))
-  at-netlist (value N) l e =
-      let c : refused n ≡ value tt = a ∙ rw (l, e) refl in
-      absurd (not-refused c)
+      let c : auditCall netlist class testFile report ws work ≡ refused k = rw (l, e) refl in
+      (a ∙ rw (l, e) refl, s ∙ rw l refl ∙ sym (audit-emptied netlist class testFile report ws work k l c))
+  at-netlist (value N) l e = at-class N l e (within 1 2 class) refl
 
   at-lent : (x : Answer (Unit {0})) → lentRules ws work ≡ x → Refuses
   unfolding auditAnswer auditCall beginAnswer beginStore
-  at-lent (refused k) l = (a ∙ rw l refl, s ∙ rw l refl ∙ sym (audit-found netlist testFile report ws work k l))
+  at-lent (refused k) l = (a ∙ rw l refl, s ∙ rw l refl ∙ sym (audit-found netlist class testFile report ws work k l))
   at-lent (value u) l = at-netlist (readNetlist netlist) l refl
 
   pub begun-refused : Refuses

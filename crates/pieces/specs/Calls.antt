@@ -1,5 +1,5 @@
 -- The public calls of an audit in pieces, each as a function of what it is handed: its answer, and the lent memory afterwards.
--- Names: piece is the bytes of a piece, total the number of bytes of the whole file, first the number of the first refusal or 0.
+-- Names: class is the number of a class, the same for the whole file; piece is the bytes of a piece, total the number of bytes of the whole file, first the number of the first refusal or 0.
 -- Assumes nothing.
 use mathlib.Core.Path.{_≡_}
 use mathlib.Core.Bool.{true, false}
@@ -9,7 +9,8 @@ use lib.Dec.{eqb}
 use lib.ListN.{length, drop}
 use Rattle.model.specs.Base.{Answer, refused, value, _>>=_, _>>_, checks, passes, after}
 use Rattle.model.specs.Netlist.{Netlist, pathTotal}
-use Rattle.model.specs.Read.{readNetlist, recordLength}
+use Rattle.model.specs.Detect.{Class}
+use Rattle.model.specs.Read.{readNetlist, classOf, recordLength}
 use Rattle.model.specs.Refusals.{refusalNumber}
 use Rattle.model.specs.Store.{storeWords, storeRules}
 use Rattle.model.specs.Calls.{workWords, storeRule, beforeTest}
@@ -25,8 +26,8 @@ use Rattle.pieces.specs.declared.EndAnswer.the-variants as ending
 use Rattle.pieces.specs.Steps.{begunOf, lentRules, beginAnswer, beginStore, endBy}
 
 -- The beginning: its answer, and the store afterwards
-pub record BegunTrue (r : BeginAnswer) (netlist ws ws′ work : List ℕ) : Type 0 where
-  pub answer : begunOf r ≡ beginAnswer netlist ws work
+pub record BegunTrue (r : BeginAnswer) (netlist : List ℕ) (class : ℕ) (ws ws′ work : List ℕ) : Type 0 where
+  pub answer : begunOf r ≡ beginAnswer netlist class ws work
   pub store : ws′ ≡ beginStore ws work
 
 -- what the records of a piece answer: how many were taken before the first that was refused, all if none was, and the number of that refusal
@@ -40,37 +41,39 @@ pieceOf (piece.Taken k) = value (record { taken = k; said = value tt })
 pieceOf (piece.RecordRefused k w) = value (record { taken = k; said = refused (refusalNumber w) })
 pieceOf (piece.Refused w) = refused (refusalNumber w)
 
--- the records of a piece, in order, on a netlist and from a store: what they answer
-unfoldable pub recordsSaid : Netlist → List ℕ → List ℕ → RecordsSaid
-recordsSaid N bytes ws = record { taken = takenOf N (fileRecords N bytes) ws; said = passes (testAll N (fileRecords N bytes) ws) }
+-- the records of a piece, in order, on a netlist, in a class and from a store: what they answer
+unfoldable pub recordsSaid : Netlist → Class → List ℕ → List ℕ → RecordsSaid
+recordsSaid N c bytes ws = record { taken = takenOf N c (fileRecords N bytes) ws; said = passes (testAll N c (fileRecords N bytes) ws) }
 
 -- the store is checked before the first record
 abbrev pub storeChecked : ℕ → List ℕ → Answer (List ℕ)
 storeChecked paths ws = checks (storeRules paths ws) >> value ws
 
--- A piece: 1, 2, the netlist, 40 to 42, then the records. Its answer, and the store that the test calls leave
-unfoldable pub pieceAnswer : List ℕ → List ℕ → List ℕ → List ℕ → Answer RecordsSaid
-pieceAnswer netlist bytes ws work = beforeTest netlist ws work >>= λ N. storeChecked (pathTotal N) ws >>= λ sound. value (recordsSaid N bytes sound)
+-- A piece: 1, 2, the netlist, 83, 40 to 42, then the records. Its answer, and the store that the test calls leave
+unfoldable pub pieceAnswer : List ℕ → ℕ → List ℕ → List ℕ → List ℕ → Answer RecordsSaid
+pieceAnswer netlist class bytes ws work =
+    beforeTest netlist class ws work >>= λ N. storeChecked (pathTotal N) ws >>= λ sound. value (recordsSaid N (classOf class) bytes sound)
 
-unfoldable pub pieceCall : List ℕ → List ℕ → List ℕ → List ℕ → Answer (List ℕ)
-pieceCall netlist bytes ws work = beforeTest netlist ws work >>= λ N. storeChecked (pathTotal N) ws >>= λ sound. testAll N (fileRecords N bytes) sound
+unfoldable pub pieceCall : List ℕ → ℕ → List ℕ → List ℕ → List ℕ → Answer (List ℕ)
+pieceCall netlist class bytes ws work =
+    beforeTest netlist class ws work >>= λ N. storeChecked (pathTotal N) ws >>= λ sound. testAll N (classOf class) (fileRecords N bytes) sound
 
 -- the store afterwards: refused with 1 or 2 it is as found, with any other number all zeros
-unfoldable pub pieceLeft : List ℕ → List ℕ → List ℕ → List ℕ → List ℕ
-pieceLeft netlist bytes ws work = after (lentRules ws work) ws (λ u. leftStore (pieceCall netlist bytes ws work))
+unfoldable pub pieceLeft : List ℕ → ℕ → List ℕ → List ℕ → List ℕ → List ℕ
+pieceLeft netlist class bytes ws work = after (lentRules ws work) ws (λ u. leftStore (pieceCall netlist class bytes ws work))
 
 -- working memory afterwards: it may hold anything in its first 8,192 words if the records were reached, else it is as before
-pub record PieceWork (netlist ws found left : List ℕ) : Type 0 where
+pub record PieceWork (netlist : List ℕ) (class : ℕ) (ws found left : List ℕ) : Type 0 where
   pub sameLength : length left ≡ length found
   pub pastWork : drop workWords left ≡ drop workWords found
-  pub notReached : (n : ℕ) → (beforeTest netlist ws found >>= λ N. storeChecked (pathTotal N) ws) ≡ refused n → left ≡ found
+  pub notReached : (n : ℕ) → (beforeTest netlist class ws found >>= λ N. storeChecked (pathTotal N) ws) ≡ refused n → left ≡ found
 
-pub record PieceTrue (r : PieceAnswer) (netlist bytes ws ws′ work work′ : List ℕ) : Type 0 where
-  pub answer : pieceOf r ≡ pieceAnswer netlist bytes ws work
-  pub store : ws′ ≡ pieceLeft netlist bytes ws work
-  pub memory : PieceWork netlist ws work work′
+pub record PieceTrue (r : PieceAnswer) (netlist : List ℕ) (class : ℕ) (bytes ws ws′ work work′ : List ℕ) : Type 0 where
+  pub answer : pieceOf r ≡ pieceAnswer netlist class bytes ws work
+  pub store : ws′ ≡ pieceLeft netlist class bytes ws work
+  pub memory : PieceWork netlist class ws work work′
 
--- once lent memory and netlist are taken: what is handed on, and what then holds
+-- once lent memory, netlist and class are taken: what is handed on, and what then holds
 pub record PieceReady (netlist : List ℕ) (loaded : Loaded) (ws work : List ℕ) : Type 0 where
   pub circuit : Netlist
   pub tables : CircuitTables circuit netlist (loaded .positions) (loaded .survey .counts) (loaded .survey .inputs)
@@ -79,9 +82,11 @@ pub record PieceReady (netlist : List ℕ) (loaded : Loaded) (ws work : List ℕ
   pub storeLength : length ws ≡ storeWords
   pub workLength : workWords ≤ length work
 
-pub record PieceStaged (r : PieceAnswer) (netlist bytes ws ws′ work work′ : List ℕ) : Type 0 where
-  pub answer : (N : Netlist) → readNetlist netlist ≡ value N → pieceOf r ≡ (storeChecked (pathTotal N) ws >>= λ sound. value (recordsSaid N bytes sound))
-  pub store : (N : Netlist) → readNetlist netlist ≡ value N → ws′ ≡ leftStore (storeChecked (pathTotal N) ws >>= λ sound. testAll N (fileRecords N bytes) sound)
+pub record PieceStaged (r : PieceAnswer) (netlist : List ℕ) (class : ℕ) (bytes ws ws′ work work′ : List ℕ) : Type 0 where
+  pub answer : (N : Netlist) → readNetlist netlist ≡ value N
+      → pieceOf r ≡ (storeChecked (pathTotal N) ws >>= λ sound. value (recordsSaid N (classOf class) bytes sound))
+  pub store : (N : Netlist) → readNetlist netlist ≡ value N
+      → ws′ ≡ leftStore (storeChecked (pathTotal N) ws >>= λ sound. testAll N (classOf class) (fileRecords N bytes) sound)
   pub sameLength : length work′ ≡ length work
   pub pastWork : drop workWords work′ ≡ drop workWords work
   pub notReached : (N : Netlist) → readNetlist netlist ≡ value N → (n : ℕ) → storeChecked (pathTotal N) ws ≡ refused n → work′ ≡ work

@@ -9,7 +9,8 @@ use lib.Dec.{leb, eqb}
 use lib.ListN.{length, drop}
 use Rattle.model.specs.Base.{Answer, refused, value, _>>=_, _>>_, checks, passes, after}
 use Rattle.model.specs.Netlist.{Netlist, pathTotal}
-use Rattle.model.specs.Read.{readNetlist, recordLength}
+use Rattle.model.specs.Detect.{Class}
+use Rattle.model.specs.Read.{readNetlist, classOf, recordLength}
 use Rattle.model.specs.Refusals.{refusalNumber}
 use Rattle.model.specs.Store.{emptyStore, runsByEdge}
 use Rattle.model.specs.Calls.{workWords, storeRule, workRule, beforeTest}
@@ -36,15 +37,15 @@ begunOf (beginning.Refused w) = refused (refusalNumber w)
 abbrev pub lentRules : List ℕ → List ℕ → Answer (Unit {0})
 lentRules ws work = checks (storeRule ws ∷ workRule work ∷ [])
 
--- The beginning: the places before Test. The store is emptied unread; with 1 or 2 it is as found
-unfoldable pub beginAnswer : List ℕ → List ℕ → List ℕ → Answer (Unit {0})
-beginAnswer netlist ws work = passes (beforeTest netlist ws work)
+-- The beginning: the places before Test, with the number of the class for the whole file. The store is emptied unread; with 1 or 2 it is as found
+unfoldable pub beginAnswer : List ℕ → ℕ → List ℕ → List ℕ → Answer (Unit {0})
+beginAnswer netlist class ws work = passes (beforeTest netlist class ws work)
 
 unfoldable pub beginStore : List ℕ → List ℕ → List ℕ
 beginStore ws work = after (lentRules ws work) ws (λ u. emptyStore)
 
-pub record BeginTrue (r : Begun) (netlist ws ws′ work : List ℕ) : Type 0 where
-  pub answer : begunOf (r .answer) ≡ beginAnswer netlist ws work
+pub record BeginTrue (r : Begun) (netlist : List ℕ) (class : ℕ) (ws ws′ work : List ℕ) : Type 0 where
+  pub answer : begunOf (r .answer) ≡ beginAnswer netlist class ws work
   pub store : ws′ ≡ beginStore ws work
   pub tables : LoadTrue (r .loaded) netlist
 
@@ -57,24 +58,25 @@ pub record Ready (netlist : List ℕ) (loaded : Loaded) (ws work : List ℕ) : T
   pub memory : MemoryReady circuit ws work
 
 -- the test calls with the records of one piece more
-unfoldable pub withPiece : Netlist → List ℕ → Answer (List ℕ) → Answer (List ℕ)
-withPiece N piece x = x >>= λ left. testAll N (fileRecords N piece) left
+unfoldable pub withPiece : Netlist → Class → List ℕ → Answer (List ℕ) → Answer (List ℕ)
+withPiece N c piece x = x >>= λ left. testAll N c (fileRecords N piece) left
 
 -- the number of records taken then; after a refused record it stays as it is
-unfoldable pub takenWith : Netlist → List ℕ → Answer (List ℕ) → ℕ → ℕ
-takenWith N piece (refused n) taken = taken
-takenWith N piece (value left) taken = taken + takenOf N (fileRecords N piece) left
+unfoldable pub takenWith : Netlist → Class → List ℕ → Answer (List ℕ) → ℕ → ℕ
+takenWith N c piece (refused n) taken = taken
+takenWith N c piece (value left) taken = taken + takenOf N c (fileRecords N piece) left
 
 -- the store afterwards; after a refused record it stays as it is
-unfoldable pub pieceStore : Netlist → FileAnswer → List ℕ → List ℕ → List ℕ
-pieceStore N file.Taken piece ws = leftStore (testAll N (fileRecords N piece) ws)
-pieceStore N (file.Refused w) piece ws = ws
+unfoldable pub pieceStore : Netlist → Class → FileAnswer → List ℕ → List ℕ → List ℕ
+pieceStore N c file.Taken piece ws = leftStore (testAll N c (fileRecords N piece) ws)
+pieceStore N c (file.Refused w) piece ws = ws
 
 -- A piece: the state, the number of records taken and the store afterwards, and what holds of the working memory; the next step can be made
-pub record PieceTaken (r : TakenRecords) (netlist : List ℕ) (loaded : Loaded) (before : TakenRecords) (piece ws ws′ work work′ : List ℕ) : Type 0 where
-  pub answer : (N : Netlist) → readNetlist netlist ≡ value N → fileOf (r .answer) ws′ ≡ withPiece N piece (fileOf (before .answer) ws)
-  pub taken : (N : Netlist) → readNetlist netlist ≡ value N → r .taken ≡ takenWith N piece (fileOf (before .answer) ws) (before .taken)
-  pub store : (N : Netlist) → readNetlist netlist ≡ value N → ws′ ≡ pieceStore N (before .answer) piece ws
+pub record PieceTaken (r : TakenRecords) (netlist : List ℕ) (loaded : Loaded) (class : ℕ) (before : TakenRecords) (piece ws ws′ work work′ : List ℕ)
+    : Type 0 where
+  pub answer : (N : Netlist) → readNetlist netlist ≡ value N → fileOf (r .answer) ws′ ≡ withPiece N (classOf class) piece (fileOf (before .answer) ws)
+  pub taken : (N : Netlist) → readNetlist netlist ≡ value N → r .taken ≡ takenWith N (classOf class) piece (fileOf (before .answer) ws) (before .taken)
+  pub store : (N : Netlist) → readNetlist netlist ≡ value N → ws′ ≡ pieceStore N (classOf class) (before .answer) piece ws
   pub few : r .taken ≤ before .taken + length piece
   pub ready : Ready netlist loaded ws′ work′
   pub sameLength : length work′ ≡ length work

@@ -7,7 +7,8 @@ use Prim.Native.Nat.{ℕ, zero, suc, _+_, _%_}
 use lib.ListN.{length}
 use Rattle.model.specs.Base.{Answer, value, _>>=_}
 use Rattle.model.specs.Netlist.{Netlist}
-use Rattle.model.specs.Read.{readNetlist, recordLength}
+use Rattle.model.specs.Detect.{Class}
+use Rattle.model.specs.Read.{readNetlist, classOf, recordLength}
 use Rattle.model.specs.Refusals.{refusalNumber}
 use Rattle.model.specs.Store.{emptyStore}
 use Rattle.model.specs.Calls.{beforeTest, WorkAfter}
@@ -41,15 +42,15 @@ WholeButLast N [] = Unit {0}
 WholeButLast N (p ∷ []) = Unit {0}
 WholeButLast N (p ∷ q ∷ ps) = (length p % recordLength N ≡ 0) × WholeButLast N (q ∷ ps)
 
--- the pieces in order
-unfoldable pub withPieces : Netlist → List (List ℕ) → Answer (List ℕ) → Answer (List ℕ)
-withPieces N [] x = x
-withPieces N (p ∷ ps) x = withPieces N ps (withPiece N p x)
+-- the pieces in order, all in one class
+unfoldable pub withPieces : Netlist → Class → List (List ℕ) → Answer (List ℕ) → Answer (List ℕ)
+withPieces N c [] x = x
+withPieces N c (p ∷ ps) x = withPieces N c ps (withPiece N c p x)
 
 -- beginning, pieces and end
-unfoldable pub piecesCall : List ℕ → List (List ℕ) → List ℕ → List ℕ → List ℕ → Answer (List ℕ)
-piecesCall netlist pieces report ws work =
-    beforeTest netlist ws work >>= λ N. endOf N (length (joined pieces)) report (withPieces N pieces (value emptyStore))
+unfoldable pub piecesCall : List ℕ → ℕ → List (List ℕ) → List ℕ → List ℕ → List ℕ → Answer (List ℕ)
+piecesCall netlist class pieces report ws work =
+    beforeTest netlist class ws work >>= λ N. endOf N (length (joined pieces)) report (withPieces N (classOf class) pieces (value emptyStore))
 
 -- ---- The steps, whose tables are made once
 
@@ -68,11 +69,11 @@ abbrev pub noRecords : TakenRecords
 noRecords = record { taken = 0; answer = file.Taken }
 
 -- The promise of each piece of a list: the first gets answer, store and working memory as given, each later one as the piece before left them
-abbrev pub Promised : List ℕ → Loaded → TakenRecords → List ℕ → List ℕ → List MadePiece → Type 0
-Promised netlist loaded before ws work [] = Unit {0}
-Promised netlist loaded before ws work (m ∷ ms) =
-    PieceTaken (m .answer) netlist loaded before (m .bytes) ws (m .left) work (m .workLeft)
-    × Promised netlist loaded (m .answer) (m .left) (m .workLeft) ms
+abbrev pub Promised : List ℕ → Loaded → ℕ → TakenRecords → List ℕ → List ℕ → List MadePiece → Type 0
+Promised netlist loaded class before ws work [] = Unit {0}
+Promised netlist loaded class before ws work (m ∷ ms) =
+    PieceTaken (m .answer) netlist loaded class before (m .bytes) ws (m .left) work (m .workLeft)
+    × Promised netlist loaded class (m .answer) (m .left) (m .workLeft) ms
 
 -- answer, store and working memory after the last
 abbrev pub lastAnswer : TakenRecords → List MadePiece → TakenRecords
@@ -87,15 +88,15 @@ abbrev pub lastWork : List ℕ → List MadePiece → List ℕ
 lastWork work [] = work
 lastWork work (m ∷ ms) = lastWork (m .workLeft) ms
 
--- Steps that were made: a beginning that is ready, the pieces `ms` in order, and an end that returned `r`, each as promised
-pub record StepsMade (netlist : List ℕ) (ms : List MadePiece) (report ws ws′ work : List ℕ) (r : AuditAnswer) : Type 0 where
+-- Steps that were made: a beginning that is ready, the pieces `ms` in order, all in one class, and an end that returned `r`, each as promised
+pub record StepsMade (netlist : List ℕ) (class : ℕ) (ms : List MadePiece) (report ws ws′ work : List ℕ) (r : AuditAnswer) : Type 0 where
   pub circuit : Netlist
   pub legal : readNetlist netlist ≡ value circuit
   pub begun : Begun
   pub emptied : List ℕ
-  pub begins : BeginTrue begun netlist ws emptied work
+  pub begins : BeginTrue begun netlist class ws emptied work
   pub isReady : begun .answer ≡ beginning.Ready
-  pub takes : Promised netlist (begun .loaded) noRecords emptied work ms
+  pub takes : Promised netlist (begun .loaded) class noRecords emptied work ms
   pub whole : WholeButLast circuit (bytesOf ms)
   pub ends : Ended r netlist (lastAnswer noRecords ms .answer) (length (joined (bytesOf ms))) report (lastLeft emptied ms) ws′
 
@@ -123,11 +124,12 @@ takenIn (piece.RecordRefused k w) = k
 takenIn (piece.Refused w) = 0
 
 -- The promise of each call of a list, the first refusal so far being `first`; once there is one, no call is made and nothing changes
-abbrev pub HandedOver : List ℕ → ℕ → List ℕ → List ℕ → List MadeCall → Type 0
-HandedOver netlist first ws work [] = Unit {0}
-HandedOver netlist zero ws work (m ∷ ms) =
-    PieceTrue (m .answer) netlist (m .bytes) ws (m .left) work (m .workLeft) × HandedOver netlist (firstOf (m .answer)) (m .left) (m .workLeft) ms
-HandedOver netlist (suc n) ws work (m ∷ ms) = (m .left ≡ ws) × (m .workLeft ≡ work) × HandedOver netlist (suc n) (m .left) (m .workLeft) ms
+abbrev pub HandedOver : List ℕ → ℕ → ℕ → List ℕ → List ℕ → List MadeCall → Type 0
+HandedOver netlist class first ws work [] = Unit {0}
+HandedOver netlist class zero ws work (m ∷ ms) =
+    PieceTrue (m .answer) netlist class (m .bytes) ws (m .left) work (m .workLeft)
+    × HandedOver netlist class (firstOf (m .answer)) (m .left) (m .workLeft) ms
+HandedOver netlist class (suc n) ws work (m ∷ ms) = (m .left ≡ ws) × (m .workLeft ≡ work) × HandedOver netlist class (suc n) (m .left) (m .workLeft) ms
 
 -- first refusal, number of records taken, store and working memory after the last
 abbrev pub lastFirst : ℕ → List MadeCall → ℕ
@@ -148,61 +150,62 @@ abbrev pub lastMemory : List ℕ → List MadeCall → List ℕ
 lastMemory work [] = work
 lastMemory work (m ∷ ms) = lastMemory (m .workLeft) ms
 
--- no call of a list was refused before its records: not for the lent memory, not for the netlist, not for the store
+-- no call of a list was refused before its records: not for the lent memory, not for the netlist, not for the class, not for the store
 abbrev pub OnlyByRecords : ℕ → List MadeCall → Type 0
 OnlyByRecords first [] = Unit {0}
 OnlyByRecords zero (m ∷ ms) = ((w : Refusal) → m .answer ≡ piece.Refused w → ⊥) × OnlyByRecords (firstOf (m .answer)) ms
 OnlyByRecords (suc n) (m ∷ ms) = OnlyByRecords (suc n) ms
 
--- Calls that were made: a beginning that is ready, and the pieces `ms` in order, as promised
-pub record PiecesMade (netlist : List ℕ) (ms : List MadeCall) (ws work : List ℕ) : Type 0 where
+-- Calls that were made: a beginning that is ready, and the pieces `ms` in order, all in one class, as promised
+pub record PiecesMade (netlist : List ℕ) (class : ℕ) (ms : List MadeCall) (ws work : List ℕ) : Type 0 where
   pub circuit : Netlist
   pub legal : readNetlist netlist ≡ value circuit
   pub emptied : List ℕ
-  pub begins : BegunTrue beginning.Ready netlist ws emptied work
-  pub takes : HandedOver netlist 0 emptied work ms
+  pub begins : BegunTrue beginning.Ready netlist class ws emptied work
+  pub takes : HandedOver netlist class 0 emptied work ms
   pub whole : WholeButLast circuit (callBytes ms)
 
 -- and the end, which returned `r`
-pub record CallsMade (netlist : List ℕ) (ms : List MadeCall) (report ws ws′ work : List ℕ) (r : EndAnswer) : Type 0 where
-  pub pieces : PiecesMade netlist ms ws work
+pub record CallsMade (netlist : List ℕ) (class : ℕ) (ms : List MadeCall) (report ws ws′ work : List ℕ) (r : EndAnswer) : Type 0 where
+  pub pieces : PiecesMade netlist class ms ws work
   pub ends : EndTrue r netlist (length (joined (callBytes ms))) (lastFirst 0 ms) report (lastStore (pieces .emptied) ms) ws′
 
 -- the promise of the audit of a whole file, of an answer that is a number
-pub record WholeAudit (r : EndAnswer) (netlist testFile report ws ws′ found left : List ℕ) : Type 0 where
-  pub answer : endedOf r ≡ auditAnswer netlist testFile report ws found
-  pub store : ws′ ≡ auditStore netlist testFile report ws found
-  pub work : WorkAfter netlist ws found left
+pub record WholeAudit (r : EndAnswer) (netlist : List ℕ) (class : ℕ) (testFile report ws ws′ found left : List ℕ) : Type 0 where
+  pub answer : endedOf r ≡ auditAnswer netlist class testFile report ws found
+  pub store : ws′ ≡ auditStore netlist class testFile report ws found
+  pub work : WorkAfter netlist class ws found left
 
 -- ---- What is claimed
 
 pub record PiecesTrue : Type 0 where
   -- by the definitions
   pub calls : (netlist : List ℕ) (N : Netlist) → readNetlist netlist ≡ value N
-      → (pieces : List (List ℕ)) → WholeButLast N pieces
-      → (report ws work : List ℕ) → piecesCall netlist pieces report ws work ≡ auditCall netlist (joined pieces) report ws work
+      → (class : ℕ) (pieces : List (List ℕ)) → WholeButLast N pieces
+      → (report ws work : List ℕ) → piecesCall netlist class pieces report ws work ≡ auditCall netlist class (joined pieces) report ws work
   -- of the values that the steps return: the promise of the audit of the whole file, its store and working memory included
-  pub made : (netlist : List ℕ) (ms : List MadePiece) (report ws ws′ work : List ℕ) (r : AuditAnswer) → StepsMade netlist ms report ws ws′ work r
-      → AuditTrue r netlist (joined (bytesOf ms)) report ws ws′ work (lastWork work ms)
+  pub made : (netlist : List ℕ) (class : ℕ) (ms : List MadePiece) (report ws ws′ work : List ℕ) (r : AuditAnswer) → StepsMade netlist class ms report ws ws′ work r
+      → AuditTrue r netlist class (joined (bytesOf ms)) report ws ws′ work (lastWork work ms)
   -- so they accept exactly the true report of the whole file
-  pub accepts : (netlist : List ℕ) (ms : List MadePiece) (report ws ws′ work : List ℕ) (r : AuditAnswer) → StepsMade netlist ms report ws ws′ work r
-      → (r ≡ audit.Accepted) ↔ Acceptable netlist (joined (bytesOf ms)) report ws work
+  pub accepts : (netlist : List ℕ) (class : ℕ) (ms : List MadePiece) (report ws ws′ work : List ℕ) (r : AuditAnswer) → StepsMade netlist class ms report ws ws′ work r
+      → (r ≡ audit.Accepted) ↔ Acceptable netlist class (joined (bytesOf ms)) report ws work
   -- a refusal at the beginning is the audit's, whatever the file and the report; else the other steps can be made
-  pub refusedAtOnce : (netlist testFile report ws ws₀ work : List ℕ) (b : Begun) → BeginTrue b netlist ws ws₀ work
-      → (w : Refusal) → b .answer ≡ beginning.Refused w → AuditTrue (audit.Refused w) netlist testFile report ws ws₀ work work
-  pub readyThen : (netlist ws ws₀ work : List ℕ) (b : Begun) → BeginTrue b netlist ws ws₀ work → b .answer ≡ beginning.Ready
+  pub refusedAtOnce : (netlist : List ℕ) (class : ℕ) (testFile report ws ws₀ work : List ℕ) (b : Begun) → BeginTrue b netlist class ws ws₀ work
+      → (w : Refusal) → b .answer ≡ beginning.Refused w → AuditTrue (audit.Refused w) netlist class testFile report ws ws₀ work work
+  pub readyThen : (netlist : List ℕ) (class : ℕ) (ws ws₀ work : List ℕ) (b : Begun) → BeginTrue b netlist class ws ws₀ work → b .answer ≡ beginning.Ready
       → Ready netlist (b .loaded) ws₀ work
   -- the same of the values that the public calls return
-  pub callsMade : (netlist : List ℕ) (ms : List MadeCall) (report ws ws′ work : List ℕ) (r : EndAnswer) → CallsMade netlist ms report ws ws′ work r
-      → WholeAudit r netlist (joined (callBytes ms)) report ws ws′ work (lastMemory work ms)
-  pub callsAccept : (netlist : List ℕ) (ms : List MadeCall) (report ws ws′ work : List ℕ) (r : EndAnswer) → CallsMade netlist ms report ws ws′ work r
-      → (r ≡ ending.Accepted) ↔ Acceptable netlist (joined (callBytes ms)) report ws work
-  pub callRefusedAtOnce : (netlist testFile report ws ws₀ work : List ℕ) (w : Refusal) → BegunTrue (beginning.Refused w) netlist ws ws₀ work
-      → WholeAudit (ending.Refused (refusalNumber w)) netlist testFile report ws ws₀ work work
+  pub callsMade : (netlist : List ℕ) (class : ℕ) (ms : List MadeCall) (report ws ws′ work : List ℕ) (r : EndAnswer) → CallsMade netlist class ms report ws ws′ work r
+      → WholeAudit r netlist class (joined (callBytes ms)) report ws ws′ work (lastMemory work ms)
+  pub callsAccept : (netlist : List ℕ) (class : ℕ) (ms : List MadeCall) (report ws ws′ work : List ℕ) (r : EndAnswer) → CallsMade netlist class ms report ws ws′ work r
+      → (r ≡ ending.Accepted) ↔ Acceptable netlist class (joined (callBytes ms)) report ws work
+  pub callRefusedAtOnce : (netlist : List ℕ) (class : ℕ) (testFile report ws ws₀ work : List ℕ) (w : Refusal)
+      → BegunTrue (beginning.Refused w) netlist class ws ws₀ work
+      → WholeAudit (ending.Refused (refusalNumber w)) netlist class testFile report ws ws₀ work work
   -- a piece call that gets the store as the call before left it is never refused for its store
-  pub neverForStore : (netlist : List ℕ) (ms : List MadeCall) (ws work : List ℕ) → PiecesMade netlist ms ws work → OnlyByRecords 0 ms
+  pub neverForStore : (netlist : List ℕ) (class : ℕ) (ms : List MadeCall) (ws work : List ℕ) → PiecesMade netlist class ms ws work → OnlyByRecords 0 ms
   -- the numbers of records taken are those of the whole file: the first refused record stands just after them
-  pub places : (netlist : List ℕ) (ms : List MadePiece) (report ws ws′ work : List ℕ) (r : AuditAnswer) → (s : StepsMade netlist ms report ws ws′ work r)
-      → lastAnswer noRecords ms .taken ≡ takenOf (s .circuit) (fileRecords (s .circuit) (joined (bytesOf ms))) emptyStore
-  pub callPlaces : (netlist : List ℕ) (ms : List MadeCall) (ws work : List ℕ) → (s : PiecesMade netlist ms ws work)
-      → lastTaken 0 0 ms ≡ takenOf (s .circuit) (fileRecords (s .circuit) (joined (callBytes ms))) emptyStore
+  pub places : (netlist : List ℕ) (class : ℕ) (ms : List MadePiece) (report ws ws′ work : List ℕ) (r : AuditAnswer) → (s : StepsMade netlist class ms report ws ws′ work r)
+      → lastAnswer noRecords ms .taken ≡ takenOf (s .circuit) (classOf class) (fileRecords (s .circuit) (joined (bytesOf ms))) emptyStore
+  pub callPlaces : (netlist : List ℕ) (class : ℕ) (ms : List MadeCall) (ws work : List ℕ) → (s : PiecesMade netlist class ms ws work)
+      → lastTaken 0 0 ms ≡ takenOf (s .circuit) (classOf class) (fileRecords (s .circuit) (joined (callBytes ms))) emptyStore

@@ -10,6 +10,7 @@ use crate::BeginAnswer;
 use model::Refusal;
 use model::STORE_WORDS;
 use model::WORK_WORDS;
+use model::known_class;
 use netlist::SurveyAnswer;
 use netlist::inner::Loaded;
 use netlist::inner::load;
@@ -31,9 +32,9 @@ pub struct Begun {
     pub loaded: Loaded,
 }
 
-// Lent memory and netlist. The store is emptied unread, unless the lent memory is refused.
-pub fn begin(netlist: &[u8], store: &mut [u64], work: &[u64]) -> Begun
-    ensures { λ r. ⌜ BeginTrue r (now (netlist .entry)) (now (store .entry)) (now (store .exit)) (now (work .entry)) ⌝ }
+// Lent memory, netlist and class. The store is emptied unread, unless the lent memory is refused.
+pub fn begin(netlist: &[u8], class: u32, store: &mut [u64], work: &[u64]) -> Begun
+    ensures { λ r. ⌜ BeginTrue r (now (netlist .entry)) class (now (store .entry)) (now (store .exit)) (now (work .entry)) ⌝ }
 {
     let loaded = load(netlist);
     if store.len() != STORE_WORDS {
@@ -55,25 +56,35 @@ pub fn begin(netlist: &[u8], store: &mut [u64], work: &[u64]) -> Begun
             answer: BeginAnswer::Refused(why),
             loaded,
         },
-        SurveyAnswer::Legal => Begun {
-            answer: BeginAnswer::Ready,
-            loaded,
-        },
+        SurveyAnswer::Legal => {
+            let known = known_class(class);
+            if !known {
+                return Begun {
+                    answer: BeginAnswer::Refused(Refusal::UnknownClass),
+                    loaded,
+                };
+            }
+            Begun {
+                answer: BeginAnswer::Ready,
+                loaded,
+            }
+        }
     }
 }
 
-// The test stage with the whole records of a piece in order; after a refused record no other is tried. A refused record empties the store.
+// The test stage with the whole records of a piece in order, judged in a class; after a refused record no other is tried. A refused record empties the store.
 pub fn take_piece(
     netlist: &[u8],
     loaded: Loaded,
     before: TakenRecords,
     piece: &[u8],
+    class: u32,
     store: &mut [u64],
     work: &mut [u64],
 ) -> TakenRecords
     requires { ⌜ Ready (now netlist) loaded (now store) (now work) ⌝ }
     requires { ⌜ before .taken + length (now piece) < 2 ^ 64 ⌝ }
-    ensures { λ r. ⌜ PieceTaken r (now (netlist .entry)) loaded before (now (piece .entry)) (now (store .entry)) (now (store .exit)) (now (work .entry)) (now (work .exit)) ⌝ }
+    ensures { λ r. ⌜ PieceTaken r (now (netlist .entry)) loaded class before (now (piece .entry)) (now (store .entry)) (now (store .exit)) (now (work .entry)) (now (work .exit)) ⌝ }
 {
     let survey = loaded.survey;
     let positions = loaded.positions;
@@ -94,6 +105,7 @@ pub fn take_piece(
                 nets,
                 survey.outputs,
                 piece,
+                class,
                 store,
                 work,
             );

@@ -1,5 +1,5 @@
 // The audit with its test file in pieces, so that a file of any length is judged: a beginning, a call for each piece in file order, an end.
-// Each piece but the last is a whole number of records. A caller keeps the number of bytes so far and the number of the first refusal; once a
+// Each piece but the last is a whole number of records, and all are handed the class of the beginning. A caller keeps the number of bytes so far and the number of the first refusal; once a
 // piece is refused, no other is handed over.
 pub mod inner;
 
@@ -16,6 +16,7 @@ use crate::inner::whole_length;
 use model::Refusal;
 use model::STORE_WORDS;
 use model::WORK_WORDS;
+use model::known_class;
 use model::refusal_number;
 use netlist::SurveyAnswer;
 use netlist::inner::Loaded;
@@ -50,17 +51,24 @@ pub enum EndAnswer {
     Refused(u32),
 }
 
-// The beginning: lent memory and netlist. The store is emptied unread, unless the lent memory is refused.
-pub fn audit_begin(netlist: &[u8], store: &mut [u64], work: &[u64]) -> BeginAnswer
-    ensures { λ r. ⌜ BegunTrue r (now (netlist .entry)) (now (store .entry)) (now (store .exit)) (now (work .entry)) ⌝ }
+// The beginning: lent memory, netlist and class. The store is emptied unread, unless the lent memory is refused.
+pub fn audit_begin(netlist: &[u8], test_class: u32, store: &mut [u64], work: &[u64]) -> BeginAnswer
+    ensures { λ r. ⌜ BegunTrue r (now (netlist .entry)) «test_class» (now (store .entry)) (now (store .exit)) (now (work .entry)) ⌝ }
 {
-    let begun = begin(netlist, store, work);
+    let begun = begin(netlist, test_class, store, work);
     begun.answer
 }
 
-// A piece: lent memory, netlist, store, then the test stage with its whole records in order. Refused with a number over 2 it leaves the store empty.
-pub fn audit_piece(netlist: &[u8], piece: &[u8], store: &mut [u64], work: &mut [u64]) -> PieceAnswer
-    ensures { λ r. ⌜ PieceTrue r (now (netlist .entry)) (now (piece .entry)) (now (store .entry)) (now (store .exit)) (now (work .entry)) (now (work .exit)) ⌝ }
+// A piece: lent memory, netlist, class, store, then the test stage with its whole records in order. Refused with a number over 2 it leaves the
+// store empty.
+pub fn audit_piece(
+    netlist: &[u8],
+    piece: &[u8],
+    test_class: u32,
+    store: &mut [u64],
+    work: &mut [u64],
+) -> PieceAnswer
+    ensures { λ r. ⌜ PieceTrue r (now (netlist .entry)) «test_class» (now (piece .entry)) (now (store .entry)) (now (store .exit)) (now (work .entry)) (now (work .exit)) ⌝ }
 {
     if store.len() != STORE_WORDS {
         return PieceAnswer::Refused(Refusal::StoreLength);
@@ -75,7 +83,14 @@ pub fn audit_piece(netlist: &[u8], piece: &[u8], store: &mut [u64], work: &mut [
             clear(store);
             PieceAnswer::Refused(why)
         }
-        SurveyAnswer::Legal => piece_on(netlist, loaded, piece, store, work),
+        SurveyAnswer::Legal => {
+            let known = known_class(test_class);
+            if !known {
+                clear(store);
+                return PieceAnswer::Refused(Refusal::UnknownClass);
+            }
+            piece_on(netlist, loaded, piece, test_class, store, work)
+        }
     }
 }
 
@@ -84,11 +99,12 @@ fn piece_on(
     netlist: &[u8],
     loaded: Loaded,
     piece: &[u8],
+    class: u32,
     store: &mut [u64],
     work: &mut [u64],
 ) -> PieceAnswer
     requires { ⌜ PieceReady (now netlist) loaded (now store) (now work) ⌝ }
-    ensures { λ r. ⌜ PieceStaged r (now (netlist .entry)) (now (piece .entry)) (now (store .entry)) (now (store .exit)) (now (work .entry)) (now (work .exit)) ⌝ }
+    ensures { λ r. ⌜ PieceStaged r (now (netlist .entry)) class (now (piece .entry)) (now (store .entry)) (now (store .exit)) (now (work .entry)) (now (work .exit)) ⌝ }
 {
     let checked = check_words(store, loaded.survey.total);
     match checked {
@@ -101,7 +117,7 @@ fn piece_on(
                 taken: 0,
                 answer: FileAnswer::Taken,
             };
-            let records = take_piece(netlist, loaded, none, piece, store, work);
+            let records = take_piece(netlist, loaded, none, piece, class, store, work);
             let answer = records.answer;
             match answer {
                 FileAnswer::Taken => PieceAnswer::Taken(records.taken),

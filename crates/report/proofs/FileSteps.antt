@@ -11,7 +11,8 @@ use lib.ListN.{length, take, drop, replicate, length-drop}
 use lib.Seq.{drop-drop}
 use Rattle.model.specs.Base.{Answer, refused, value, _>>=_, checks, passes, after}
 use Rattle.model.specs.Netlist.{Netlist, pathTotal}
-use Rattle.model.specs.Read.{vectorBytes, recordLength}
+use Rattle.model.specs.Detect.{Class}
+use Rattle.model.specs.Read.{classOf, vectorBytes, recordLength}
 use Rattle.model.specs.Refusals.{refusalNumber}
 use Rattle.model.specs.Store.{storeWords, emptyStore, storeRules}
 use Rattle.model.specs.Calls.{Tested, storeLeft, testStage, workWords}
@@ -39,12 +40,12 @@ few-inputs netlist positions netCounts inputs netCount outputs ws work s =
     omega (arith, s .tables .inputsAre, limits netlist (s .circuit) (s .tables .legal) .fewInputs)
 
 -- The stage, from its answer
-module _ (N : Netlist) (rec ws : List ℕ) (r : StageAnswer) (e : stageOf r ≡ passes (testStage N rec ws)) where
-  stage-took : r ≡ stage.Taken → Passed (testStage N rec ws)
-  stage-took q = taken-by (testStage N rec ws) (sym (ap stageOf q) ∙ e)
+module _ (N : Netlist) (c : Class) (rec ws : List ℕ) (r : StageAnswer) (e : stageOf r ≡ passes (testStage N c rec ws)) where
+  stage-took : r ≡ stage.Taken → Passed (testStage N c rec ws)
+  stage-took q = taken-by (testStage N c rec ws) (sym (ap stageOf q) ∙ e)
 
-  stage-refuses : (w : Refusal) → r ≡ stage.Refused w → testStage N rec ws ≡ refused (refusalNumber w)
-  stage-refuses w q = refused-by (testStage N rec ws) (refusalNumber w) (sym (ap stageOf q) ∙ e)
+  stage-refuses : (w : Refusal) → r ≡ stage.Refused w → testStage N c rec ws ≡ refused (refusalNumber w)
+  stage-refuses w q = refused-by (testStage N c rec ws) (refusalNumber w) (sym (ap stageOf q) ∙ e)
 
 -- The records of a file
 records-next : (len : ℕ) (bs : List ℕ) → 0 < len → len ≤ length bs
@@ -69,16 +70,16 @@ module _ (N : Netlist) (testFile : List ℕ) (at : ℕ) where
   no-record : length testFile - at < recordLength N → fileRecords N (drop at testFile) ≡ []
   no-record h = records-end (recordLength N) (drop at testFile) (omega (arith, length-drop at testFile))
 
-module _ (netlist positions netCounts : List ℕ) (inputs netCount outputs : ℕ) (testFile ws₀ work₀ : List ℕ) where
+module _ (netlist positions netCounts : List ℕ) (inputs netCount outputs class : ℕ) (testFile ws₀ work₀ : List ℕ) where
   -- The records before byte `at` are taken, as many as `taken`: the rest from here gives the whole, and the store passes its rules
   pub record Taking (ws work : List ℕ) (at taken : ℕ) : Type 0 where
     pub within : at ≤ length testFile
     pub few : taken ≤ at
     pub ready : StageReady netlist positions netCounts inputs netCount outputs ws work
     pub rest : (N : Netlist) → CircuitTables N netlist positions netCounts inputs netCount outputs
-        → testAll N (fileRecords N (drop at testFile)) ws ≡ testAll N (fileRecords N testFile) ws₀
+        → testAll N (classOf class) (fileRecords N (drop at testFile)) ws ≡ testAll N (classOf class) (fileRecords N testFile) ws₀
     pub counted : (N : Netlist) → CircuitTables N netlist positions netCounts inputs netCount outputs
-        → taken + takenOf N (fileRecords N (drop at testFile)) ws ≡ takenOf N (fileRecords N testFile) ws₀
+        → taken + takenOf N (classOf class) (fileRecords N (drop at testFile)) ws ≡ takenOf N (classOf class) (fileRecords N testFile) ws₀
     pub sameLength : length work ≡ length work₀
     pub pastWork : drop workWords work ≡ drop workWords work₀
 
@@ -98,15 +99,15 @@ module _ (netlist positions netCounts : List ℕ) (inputs netCount outputs : ℕ
     length-is N t = eb ∙ ap (λ (i : ℕ). 2 + 2 * vectorBytes i) (t .inputsAre)
 
     pub taking-end : length testFile - at < bytes
-        → FileTaken (record { taken = taken; answer = file.Taken }) netlist positions netCounts inputs netCount outputs testFile ws₀ ws work₀ work
+        → FileTaken (record { taken = taken; answer = file.Taken }) netlist positions netCounts inputs netCount outputs class testFile ws₀ ws work₀ work
     unfolding leftStore testAll takenOf
     taking-end h =
         let none : (N : Netlist) → CircuitTables N netlist positions netCounts inputs netCount outputs → [] ≡ fileRecords N (drop at testFile) =
         λ N t. sym (no-record N testFile at (omega (arith, length-is N t))) in
-        let left : (N : Netlist) → CircuitTables N netlist positions netCounts inputs netCount outputs → value ws ≡ testAll N (fileRecords N testFile) ws₀ =
-        λ N t. ap (λ (rs : List (List ℕ)). testAll N rs ws) (none N t) ∙ g .rest N t in
-        let all : (N : Netlist) → CircuitTables N netlist positions netCounts inputs netCount outputs → taken + 0 ≡ takenOf N (fileRecords N testFile) ws₀ =
-        λ N t. ap (λ (rs : List (List ℕ)). taken + takenOf N rs ws) (none N t) ∙ g .counted N t in
+        let left : (N : Netlist) → CircuitTables N netlist positions netCounts inputs netCount outputs → value ws ≡ testAll N (classOf class) (fileRecords N testFile) ws₀ =
+        λ N t. ap (λ (rs : List (List ℕ)). testAll N (classOf class) rs ws) (none N t) ∙ g .rest N t in
+        let all : (N : Netlist) → CircuitTables N netlist positions netCounts inputs netCount outputs → taken + 0 ≡ takenOf N (classOf class) (fileRecords N testFile) ws₀ =
+        λ N t. ap (λ (rs : List (List ℕ)). taken + takenOf N (classOf class) rs ws) (none N t) ∙ g .counted N t in
         record {
           ofCircuit = λ N t. record { answer = left N t; store = ap leftStore (left N t); taken = omega (arith, all N t) };
           few = omega (arith, g .few, g .within);
@@ -115,14 +116,14 @@ module _ (netlist positions netCounts : List ℕ) (inputs netCount outputs : ℕ
         }
 
     module _ (h : bytes ≤ length testFile - at) (ws′ work′ : List ℕ) (r : StageAnswer)
-        (s : (N : Netlist) → CircuitTables N netlist positions netCounts inputs netCount outputs → StageTrue N (take (at + bytes - at) (drop at testFile)) ws ws′ work work′ r) where
+        (s : (N : Netlist) → CircuitTables N netlist positions netCounts inputs netCount outputs → StageTrue N (classOf class) (take (at + bytes - at) (drop at testFile)) ws ws′ work work′ r) where
       abbrev rec : List ℕ
       rec = take (at + bytes - at) (drop at testFile)
 
       C : Netlist
       C = g .ready .circuit
 
-      here : StageTrue C rec ws ws′ work work′ r
+      here : StageTrue C (classOf class) rec ws ws′ work work′ r
       unfolding C
       here = s C (g .ready .tables)
 
@@ -137,25 +138,25 @@ module _ (netlist positions netCounts : List ℕ) (inputs netCount outputs : ℕ
           ∙ ap {B = List (List ℕ)} (λ (k : ℕ). take k (drop at testFile) ∷ fileRecords N (drop (at + bytes) testFile)) p
 
       more : (N : Netlist) → CircuitTables N netlist positions netCounts inputs netCount outputs
-          → testAll N (fileRecords N testFile) ws₀ ≡ (testStage N rec ws >>= λ t. testAll N (fileRecords N (drop (at + bytes) testFile)) (storeLeft t))
+          → testAll N (classOf class) (fileRecords N testFile) ws₀ ≡ (testStage N (classOf class) rec ws >>= λ t. testAll N (classOf class) (fileRecords N (drop (at + bytes) testFile)) (storeLeft t))
       unfolding testAll
-      more N t = sym (g .rest N t) ∙ ap (λ (rs : List (List ℕ)). testAll N rs ws) (this-record N t)
+      more N t = sym (g .rest N t) ∙ ap (λ (rs : List (List ℕ)). testAll N (classOf class) rs ws) (this-record N t)
 
       more-taken : (N : Netlist) → CircuitTables N netlist positions netCounts inputs netCount outputs
-          → takenOf N (fileRecords N testFile) ws₀ ≡ taken + oneMore (testStage N rec ws) (λ t. takenOf N (fileRecords N (drop (at + bytes) testFile)) (storeLeft t))
+          → takenOf N (classOf class) (fileRecords N testFile) ws₀ ≡ taken + oneMore (testStage N (classOf class) rec ws) (λ t. takenOf N (classOf class) (fileRecords N (drop (at + bytes) testFile)) (storeLeft t))
       unfolding takenOf
-      more-taken N t = sym (g .counted N t) ∙ ap (λ (rs : List (List ℕ)). taken + takenOf N rs ws) (this-record N t)
+      more-taken N t = sym (g .counted N t) ∙ ap (λ (rs : List (List ℕ)). taken + takenOf N (classOf class) rs ws) (this-record N t)
 
       pub taking-refused : (w : Refusal) → r ≡ stage.Refused w → (ws″ : List ℕ) → ws″ ≡ replicate (length ws′) 0
-          → FileTaken (record { taken = taken; answer = file.Refused w }) netlist positions netCounts inputs netCount outputs testFile ws₀ ws″ work₀ work′
+          → FileTaken (record { taken = taken; answer = file.Refused w }) netlist positions netCounts inputs netCount outputs class testFile ws₀ ws″ work₀ work′
       unfolding leftStore storeAfter C
       taking-refused w q ws″ z =
-          let k : ws′ ≡ ws = here .store ∙ ap (λ (a : Answer Tested). after a ws storeLeft) (stage-refuses C rec ws r (here .answer) w q) in
+          let k : ws′ ≡ ws = here .store ∙ ap (λ (a : Answer Tested). after a ws storeLeft) (stage-refuses C (classOf class) rec ws r (here .answer) w q) in
           let l : length ws′ ≡ storeWords = ap (length {A = ℕ}) k ∙ g .ready .memory .storeLength in
-          let x : (N : Netlist) → CircuitTables N netlist positions netCounts inputs netCount outputs → testAll N (fileRecords N testFile) ws₀ ≡ refused (refusalNumber w) =
-          λ N t. more N t ∙ rw (stage-refuses N rec ws r (s N t .answer) w q) refl in
-          let all : (N : Netlist) → CircuitTables N netlist positions netCounts inputs netCount outputs → takenOf N (fileRecords N testFile) ws₀ ≡ taken + 0 =
-          λ N t. more-taken N t ∙ rw (stage-refuses N rec ws r (s N t .answer) w q) refl in
+          let x : (N : Netlist) → CircuitTables N netlist positions netCounts inputs netCount outputs → testAll N (classOf class) (fileRecords N testFile) ws₀ ≡ refused (refusalNumber w) =
+          λ N t. more N t ∙ rw (stage-refuses N (classOf class) rec ws r (s N t .answer) w q) refl in
+          let all : (N : Netlist) → CircuitTables N netlist positions netCounts inputs netCount outputs → takenOf N (classOf class) (fileRecords N testFile) ws₀ ≡ taken + 0 =
+          λ N t. more-taken N t ∙ rw (stage-refuses N (classOf class) rec ws r (s N t .answer) w q) refl in
           record {
             ofCircuit = λ N t. record {
               answer = sym (x N t);
@@ -168,8 +169,8 @@ module _ (netlist positions netCounts : List ℕ) (inputs netCount outputs : ℕ
           }
 
       module _ (q : r ≡ stage.Taken) where
-        took : Passed (testStage C rec ws)
-        took = stage-took C rec ws r (here .answer) q
+        took : Passed (testStage C (classOf class) rec ws)
+        took = stage-took C (classOf class) rec ws r (here .answer) q
 
         left-is : ws′ ≡ storeLeft (took .got)
         unfolding storeAfter
@@ -182,8 +183,8 @@ module _ (netlist positions netCounts : List ℕ) (inputs netCount outputs : ℕ
         pub taking-next : Taking ws′ work′ (at + bytes) (taken + 1)
         unfolding storeAfter C
         taking-next =
-            let l = stage-length C ws (g .ready .memory .storeLength) passed rec (took .got) (took .is) in
-            let p = stage-sound C ws (g .ready .memory .storeLength) passed rec (took .got) (took .is) in
+            let l = stage-length C ws (g .ready .memory .storeLength) passed (classOf class) rec (took .got) (took .is) in
+            let p = stage-sound C ws (g .ready .memory .storeLength) passed (classOf class) rec (took .got) (took .is) in
             record {
               within = omega (arith, g .within);
               few = omega (arith, g .few, eb);
@@ -198,15 +199,15 @@ module _ (netlist positions netCounts : List ℕ) (inputs netCount outputs : ℕ
                 };
               };
               rest = λ N t.
-                  let m = stage-took N rec ws r (s N t .answer) q in
+                  let m = stage-took N (classOf class) rec ws r (s N t .answer) q in
                   let w : ws′ ≡ storeLeft (m .got) = s N t .store ∙ ap (λ (x : Answer Tested). after x ws storeLeft) (m .is) in
-                  sym (more N t ∙ rw (m .is) (ap (λ (x : List ℕ). testAll N (fileRecords N (drop (at + bytes) testFile)) x) (sym w)));
+                  sym (more N t ∙ rw (m .is) (ap (λ (x : List ℕ). testAll N (classOf class) (fileRecords N (drop (at + bytes) testFile)) x) (sym w)));
               counted = λ N t.
-                  let m = stage-took N rec ws r (s N t .answer) q in
+                  let m = stage-took N (classOf class) rec ws r (s N t .answer) q in
                   let w : ws′ ≡ storeLeft (m .got) = s N t .store ∙ ap (λ (x : Answer Tested). after x ws storeLeft) (m .is) in
                   let others : List (List ℕ) = fileRecords N (drop (at + bytes) testFile) in
-                  let all : takenOf N (fileRecords N testFile) ws₀ ≡ taken + (1 + takenOf N others ws′) =
-                  more-taken N t ∙ rw (m .is) (ap (λ (x : List ℕ). taken + (1 + takenOf N others x)) (sym w)) in
+                  let all : takenOf N (classOf class) (fileRecords N testFile) ws₀ ≡ taken + (1 + takenOf N (classOf class) others ws′) =
+                  more-taken N t ∙ rw (m .is) (ap (λ (x : List ℕ). taken + (1 + takenOf N (classOf class) others x)) (sym w)) in
                   omega (arith, all);
               sameLength = here .sameLength ∙ g .sameLength;
               pastWork = here .pastWork ∙ g .pastWork;

@@ -8,11 +8,11 @@ use Rattle.model.specs.Base.{Answer, refused, value, _>>=_}
 use Rattle.model.specs.Netlist.{Netlist}
 use Rattle.model.specs.Path.{rising, falling}
 use Rattle.model.specs.Detect.{Test}
-use Rattle.model.specs.Read.{readNetlist, testOf}
+use Rattle.model.specs.Read.{readNetlist, classOf}
 use Rattle.model.specs.Store.{ByEdge, emptyStore}
 use Rattle.model.specs.Calls.{Tested, testCall, testAnswer, totalsCall}
 use Rattle.model.specs.Demand3 as demand
-use Rattle.model.specs.Demand3.{Call, State, start, next, afterCalls, leftBy, NoRefusal, StoreTrue}
+use Rattle.model.specs.Demand3.{Call, State, start, testIn, next, afterCalls, leftBy, NoRefusal, StoreTrue}
 use Rattle.model.proofs.AnswerLaws.{not-refused, value-inj, steps}
 use Rattle.model.proofs.ReportsHold.{demand-3}
 use Rattle.coverage.specs.TestCall.{testedOf}
@@ -42,9 +42,9 @@ module _ (netlist : List ℕ) (N : Netlist) where
   unfolding afterCalls testAnswer
   state-after [] s p = refl
   state-after (m ∷ ms) s p =
-      let t : Test = testOf N (m .call .rec) in
-      let k : demand.withTest (testCall netlist (m .call .rec) (s .store) (m .call .work)) t (s .taken) ≡ withTaken (testedOf (m .answer)) t (s .taken) =
-      same-taken (testCall netlist (m .call .rec) (s .store) (m .call .work)) t (s .taken) ∙ ap (λ a. withTaken a t (s .taken)) (sym (p .0 .answer)) in
+      let t : Test = testIn N (m .call) in
+      let k : demand.withTest (testCall netlist (m .call .class) (m .call .rec) (s .store) (m .call .work)) t (s .taken) ≡ withTaken (testedOf (m .answer)) t (s .taken) =
+      same-taken (testCall netlist (m .call .class) (m .call .rec) (s .store) (m .call .work)) t (s .taken) ∙ ap (λ a. withTaken a t (s .taken)) (sym (p .0 .answer)) in
       let q : next netlist N s (m .call) ≡ record { store = m .left; taken = withTaken (testedOf (m .answer)) t (s .taken) } =
       λ i. record { store = sym (p .0 .store) i; taken = k i } in
       ap (λ (x : State). afterCalls netlist N x (callsOf ms)) q
@@ -56,7 +56,7 @@ module _ (netlist : List ℕ) (N : Netlist) where
   promised-before (b ∷ bs) m rest ws p = (p .0, promised-before bs m rest (b .left) (p .1))
 
   promised-at : (before : List MadeCall) (m : MadeCall) (rest : List MadeCall) (ws : List ℕ) → Promised netlist ws (before ++ (m ∷ rest))
-      → testedOf (m .answer) ≡ testAnswer netlist (m .call .rec) (lastStore ws before) (m .call .work)
+      → testedOf (m .answer) ≡ testAnswer netlist (m .call .class) (m .call .rec) (lastStore ws before) (m .call .work)
   promised-at [] m rest ws p = p .0 .answer
   promised-at (b ∷ bs) m rest ws p = promised-at bs m rest (b .left) (p .1)
 
@@ -87,13 +87,13 @@ module _ (netlist : List ℕ) (N : Netlist) where
       earlier : StoreTrue netlist N (stateOf N start before)
       earlier = state-true before (promised-before before m rest emptyStore p)
 
-      answered : testedOf (m .answer) ≡ testAnswer netlist (m .call .rec) (lastStore emptyStore before) (m .call .work)
+      answered : testedOf (m .answer) ≡ testAnswer netlist (m .call .class) (m .call .rec) (lastStore emptyStore before) (m .call .work)
       answered = promised-at before m rest emptyStore p
 
       taken→ : TakenCall m → NoRefusal N (takenTests N [] before) (m .call)
       unfolding testAnswer
       taken→ t =
-          let s = steps (testCall netlist (m .call .rec) (lastStore emptyStore before) (m .call .work)) (λ r. value (r .returned)) (sym answered ∙ t .is) in
+          let s = steps (testCall netlist (m .call .class) (m .call .rec) (lastStore emptyStore before) (m .call .work)) (λ r. value (r .returned)) (sym answered ∙ t .is) in
           earlier .takenExactly (m .call) .0 (record { tested = s .got; answer = s .first })
 
       →taken : NoRefusal N (takenTests N [] before) (m .call) → TakenCall m
@@ -129,9 +129,9 @@ accepted-is (audit.Refused w) e = absurd (not-refused e)
 pub calls-true : CallsTrue
 calls-true = record {
   afterEveryList = λ netlist N e ms p. list-true netlist N e ms p;
-  writes = λ netlist N e testFile h ms p f found left l r w.
+  writes = λ netlist N e class k testFile h ms p f found left l r w.
       let s : leftBy netlist N (callsOf ms) ≡ lastStore emptyStore ms = ap (λ (x : State). x .store) (state-after netlist N ms start p) in
-      let t = subst (λ (x : List ℕ). demand.WriterTrue netlist N testFile x found) s (demand-3 .writes netlist N e testFile h (callsOf ms) f found l) in
+      let t = subst (λ (x : List ℕ). demand.WriterTrue netlist N (classOf class) testFile x found) s (demand-3 .writes netlist N e class k testFile h (callsOf ms) f found l) in
       record {
         report = t .report;
         isTrue = t .isTrue;
@@ -139,10 +139,10 @@ calls-true = record {
         returned = written-is r (length (t .report)) (w .answer ∙ t .returned);
         written = w .buffer ∙ t .written;
       };
-  audits = λ r netlist testFile report ws ws′ found left a. (
-    λ q. demand-3 .audits netlist testFile report ws found .0 (sym (a .answer) ∙ ap auditedOf q),
-    λ q. accepted-is r (a .answer ∙ demand-3 .audits netlist testFile report ws found .1 q),
+  audits = λ r netlist class testFile report ws ws′ found left a. (
+    λ q. demand-3 .audits netlist class testFile report ws found .0 (sym (a .answer) ∙ ap auditedOf q),
+    λ q. accepted-is r (a .answer ∙ demand-3 .audits netlist class testFile report ws found .1 q),
   );
-  acceptedNames = λ r netlist testFile report ws ws′ found left a q.
-      demand-3 .acceptedNames netlist testFile report ws found (sym (a .answer) ∙ ap auditedOf q);
+  acceptedNames = λ r netlist class testFile report ws ws′ found left a q.
+      demand-3 .acceptedNames netlist class testFile report ws found (sym (a .answer) ∙ ap auditedOf q);
 }

@@ -9,13 +9,13 @@ use lib.ListN.{length, drop}
 use Rattle.model.specs.Base.{Answer, refused, value}
 use Rattle.model.specs.Netlist.{Netlist}
 use Rattle.model.specs.Path.{Edge, rising, falling, Fault, valid, numberOf}
-use Rattle.model.specs.Detect.{Test}
-use Rattle.model.specs.Read.{readNetlist, testOf}
+use Rattle.model.specs.Detect.{Class, Test}
+use Rattle.model.specs.Read.{readNetlist, classOf}
 use Rattle.model.specs.Runs.{inRuns}
 use Rattle.model.specs.Store.{emptyStore, storeRuns}
 use Rattle.model.specs.Calls.{FaultCounts, totalsCall}
 use Rattle.model.specs.Report.{fileRecords, reportBufferBytes}
-use Rattle.model.specs.Demand3.{Call, CountOf, Detected, RunsOfDetected, detectedBy, NoRefusal, Returned, WhollyTaken, FileCalls, testsOf, TrueReport, NamesDetected, Acceptable}
+use Rattle.model.specs.Demand3.{Call, testIn, knownClass, CountOf, Detected, RunsOfDetected, detectedBy, NoRefusal, Returned, WhollyTaken, FileCalls, testsOf, TrueReport, NamesDetected, Acceptable}
 use Rattle.coverage.specs.TestCall.{testedOf, TestTrue}
 use Rattle.coverage.specs.declared.TestAnswer.{TestAnswer}
 use Rattle.store.specs.Answers.{totalsOf}
@@ -42,7 +42,7 @@ pub record TakenCall (m : MadeCall) : Type 0 where
 -- The promise of each call of a list: the first gets the store `ws`, each later one the store as the call before left it
 abbrev pub Promised : List ℕ → List ℕ → List MadeCall → Type 0
 Promised netlist ws [] = Unit {0}
-Promised netlist ws (m ∷ ms) = TestTrue (m .answer) netlist (m .call .rec) ws (m .left) (m .call .work) (m .workLeft) × Promised netlist (m .left) ms
+Promised netlist ws (m ∷ ms) = TestTrue (m .answer) netlist (m .call .class) (m .call .rec) ws (m .left) (m .call .work) (m .workLeft) × Promised netlist (m .left) ms
 
 -- the store after a list
 abbrev pub lastStore : List ℕ → List MadeCall → List ℕ
@@ -57,7 +57,7 @@ withTaken (value r) t ts = t ∷ ts
 -- the tests of the taken calls of a list, and the tests `before`
 abbrev pub takenTests : Netlist → List Test → List MadeCall → List Test
 takenTests N before [] = before
-takenTests N before (m ∷ ms) = takenTests N (withTaken (testedOf (m .answer)) (testOf N (m .call .rec)) before) ms
+takenTests N before (m ∷ ms) = takenTests N (withTaken (testedOf (m .answer)) (testIn N (m .call)) before) ms
 
 -- What the totals call returned: for each edge the number of distinct faults that the tests detect
 pub record TotalsTrue (N : Netlist) (ts : List Test) (r : TotalsAnswer) : Type 0 where
@@ -79,13 +79,13 @@ pub record ListTrue (netlist : List ℕ) (N : Netlist) (ms : List MadeCall) : Ty
   pub takenExactly : (before : List MadeCall) (m : MadeCall) (rest : List MadeCall) → ms ≡ before ++ (m ∷ rest)
       → TakenCall m ↔ NoRefusal N (takenTests N [] before) (m .call)
   pub returnedTrue : (before : List MadeCall) (m : MadeCall) (rest : List MadeCall) → ms ≡ before ++ (m ∷ rest)
-      → (r : FaultCounts) → testedOf (m .answer) ≡ value r → (e : Edge) → Returned N (takenTests N [] before) (testOf N (m .call .rec)) e r
+      → (r : FaultCounts) → testedOf (m .answer) ≡ value r → (e : Edge) → Returned N (takenTests N [] before) (testIn N (m .call)) e r
 
 -- What the writer left and returned: the true report, which names exactly the faults that the tests detect, and the bytes past it as they were
-pub record WrittenTrue (N : Netlist) (testFile found left : List ℕ) (r : WriteAnswer) : Type 0 where
+pub record WrittenTrue (N : Netlist) (c : Class) (testFile found left : List ℕ) (r : WriteAnswer) : Type 0 where
   pub report : List ℕ
-  pub isTrue : TrueReport N (testsOf N testFile) report
-  pub names : NamesDetected N (testsOf N testFile) report
+  pub isTrue : TrueReport N (testsOf N c testFile) report
+  pub names : NamesDetected N (testsOf N c testFile) report
   pub returned : r ≡ write.Written (length report)
   pub written : left ≡ report ++ drop (length report) found
 
@@ -93,14 +93,16 @@ pub record WrittenTrue (N : Netlist) (testFile found left : List ℕ) (r : Write
 pub record CallsTrue : Type 0 where
   pub afterEveryList : (netlist : List ℕ) (N : Netlist) → readNetlist netlist ≡ value N
       → (ms : List MadeCall) → Promised netlist emptyStore ms → ListTrue netlist N ms
-  pub writes : (netlist : List ℕ) (N : Netlist) → readNetlist netlist ≡ value N
-      → (testFile : List ℕ) → WhollyTaken N testFile
-      → (ms : List MadeCall) → Promised netlist emptyStore ms → FileCalls N testFile (map (λ m. m .call) ms)
+  pub writes : (netlist : List ℕ) (N : Netlist) → readNetlist netlist ≡ value N → (class : ℕ) → T (knownClass class)
+      → (testFile : List ℕ) → WhollyTaken N (classOf class) testFile
+      → (ms : List MadeCall) → Promised netlist emptyStore ms → FileCalls N class testFile (map (λ m. m .call) ms)
       → (found left : List ℕ) → reportBufferBytes ≤ length found
       → (r : WriteAnswer) → WriteTrue r netlist (lastStore emptyStore ms) (length (fileRecords N testFile)) found left
-      → WrittenTrue N testFile found left r
-  pub audits : (r : AuditAnswer) (netlist testFile report ws ws′ found left : List ℕ) → AuditTrue r netlist testFile report ws ws′ found left
-      → (r ≡ audit.Accepted) ↔ Acceptable netlist testFile report ws found
-  -- and the report that it accepts names exactly the faults that the file's tests detect
-  pub acceptedNames : (r : AuditAnswer) (netlist testFile report ws ws′ found left : List ℕ) → AuditTrue r netlist testFile report ws ws′ found left
-      → r ≡ audit.Accepted → (N : Netlist) → readNetlist netlist ≡ value N → NamesDetected N (testsOf N testFile) report
+      → WrittenTrue N (classOf class) testFile found left r
+  pub audits : (r : AuditAnswer) (netlist : List ℕ) (class : ℕ) (testFile report ws ws′ found left : List ℕ)
+      → AuditTrue r netlist class testFile report ws ws′ found left
+      → (r ≡ audit.Accepted) ↔ Acceptable netlist class testFile report ws found
+  -- and the report that it accepts names exactly the faults that the file's tests detect, judged in that class
+  pub acceptedNames : (r : AuditAnswer) (netlist : List ℕ) (class : ℕ) (testFile report ws ws′ found left : List ℕ)
+      → AuditTrue r netlist class testFile report ws ws′ found left
+      → r ≡ audit.Accepted → (N : Netlist) → readNetlist netlist ≡ value N → NamesDetected N (testsOf N (classOf class) testFile) report

@@ -14,6 +14,7 @@ use model::REPORT_BYTES;
 use model::Refusal;
 use model::STORE_WORDS;
 use model::WORK_WORDS;
+use model::known_class;
 use netlist::SurveyAnswer;
 use netlist::inner::Loaded;
 use netlist::inner::load;
@@ -65,16 +66,17 @@ pub fn write_report(netlist: &[u8], store: &[u64], tests: u32, report: &mut [u8]
     }
 }
 
-// Accepts a report if it is the one that the writer gives after the test calls with the records of a file, from an empty store.
+// Accepts a report if it is the one that the writer gives after the test calls with the records of a file, all in one class, from an empty store.
 // The store is emptied unread; an audit that is refused after the lent memory's lengths leaves it empty.
 pub fn audit(
     netlist: &[u8],
     tests: &[u8],
     report: &[u8],
+    test_class: u32,
     store: &mut [u64],
     work: &mut [u64],
 ) -> AuditAnswer
-    ensures { λ r. ⌜ AuditTrue r (now (netlist .entry)) (now (tests .entry)) (now (report .entry)) (now (store .entry)) (now (store .exit)) (now (work .entry)) (now (work .exit)) ⌝ }
+    ensures { λ r. ⌜ AuditTrue r (now (netlist .entry)) «test_class» (now (tests .entry)) (now (report .entry)) (now (store .entry)) (now (store .exit)) (now (work .entry)) (now (work .exit)) ⌝ }
 {
     if store.len() != STORE_WORDS {
         return AuditAnswer::Refused(Refusal::StoreLength);
@@ -87,7 +89,13 @@ pub fn audit(
     let answer = loaded.answer;
     match answer {
         SurveyAnswer::Refused(why) => AuditAnswer::Refused(why),
-        SurveyAnswer::Legal => audit_file(netlist, loaded, tests, report, store, work),
+        SurveyAnswer::Legal => {
+            let known = known_class(test_class);
+            if !known {
+                return AuditAnswer::Refused(Refusal::UnknownClass);
+            }
+            audit_file(netlist, loaded, tests, report, test_class, store, work)
+        }
     }
 }
 
@@ -97,11 +105,12 @@ fn audit_file(
     loaded: Loaded,
     tests: &[u8],
     report: &[u8],
+    class: u32,
     store: &mut [u64],
     work: &mut [u64],
 ) -> AuditAnswer
     requires { ⌜ AuditReady (now netlist) loaded (now store) (now work) ⌝ }
-    ensures { λ r. ⌜ FileAudited r (now (netlist .entry)) (now (tests .entry)) (now (report .entry)) (now (store .exit)) (now (work .entry)) (now (work .exit)) ⌝ }
+    ensures { λ r. ⌜ FileAudited r (now (netlist .entry)) class (now (tests .entry)) (now (report .entry)) (now (store .exit)) (now (work .entry)) (now (work .exit)) ⌝ }
 {
     let survey = loaded.survey;
     let positions = loaded.positions;
@@ -123,6 +132,7 @@ fn audit_file(
         nets,
         survey.outputs,
         tests,
+        class,
         store,
         work,
     );

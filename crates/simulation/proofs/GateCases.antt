@@ -1,8 +1,8 @@
 -- A gate's value and open pins, kind by kind.
 -- Assumes nothing.
 use mathlib.Core.Path.{_≡_, refl, ap, sym, _∙_}
-use mathlib.Core.Bool.{Bool, true, false, _&&_, not}
-use mathlib.Core.List.{List}
+use mathlib.Core.Bool.{Bool, true, false, _&&_, not, Bool·beq}
+use mathlib.Core.List.{List, [], _∷_, map}
 use mathlib.Core.Logic.{⊎-elim}
 use Prim.Native.Nat.{ℕ, zero, suc, _+_, _-_, _*_, _%_, _^_, _≤_, _<_}
 use native.Mathlib.Nat.{mod-eq-of-lt}
@@ -11,8 +11,8 @@ use borrow.Author.Tests.{eq-eqb, ne-eqb}
 use lib.Bits.{bitAnd}
 use lib.Pow.{pow-lt, pow-pos}
 use lib.Dec.{T, leb, eqb, leb→le, eqb→eq}
-use Rattle.model.specs.Base.{bit}
-use Rattle.model.specs.Detect.{gateValue, isOpen}
+use Rattle.model.specs.Base.{allOf, bit}
+use Rattle.model.specs.Detect.{nonRobust, Evaluation, gateValue, others, isOpen}
 use Rattle.model.specs.Read.{kindOf, pinsFit, within}
 use Rattle.model.proofs.BoolLaws.{and-left, and-right, or-cases}
 use Rattle.model.proofs.ReadLaws.{pins-fit}
@@ -23,8 +23,18 @@ not-not : (b : Bool) → b ≡ not (not b)
 not-not true = refl
 not-not false = refl
 
+-- a test of every other entry, by what the entries are mapped to
+pub allOf-map : {A B : Type 0} (f : B → Bool) (g : A → B) (xs : List A) → allOf f (map g xs) ≡ allOf (λ x. f (g x)) xs
+allOf-map f g [] = refl
+allOf-map f g (x ∷ xs) = ap (λ b. f (g x) && b) (allOf-map f g xs)
+
+pub others-map : {A B : Type 0} (f : B → Bool) (g : A → B) (xs : List A) (p : ℕ) → others f (map g xs) p ≡ others (λ x. f (g x)) xs p
+others-map f g [] p = refl
+others-map f g (x ∷ xs) zero = allOf-map f g xs
+others-map f g (x ∷ xs) (suc p) = ap (λ b. f (g x) && b) (others-map f g xs p)
+
 -- the pins of the other kinds are always open
-always : (k : ℕ) (vs : List Bool) (p : ℕ) → (k ≡ 3 → ⊥) → (k ≡ 4 → ⊥) → (k ≡ 5 → ⊥) → (k ≡ 6 → ⊥) → true ≡ isOpen (kindOf k) vs p
+always : (k : ℕ) (vs : List Evaluation) (p : ℕ) → (k ≡ 3 → ⊥) → (k ≡ 4 → ⊥) → (k ≡ 5 → ⊥) → (k ≡ 6 → ⊥) → true ≡ isOpen nonRobust (kindOf k) vs p
 always zero vs p n3 n4 n5 n6 = refl
 always (suc zero) vs p n3 n4 n5 n6 = refl
 always (suc (suc zero)) vs p n3 n4 n5 n6 = refl
@@ -36,7 +46,7 @@ always (suc (suc (suc (suc (suc (suc (suc zero))))))) vs p n3 n4 n5 n6 = refl
 always (suc (suc (suc (suc (suc (suc (suc (suc zero)))))))) vs p n3 n4 n5 n6 = refl
 always (suc (suc (suc (suc (suc (suc (suc (suc (suc k))))))))) vs p n3 n4 n5 n6 = refl
 
-eighth : (k : ℕ) → 1 ≤ k → k ≤ 8 → (k ≡ 1 → ⊥) → (k ≡ 2 → ⊥) → (k ≡ 3 → ⊥) → (k ≡ 4 → ⊥) → (k ≡ 5 → ⊥) → (k ≡ 6 → ⊥) → (k ≡ 7 → ⊥) → k ≡ 8
+pub eighth : (k : ℕ) → 1 ≤ k → k ≤ 8 → (k ≡ 1 → ⊥) → (k ≡ 2 → ⊥) → (k ≡ 3 → ⊥) → (k ≡ 4 → ⊥) → (k ≡ 5 → ⊥) → (k ≡ 6 → ⊥) → (k ≡ 7 → ⊥) → k ≡ 8
 eighth zero a b n1 n2 n3 n4 n5 n6 n7 = absurd (omega arith)
 eighth (suc zero) a b n1 n2 n3 n4 n5 n6 n7 = absurd (n1 refl)
 eighth (suc (suc zero)) a b n1 n2 n3 n4 n5 n6 n7 = absurd (n2 refl)
@@ -55,7 +65,7 @@ module _ (kind pins packed : ℕ) (h : PackedPins kind pins packed) where
   few = leb→le pins 8 (and-right (leb 1 pins) (leb pins 8) (pins-fit kind pins (h .fits)))
 
   -- buffer and NOT have one pin
-  one-pin : kind ≤ 2 → pins ≡ 1
+  pub one-pin : kind ≤ 2 → pins ≡ 1
   one-pin k =
       ⊎-elim (λ t. eqb→eq pins 1 (and-right (leb kind 2) (eqb pins 1) t))
       (λ t. absurd (omega (arith, leb→le 3 kind (and-left (leb 3 kind) (within 1 8 pins) t))))
@@ -80,21 +90,29 @@ module _ (kind pins packed : ℕ) (h : PackedPins kind pins packed) where
     pub value-4 : kind ≡ 4 → not (eqb packed full) ≡ gateValue (kindOf kind) (bitsIn pins packed)
     value-4 e = rw (e, f) (ap not (all-ones pins packed few (h .small)))
 
-    pub open-and : (r : ℕ) → r ≡ openSet full (full - packed) → (kind ≡ 3) → (p : ℕ) → p < pins → bit r p ≡ isOpen (kindOf kind) (bitsIn pins packed) p
-    open-and r q e p k = rw (e, q, f) (open-zeros pins packed few (h .small) p k)
+    pub open-and : (r : ℕ) → r ≡ openSet full (full - packed) → (kind ≡ 3)
+        → (ns : List Evaluation) → bitsIn pins packed ≡ map (λ n. n .underV2) ns → (p : ℕ) → p < pins → bit r p ≡ isOpen nonRobust (kindOf kind) ns p
+    open-and r q e ns m p k =
+        rw (e, q, f) (open-zeros pins packed few (h .small) p k ∙ ap (λ vs. others (Bool·beq true) vs p) m ∙ others-map (Bool·beq true) (λ n. n .underV2) ns p)
 
-    pub open-nand : (r : ℕ) → r ≡ openSet full (full - packed) → (kind ≡ 4) → (p : ℕ) → p < pins → bit r p ≡ isOpen (kindOf kind) (bitsIn pins packed) p
-    open-nand r q e p k = rw (e, q, f) (open-zeros pins packed few (h .small) p k)
+    pub open-nand : (r : ℕ) → r ≡ openSet full (full - packed) → (kind ≡ 4)
+        → (ns : List Evaluation) → bitsIn pins packed ≡ map (λ n. n .underV2) ns → (p : ℕ) → p < pins → bit r p ≡ isOpen nonRobust (kindOf kind) ns p
+    open-nand r q e ns m p k =
+        rw (e, q, f) (open-zeros pins packed few (h .small) p k ∙ ap (λ vs. others (Bool·beq true) vs p) m ∙ others-map (Bool·beq true) (λ n. n .underV2) ns p)
 
-    pub open-or : (r : ℕ) → r ≡ openSet full packed → (kind ≡ 5) → (p : ℕ) → p < pins → bit r p ≡ isOpen (kindOf kind) (bitsIn pins packed) p
-    open-or r q e p k = rw (e, q, f) (open-ones pins packed few (h .small) p k)
+    pub open-or : (r : ℕ) → r ≡ openSet full packed → (kind ≡ 5)
+        → (ns : List Evaluation) → bitsIn pins packed ≡ map (λ n. n .underV2) ns → (p : ℕ) → p < pins → bit r p ≡ isOpen nonRobust (kindOf kind) ns p
+    open-or r q e ns m p k =
+        rw (e, q, f) (open-ones pins packed few (h .small) p k ∙ ap (λ vs. others (Bool·beq false) vs p) m ∙ others-map (Bool·beq false) (λ n. n .underV2) ns p)
 
-    pub open-nor : (r : ℕ) → r ≡ openSet full packed → (kind ≡ 6) → (p : ℕ) → p < pins → bit r p ≡ isOpen (kindOf kind) (bitsIn pins packed) p
-    open-nor r q e p k = rw (e, q, f) (open-ones pins packed few (h .small) p k)
+    pub open-nor : (r : ℕ) → r ≡ openSet full packed → (kind ≡ 6)
+        → (ns : List Evaluation) → bitsIn pins packed ≡ map (λ n. n .underV2) ns → (p : ℕ) → p < pins → bit r p ≡ isOpen nonRobust (kindOf kind) ns p
+    open-nor r q e ns m p k =
+        rw (e, q, f) (open-ones pins packed few (h .small) p k ∙ ap (λ vs. others (Bool·beq false) vs p) m ∙ others-map (Bool·beq false) (λ n. n .underV2) ns p)
 
     pub open-rest : (kind ≡ 3 → ⊥) → (kind ≡ 4 → ⊥) → (kind ≡ 5 → ⊥) → (kind ≡ 6 → ⊥)
-        → (p : ℕ) → p < pins → bit full p ≡ isOpen (kindOf kind) (bitsIn pins packed) p
-    open-rest n3 n4 n5 n6 p k = ap (λ x. bit x p) f ∙ all-open pins p few k ∙ always kind (bitsIn pins packed) p n3 n4 n5 n6
+        → (ns : List Evaluation) → bitsIn pins packed ≡ map (λ n. n .underV2) ns → (p : ℕ) → p < pins → bit full p ≡ isOpen nonRobust (kindOf kind) ns p
+    open-rest n3 n4 n5 n6 ns m p k = ap (λ x. bit x p) f ∙ all-open pins p few k ∙ always kind ns p n3 n4 n5 n6
 
   pub value-5 : kind ≡ 5 → not (eqb packed 0) ≡ gateValue (kindOf kind) (bitsIn pins packed)
   value-5 e = rw e (some-one pins packed few (h .small))

@@ -1,6 +1,9 @@
 pub mod PackedLaws
 pub mod GateCases
-pub mod PackCases
+pub mod StateLaws
+pub mod EvaluationCases
+pub mod PackStates
 pub mod BitLaws
 pub mod RecordCases
+pub mod InputCases
 pub mod OpenCases

@@ -11,7 +11,7 @@ use lib.Bits.{bitAnd, bitXor}
 use lib.Dec.{T, eqb}
 use lib.ListN.{getD}
 use Rattle.model.specs.Base.{allOf, anyOf, bit}
-use Rattle.model.specs.Detect.{odd, othersAre}
+use Rattle.model.specs.Detect.{odd, others}
 use Rattle.model.proofs.BoolLaws.{and-left, and-right}
 use Rattle.simulation.specs.Packed.{bitsIn, parityOf, openSet}
 
@@ -58,19 +58,34 @@ module _ (n b : ℕ) (h : n ≤ 8) (l : b < 2 ^ n) where
   odd-ones = same _ _ (packed-at (λ m c. Bool·beq (parityOf c) (odd (bitsIn m c))) tt n b h l)
 
   -- the open pins where 0 is controlling, and where 1 is
-  pub open-zeros : (p : ℕ) → p < n → bit (openSet (2 ^ n - 1) (2 ^ n - 1 - b)) p ≡ othersAre true (bitsIn n b) p
+  pub open-zeros : (p : ℕ) → p < n → bit (openSet (2 ^ n - 1) (2 ^ n - 1 - b)) p ≡ others (Bool·beq true) (bitsIn n b) p
   unfolding bitsIn openSet
   open-zeros p k =
       same _ _
-      (below-at (λ q. Bool·beq (bit (openSet (2 ^ n - 1) (2 ^ n - 1 - b)) q) (othersAre true (bitsIn n b) q)) n
-      (packed-at (λ m c. below (λ q. Bool·beq (bit (openSet (2 ^ m - 1) (2 ^ m - 1 - c)) q) (othersAre true (bitsIn m c) q)) m) tt n b h l) p k)
+      (below-at (λ q. Bool·beq (bit (openSet (2 ^ n - 1) (2 ^ n - 1 - b)) q) (others (Bool·beq true) (bitsIn n b) q)) n
+      (packed-at (λ m c. below (λ q. Bool·beq (bit (openSet (2 ^ m - 1) (2 ^ m - 1 - c)) q) (others (Bool·beq true) (bitsIn m c) q)) m) tt n b h l) p k)
 
-  pub open-ones : (p : ℕ) → p < n → bit (openSet (2 ^ n - 1) b) p ≡ othersAre false (bitsIn n b) p
+  pub open-ones : (p : ℕ) → p < n → bit (openSet (2 ^ n - 1) b) p ≡ others (Bool·beq false) (bitsIn n b) p
   unfolding bitsIn openSet
   open-ones p k =
       same _ _
-      (below-at (λ q. Bool·beq (bit (openSet (2 ^ n - 1) b) q) (othersAre false (bitsIn n b) q)) n
-      (packed-at (λ m c. below (λ q. Bool·beq (bit (openSet (2 ^ m - 1) c) q) (othersAre false (bitsIn m c) q)) m) tt n b h l) p k)
+      (below-at (λ q. Bool·beq (bit (openSet (2 ^ n - 1) b) q) (others (Bool·beq false) (bitsIn n b) q)) n
+      (packed-at (λ m c. below (λ q. Bool·beq (bit (openSet (2 ^ m - 1) c) q) (others (Bool·beq false) (bitsIn m c) q)) m) tt n b h l) p k)
+
+  -- the pins of which every other pin has a 1
+  pub open-marked : (p : ℕ) → p < n → bit (openSet (2 ^ n - 1) (2 ^ n - 1 - b)) p ≡ others (λ v. v) (bitsIn n b) p
+  unfolding bitsIn openSet
+  open-marked p k =
+      same _ _
+      (below-at (λ q. Bool·beq (bit (openSet (2 ^ n - 1) (2 ^ n - 1 - b)) q) (others (λ v. v) (bitsIn n b) q)) n
+      (packed-at (λ m c. below (λ q. Bool·beq (bit (openSet (2 ^ m - 1) (2 ^ m - 1 - c)) q) (others (λ v. v) (bitsIn m c) q)) m) tt n b h l) p k)
+
+  -- the other pins
+  pub bit-not : (p : ℕ) → p < n → bit (2 ^ n - 1 - b) p ≡ not (bit b p)
+  bit-not p k =
+      same _ _
+      (below-at (λ q. Bool·beq (bit (2 ^ n - 1 - b) q) (not (bit b q))) n
+      (packed-at (λ m c. below (λ q. Bool·beq (bit (2 ^ m - 1 - c) q) (not (bit c q))) m) tt n b h l) p k)
 
 -- every pin is open
 pub all-open : (n p : ℕ) → n ≤ 8 → p < n → bit (2 ^ n - 1) p ≡ true

@@ -1,16 +1,16 @@
 -- What a caller hands over of a legal netlist, and what the simulation makes of it and of a vector.
 -- Assumes nothing.
 use mathlib.Core.Path.{_≡_}
-use mathlib.Core.Bool.{Bool, false}
+use mathlib.Core.Bool.{Bool, false, Bool·beq}
 use mathlib.Core.List.{List}
 use Prim.Native.Nat.{ℕ, _≤_, _<_}
-use lib.Dec.{eqb}
 use lib.ListN.{length, getD}
 use Rattle.model.specs.Base.{value, bit}
-use Rattle.model.specs.Netlist.{Netlist, nets, gateOf, pinsOf, atNets}
-use Rattle.model.specs.Detect.{values, isOpen}
-use Rattle.model.specs.Read.{readNetlist}
+use Rattle.model.specs.Netlist.{Netlist, nets, pinsOf}
+use Rattle.model.specs.Detect.{Test, Evaluation, openPin}
+use Rattle.model.specs.Read.{readNetlist, classOf}
 use Rattle.netlist.specs.Places as places
+use Rattle.simulation.specs.States.{IsState, stateIn}
 
 -- a legal netlist with the position of each gate's record, and its numbers of inputs and nets
 pub record CircuitAt (N : Netlist) (netlist positions : List ℕ) (inputs netCount : ℕ) : Type 0 where
@@ -28,17 +28,26 @@ pub record VectorIs (N : Netlist) (v : List Bool) (word : ℕ) : Type 0 where
   pub whole : length v ≡ N .inputs
   pub bits : (j : ℕ) → j < N .inputs → bit word j ≡ getD v j false
 
--- an array of bits, that of input j the word's
-pub record InputBits (word inputs : ℕ) (array : List ℕ) : Type 0 where
-  pub room : length array ≡ 512
-  pub bits : (i : ℕ) → getD array i 0 < 2
-  pub same : (i : ℕ) → i < inputs → eqb (getD array i 0) 1 ≡ bit word i
+-- the words are the two vectors of a test in a class
+pub record TestIs (N : Netlist) (t : Test) (class first last : ℕ) : Type 0 where
+  pub inClass : t .class ≡ classOf class
+  pub firstIs : VectorIs N (t .v1) first
+  pub lastIs : VectorIs N (t .v2) last
 
--- the open pins of the gates below `top` under a vector, a bit for each
-pub record MasksTo (N : Netlist) (v : List Bool) (top : ℕ) (masks : List ℕ) : Type 0 where
-  pub opens : (net p : ℕ) → N .inputs ≤ net → net < top → p < length (pinsOf N net)
-      → bit (getD masks net 0) p ≡ isOpen (gateOf N net .kind) (atNets (values N v) false (pinsOf N net)) p
+-- what evaluating input j yields, by the words of V1 and V2
+abbrev pub inputState : ℕ → ℕ → ℕ → Evaluation
+inputState first last i = record { underV1 = bit first i; underV2 = bit last i; steady = Bool·beq (bit first i) (bit last i) }
+
+-- an array with a state for each net, those of the inputs by the words
+pub record InputStates (first last inputs : ℕ) (array : List ℕ) : Type 0 where
+  pub room : length array ≡ 512
+  pub each : (i : ℕ) → IsState (getD array i 0)
+  pub same : (i : ℕ) → i < inputs → stateIn (getD array i 0) ≡ inputState first last i
+
+-- the open pins of the gates below `top` under a test, a bit for each
+pub record MasksTo (N : Netlist) (t : Test) (top : ℕ) (masks : List ℕ) : Type 0 where
+  pub opens : (net p : ℕ) → N .inputs ≤ net → net < top → p < length (pinsOf N net) → bit (getD masks net 0) p ≡ openPin N t net p
 
 -- of all gates
-abbrev pub OpenMasks : Netlist → List Bool → List ℕ → Type 0
-OpenMasks N v masks = MasksTo N v (nets N) masks
+abbrev pub OpenMasks : Netlist → Test → List ℕ → Type 0
+OpenMasks N t masks = MasksTo N t (nets N) masks

@@ -2,14 +2,13 @@
 -- Assumes nothing.
 use mathlib.Core.Path.{_≡_}
 use mathlib.Core.Bool.{Bool, true, false}
-use mathlib.Core.List.{List, [], _∷_, map}
-use Prim.Native.Nat.{ℕ, zero, suc, _+_, _-_, _*_, _/_, _%_, _^_, _≤_, _<_}
+use mathlib.Core.List.{List, [], _∷_}
+use Prim.Native.Nat.{ℕ, zero, suc, _-_, _/_, _%_, _^_, _≤_, _<_}
 use lib.Bits.{bitAnd}
 use lib.Dec.{T, eqb}
-use lib.ListN.{length, getD, drop}
-use Rattle.model.specs.Base.{field}
+use lib.ListN.{getD}
 use Rattle.model.specs.Detect.{odd}
-use Rattle.model.specs.Read.{pinsFit, netFields}
+use Rattle.model.specs.Read.{pinsFit}
 
 -- the values in the n lowest bits, the lowest first
 unfoldable pub bitsIn : ℕ → ℕ → List Bool
@@ -35,19 +34,3 @@ pub record PackedPins (kind pins packed : ℕ) : Type 0 where
   pub highKind : kind ≤ 8
   pub fits : T (pinsFit kind pins)
   pub small : packed < 2 ^ pins
-
--- the values at nets, from an array with a bit for each net
-abbrev pub valuesAt : List ℕ → List ℕ → List Bool
-valuesAt array ns = map (λ net. eqb (getD array net 0) 1) ns
-
--- a gate's record of so many pins begins at byte `at`, each pin names a net of the array, and the array holds bits
-pub record PinsAt (netlist : List ℕ) (at pins : ℕ) (array : List ℕ) : Type 0 where
-  pub few : pins ≤ 8
-  pub inside : at + 4 + 2 * pins ≤ length netlist
-  pub isNet : (p : ℕ) → p < pins → field (at + 4 + 2 * p) 2 netlist < 512
-  pub bits : (i : ℕ) → getD array i 0 < 2
-
--- the values at the pins, packed
-pub record PacksPins (netlist : List ℕ) (at pins : ℕ) (array : List ℕ) (packed : ℕ) : Type 0 where
-  pub small : packed < 2 ^ pins
-  pub values : bitsIn pins packed ≡ valuesAt array (netFields pins (drop (at + 4) netlist))

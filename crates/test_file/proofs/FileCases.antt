@@ -9,7 +9,8 @@ use lib.Dec.{leb, eqb}
 use lib.ListN.{length, replicate}
 use Rattle.model.specs.Base.{Answer, refused, value}
 use Rattle.model.specs.Netlist.{Netlist}
-use Rattle.model.specs.Read.{vectorBytes, recordLength, readNetlist}
+use Rattle.model.specs.Detect.{Class}
+use Rattle.model.specs.Read.{vectorBytes, recordLength, readNetlist, classOf}
 use Rattle.model.specs.Refusals.{refusalNumber}
 use Rattle.model.specs.Store.{emptyStore}
 use Rattle.model.specs.Report.{wholeRecords}
@@ -25,15 +26,16 @@ use Rattle.pieces.proofs.StepCases.{ready-inputs, empty-memory}
 use Rattle.test_file.specs.declared.walking.Walk.{Walk}
 use Rattle.test_file.specs.Walked.{recordsTaken, fileTaken, Walked}
 
-whole-call : (N : Netlist) (testFile : List ℕ) → wholeRecords N testFile ≡ true → recordsTaken N testFile ≡ fileTaken N testFile
+whole-call : (N : Netlist) (c : Class) (testFile : List ℕ) → wholeRecords N testFile ≡ true → recordsTaken N c testFile ≡ fileTaken N c testFile
 unfolding recordsTaken fileTaken
-whole-call N testFile q = rw q refl
+whole-call N c testFile q = rw q refl
 
-cut-call : (N : Netlist) (testFile : List ℕ) → wholeRecords N testFile ≡ false → fileTaken N testFile ≡ refused 33
+cut-call : (N : Netlist) (c : Class) (testFile : List ℕ) → wholeRecords N testFile ≡ false → fileTaken N c testFile ≡ refused 33
 unfolding fileTaken
-cut-call N testFile q = rw q refl
+cut-call N c testFile q = rw q refl
 
-module _ (walk : Walk) (netlist : List ℕ) (loaded : Loaded) (space ws work work′ : List ℕ) (v : Walked recordsTaken walk netlist loaded space ws work work′) where
+module _ (walk : Walk) (netlist : List ℕ) (loaded : Loaded) (class : ℕ) (space ws work work′ : List ℕ)
+    (v : Walked recordsTaken walk netlist loaded class space ws work work′) where
   pub walked-inputs : loaded .survey .inputs ≤ 64
   walked-inputs = ready-inputs netlist loaded ws work′ (v .ready)
 
@@ -46,13 +48,13 @@ module _ (walk : Walk) (netlist : List ℕ) (loaded : Loaded) (space ws work wor
         let k : each ≡ recordLength N = ee ∙ ap (λ (j : ℕ). 2 + 2 * vectorBytes j) i in
         sym (eb ∙ ap₂ (λ (x y : ℕ). eqb (x % y) 0 && leb (x / y) 4294967295) (v .bytesAre) k)
 
-    pub file-whole : b ≡ true → Walked fileTaken walk netlist loaded space ws work work′
+    pub file-whole : b ≡ true → Walked fileTaken walk netlist loaded class space ws work work′
     file-whole q = record {
       testFile = v .testFile;
       bytesAre = v .bytesAre;
       inSpace = v .inSpace;
-      answer = λ N e. v .answer N e ∙ whole-call N (v .testFile) (whole-is N e ∙ q);
-      store = λ N e. v .store N e ∙ ap leftStore (whole-call N (v .testFile) (whole-is N e ∙ q));
+      answer = λ N e. v .answer N e ∙ whole-call N (classOf class) (v .testFile) (whole-is N e ∙ q);
+      store = λ N e. v .store N e ∙ ap leftStore (whole-call N (classOf class) (v .testFile) (whole-is N e ∙ q));
       taken = v .taken;
       ready = v .ready;
       sameLength = v .sameLength;
@@ -61,7 +63,7 @@ module _ (walk : Walk) (netlist : List ℕ) (loaded : Loaded) (space ws work wor
 
     pub file-cut : b ≡ false → (ws′ : List ℕ) → ws′ ≡ replicate (length ws) 0
         → Walked fileTaken (record { bytes = walk .bytes; records = record { taken = walk .records .taken; answer = file.Refused why.TestFileLength }; whole = walk .whole })
-        netlist loaded space ws′ work work′
+        netlist loaded class space ws′ work work′
     unfolding leftStore
     file-cut q ws′ z =
         let N₀ : Netlist = v .ready .circuit in
@@ -70,8 +72,8 @@ module _ (walk : Walk) (netlist : List ℕ) (loaded : Loaded) (space ws work wor
           testFile = v .testFile;
           bytesAre = v .bytesAre;
           inSpace = v .inSpace;
-          answer = λ N e. sym (cut-call N (v .testFile) (whole-is N e ∙ q));
-          store = λ N e. empty ∙ sym (ap leftStore (cut-call N (v .testFile) (whole-is N e ∙ q)));
+          answer = λ N e. sym (cut-call N (classOf class) (v .testFile) (whole-is N e ∙ q));
+          store = λ N e. empty ∙ sym (ap leftStore (cut-call N (classOf class) (v .testFile) (whole-is N e ∙ q)));
           taken = v .taken;
           ready = record {
             circuit = N₀;

@@ -11,7 +11,8 @@ use lib.ListN.{length, take, drop}
 use lib.Seq.{sets-eq, take-at, length-take-le}
 use Rattle.model.specs.Base.{Answer, value}
 use Rattle.model.specs.Netlist.{Netlist, pathTotal}
-use Rattle.model.specs.Read.{vectorBytes, recordLength, readNetlist}
+use Rattle.model.specs.Detect.{Class}
+use Rattle.model.specs.Read.{vectorBytes, recordLength, readNetlist, classOf}
 use Rattle.model.specs.Store.{emptyStore}
 use Rattle.model.specs.Calls.{workWords}
 use Rattle.model.proofs.AnswerLaws.{value-inj}
@@ -33,9 +34,9 @@ use Rattle.test_file.proofs.ReadLaws.{part-length, record-bytes, FileSo
 none-listed : (N : Netlist) → listedRecords N [] ≡ []
 none-listed N = listed-end N [] 0 (omega arith)
 
-store-none : (N : Netlist) → listedStore N [] ≡ emptyStore
+store-none : (N : Netlist) (c : Class) → listedStore N c [] ≡ emptyStore
 unfolding storeAfterAll
-store-none N = ap (λ (rs : List (List ℕ)). storeAfterAll N rs emptyStore) (none-listed N)
+store-none N c = ap (λ (rs : List (List ℕ)). storeAfterAll N c rs emptyStore) (none-listed N)
 
 module _ (netlist : List ℕ) (t : Loaded) (ws work out : List ℕ) (h : ListReady netlist t ws work out) where
   pub list-inputs : t .survey .inputs ≤ 64
@@ -46,7 +47,7 @@ module _ (netlist : List ℕ) (t : Loaded) (ws work out : List ℕ) (h : ListRea
       sound-more (pathTotal (h .circuit)) (2 ^ 62) ws (limits netlist (h .circuit) (h .tables .legal) .totalFits)
       (sound-words (pathTotal (h .circuit)) ws (h .memory .storeLength) (sym (h .memory .sound)))
 
-  module _ (r : Listed) (place : ℕ) (piece ws′ work′ out′ : List ℕ) (q : PieceLines r netlist t place piece ws ws′ work work′ out out′) where
+  module _ (r : Listed) (class place : ℕ) (piece ws′ work′ out′ : List ℕ) (q : PieceLines r netlist t class place piece ws ws′ work work′ out out′) where
     pub list-inside : r .bytes ≤ length out′
     list-inside = q .ofCircuit (h .circuit) (h .tables) .lines .inside
 
@@ -59,15 +60,15 @@ module _ (netlist : List ℕ) (t : Loaded) (ws work out : List ℕ) (h : ListRea
     }
 
     -- what is claimed of the netlist that the file holds
-    pub list-piece : (N : Netlist) → readNetlist netlist ≡ value N → PieceOf N r place piece ws ws′ out out′
+    pub list-piece : (N : Netlist) → readNetlist netlist ≡ value N → PieceOf N (classOf class) r place piece ws ws′ out out′
     list-piece N e = q .ofCircuit N (subst (λ (M : Netlist). TablesOf M netlist t) (value-inj (sym (h .tables .legal) ∙ e)) (h .tables))
 
-module _ (netlist : List ℕ) (t : Loaded) (full most : ℕ) (work₀ : List ℕ) where
+module _ (netlist : List ℕ) (t : Loaded) (class : ℕ) (full most : ℕ) (work₀ : List ℕ) where
   -- What was read so far is a whole number of records, and its records were listed
   pub record ListedSoFar (place bytes : ℕ) (space ws work out : List ℕ) : Type 0 where
     pub testFile : List ℕ
     pub read : FileSoFar netlist full most testFile bytes space
-    pub store : (N : Netlist) → readNetlist netlist ≡ value N → ws ≡ listedStore N testFile
+    pub store : (N : Netlist) → readNetlist netlist ≡ value N → ws ≡ listedStore N (classOf class) testFile
     pub placeIs : (N : Netlist) → readNetlist netlist ≡ value N → place ≡ 1 + length (listedRecords N testFile)
     pub few : place ≤ 1 + bytes
     pub ready : ListReady netlist t ws work out
@@ -78,7 +79,7 @@ module _ (netlist : List ℕ) (t : Loaded) (full most : ℕ) (work₀ : List ℕ
   listed-start space ws out r e l = record {
     testFile = [];
     read = file-start netlist full most space l;
-    store = λ N q. e ∙ sym (store-none N);
+    store = λ N q. e ∙ sym (store-none N (classOf class));
     placeIs = λ N q. omega (arith, ap (length {A = List ℕ}) (none-listed N));
     few = omega arith;
     ready = r;
@@ -113,7 +114,7 @@ module _ (netlist : List ℕ) (t : Loaded) (full most : ℕ) (work₀ : List ℕ
       length-is : (N : Netlist) → readNetlist netlist ≡ value N → recordBytes ≡ recordLength N
       length-is = record-bytes netlist (g .ready .circuit) (t .survey .inputs) recordBytes (g .ready .tables .legal) (g .ready .tables .inputsAre) eb
 
-      pub listed-over : 9223372036854775807 < bytes → PiecesListed bytes place netlist t space ws work₀ work out
+      pub listed-over : 9223372036854775807 < bytes → PiecesListed bytes place netlist t class space ws work₀ work out
       listed-over h = record {
         testFile = f;
         bytesAre = g .read .bytesAre;
@@ -126,26 +127,26 @@ module _ (netlist : List ℕ) (t : Loaded) (full most : ℕ) (work₀ : List ℕ
       }
 
       module _ (n : ℕ) (space′ : List ℕ) (cn : n ≤ length space′) (cm : n ≤ full) (l : length space′ ≡ length space) (r : Listed) (ws′ work′ out′ : List ℕ)
-          (q : PieceLines r netlist t place (take n space′) ws ws′ work work′ out out′) where
+          (q : PieceLines r netlist t class place (take n space′) ws ws′ work work′ out out′) where
         abbrev piece : List ℕ
         piece = take n space′
 
-        is-piece : (N : Netlist) → readNetlist netlist ≡ value N → PieceOf N r place piece ws ws′ out out′
-        is-piece = list-piece netlist t ws work out (g .ready) r place piece ws′ work′ out′ q
+        is-piece : (N : Netlist) → readNetlist netlist ≡ value N → PieceOf N (classOf class) r place piece ws ws′ out out′
+        is-piece = list-piece netlist t ws work out (g .ready) r class place piece ws′ work′ out′ q
 
         whole-is : (N : Netlist) → readNetlist netlist ≡ value N → length f ≡ length f / recordLength N * recordLength N
         whole-is N e = omega (arith, div-add-mod' (length f) (recordLength N), g .read .whole N e)
 
-        more-store : (N : Netlist) → readNetlist netlist ≡ value N → ws′ ≡ listedStore N (f ++ piece)
+        more-store : (N : Netlist) → readNetlist netlist ≡ value N → ws′ ≡ listedStore N (classOf class) (f ++ piece)
         more-store N e =
             is-piece N e .store
-            ∙ ap (storeAfterAll N (listedRecords N piece)) (g .store N e)
-            ∙ store-more N f piece (length f / recordLength N) (whole-is N e) emptyStore
+            ∙ ap (storeAfterAll N (classOf class) (listedRecords N piece)) (g .store N e)
+            ∙ store-more N (classOf class) f piece (length f / recordLength N) (whole-is N e) emptyStore
 
         more-places : (N : Netlist) → readNetlist netlist ≡ value N → r .place ≡ 1 + length (listedRecords N (f ++ piece))
         more-places N e =
             let both : length (listedRecords N (f ++ piece)) ≡ length (listedRecords N f) + length (listedRecords N piece) =
-            count-more N f piece (length f / recordLength N) (whole-is N e) in
+            count-more N (classOf class) f piece (length f / recordLength N) (whole-is N e) in
             omega (arith, is-piece N e .places, g .placeIs N e, both)
 
         pub listed-next : (least : ℕ) → full ≤ least → least ≤ n → full % recordBytes ≡ 0 → ListedSoFar (r .place) (bytes + n) space′ ws′ work′ out′
@@ -155,20 +156,20 @@ module _ (netlist : List ℕ) (t : Loaded) (full most : ℕ) (work₀ : List ℕ
           store = more-store;
           placeIs = more-places;
           few = omega (arith, q .fewPlaces, g .few, length-take-le n space′ cn);
-          ready = list-again netlist t ws work out (g .ready) r place piece ws′ work′ out′ q;
+          ready = list-again netlist t ws work out (g .ready) r class place piece ws′ work′ out′ q;
           sameLength = q .sameLength ∙ g .sameLength;
           pastWork = q .pastWork ∙ g .pastWork;
         }
 
         -- the last piece
-        pub listed-last : PiecesListed (bytes + n) (r .place) netlist t space′ ws′ work₀ work′ out′
+        pub listed-last : PiecesListed (bytes + n) (r .place) netlist t class space′ ws′ work₀ work′ out′
         listed-last = record {
           testFile = f ++ piece;
           bytesAre = file-more bytes n f space′ (g .read .bytesAre) cn;
           inSpace = file-last netlist full most recordBytes length-is near f bytes space (g .read) n space′ cn cm l;
           placeIs = more-places;
           store = more-store;
-          ready = list-again netlist t ws work out (g .ready) r place piece ws′ work′ out′ q;
+          ready = list-again netlist t ws work out (g .ready) r class place piece ws′ work′ out′ q;
           sameLength = q .sameLength ∙ g .sameLength;
           pastWork = q .pastWork ∙ g .pastWork;
         }
@@ -181,7 +182,8 @@ put-front out out′ written r p =
     ap (take r) (p .bytes ∙ sets-eq written out 0 fits) ∙ take-at written (drop (0 + length written) out) r (sym e)
 
 -- The lines after those of the records
-module _ (netlist : List ℕ) (t : Loaded) (space ws work work′ out : List ℕ) (bytes place : ℕ) (v : PiecesListed bytes place netlist t space ws work work′ out) where
+module _ (netlist : List ℕ) (t : Loaded) (class : ℕ) (space ws work work′ out : List ℕ) (bytes place : ℕ)
+    (v : PiecesListed bytes place netlist t class space ws work work′ out) where
   pub lines-sound : SoundWords (2 ^ 62) ws
   lines-sound = list-sound netlist t ws work′ out (v .ready)
 
@@ -189,7 +191,7 @@ module _ (netlist : List ℕ) (t : Loaded) (space ws work work′ out : List ℕ
   lines-room = v .ready .room
 
   pub lines-put : (out′ : List ℕ) (end : ℕ) → Put out out′ 0 (storeLines ws) end → (b : Bool)
-      → FileListed (record { bytes = bytes; place = place; end = end; whole = b }) netlist t space ws work work′ out′
+      → FileListed (record { bytes = bytes; place = place; end = end; whole = b }) netlist t class space ws work work′ out′
   lines-put out′ end p b = record {
     walk = record {
       testFile = v .testFile;

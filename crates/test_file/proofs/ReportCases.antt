@@ -12,7 +12,8 @@ use lib.ListN.{length, take, drop, length-append}
 use lib.Seq.{length-take-le}
 use Rattle.model.specs.Base.{Answer, refused, value, _>>=_, _>>_, checks}
 use Rattle.model.specs.Netlist.{Netlist}
-use Rattle.model.specs.Read.{recordLength, readNetlist}
+use Rattle.model.specs.Detect.{Class}
+use Rattle.model.specs.Read.{recordLength, readNetlist, classOf}
 use Rattle.model.specs.Store.{emptyStore, storeOf}
 use Rattle.model.specs.Calls.{Tested, testStage}
 use Rattle.model.specs.Report.{fileRecords, wholeRecords, testAll, writerCall, writerAnswer, writerBuffer}
@@ -38,34 +39,35 @@ one-all (refused n) f h k left g q = absurd (not-refused q)
 one-all (value d) f h k left g q = ap (λ (j : ℕ). 1 + j) (g (storeOf (d .runs)) q)
 
 -- records that are all taken are counted all
-taken-all : (N : Netlist) (rs : List (List ℕ)) (ws left : List ℕ) → testAll N rs ws ≡ value left → takenOf N rs ws ≡ length rs
+taken-all : (N : Netlist) (c : Class) (rs : List (List ℕ)) (ws left : List ℕ) → testAll N c rs ws ≡ value left → takenOf N c rs ws ≡ length rs
 unfolding testAll takenOf
-taken-all N [] ws left q = refl
-taken-all N (r ∷ rs) ws left q =
-    one-all (testStage N r ws) (λ v. takenOf N rs v) (λ v. testAll N rs v) (length rs) left (λ v p. taken-all N rs v left p) q ∙ omega arith
+taken-all N c [] ws left q = refl
+taken-all N c (r ∷ rs) ws left q =
+    one-all (testStage N c r ws) (λ v. takenOf N c rs v) (λ v. testAll N c rs v) (length rs) left (λ v p. taken-all N c rs v left p) q ∙ omega arith
 
 -- a file that is taken whole
-module _ (N : Netlist) (testFile left : List ℕ) (q : fileTaken N testFile ≡ value left) where
-  pub all-taken : takenOf N (fileRecords N testFile) emptyStore ≡ length (fileRecords N testFile)
+module _ (N : Netlist) (c : Class) (testFile left : List ℕ) (q : fileTaken N c testFile ≡ value left) where
+  pub all-taken : takenOf N c (fileRecords N testFile) emptyStore ≡ length (fileRecords N testFile)
   unfolding fileTaken
-  all-taken = taken-all N (fileRecords N testFile) emptyStore left (then-second (checks ((33, wholeRecords N testFile) ∷ [])) _ q)
+  all-taken = taken-all N c (fileRecords N testFile) emptyStore left (then-second (checks ((33, wholeRecords N testFile) ∷ [])) _ q)
 
   pub few-records : length (fileRecords N testFile) ≤ 4294967295
   unfolding fileTaken
   few-records =
       let len : ℕ = recordLength N in
-      let p = checks→ ((33, wholeRecords N testFile) ∷ []) (then-first (checks ((33, wholeRecords N testFile) ∷ [])) (testAll N (fileRecords N testFile) emptyStore) q) in
+      let p = checks→ ((33, wholeRecords N testFile) ∷ []) (then-first (checks ((33, wholeRecords N testFile) ∷ [])) (testAll N c (fileRecords N testFile) emptyStore) q) in
       let t = and-right (eqb (length testFile % len) 0) (leb (length testFile / len) 4294967295) (p .0) in
       omega (arith, leb→le (length testFile / len) 4294967295 t, length-records len (length testFile / len) testFile)
 
 -- so the number of tests fits its field
-module _ (walk : Walk) (netlist : List ℕ) (loaded : Loaded) (space ws work work′ : List ℕ) (v : Walked fileTaken walk netlist loaded space ws work work′) where
+module _ (walk : Walk) (netlist : List ℕ) (loaded : Loaded) (class : ℕ) (space ws work work′ : List ℕ)
+    (v : Walked fileTaken walk netlist loaded class space ws work work′) where
   pub few-tests : (left : List ℕ) → fileOf (walk .records .answer) ws ≡ value left → walk .records .taken < 4294967296
   few-tests left q =
       let N : Netlist = v .ready .circuit in
       let e : readNetlist netlist ≡ value N = v .ready .tables .legal in
-      let p : fileTaken N (v .testFile) ≡ value left = sym (v .answer N e) ∙ q in
-      omega (arith, v .taken N e, all-taken N (v .testFile) left p, few-records N (v .testFile) left p)
+      let p : fileTaken N (classOf class) (v .testFile) ≡ value left = sym (v .answer N e) ∙ q in
+      omega (arith, v .taken N e, all-taken N (classOf class) (v .testFile) left p, few-records N (classOf class) (v .testFile) left p)
 
 -- an answer with its length
 module _ (a : WriteAnswer) where

@@ -9,7 +9,8 @@ use borrow.Author.Needs.{needs}
 use lib.ListN.{length}
 use Rattle.model.specs.Base.{Answer, refused, value, _>>=_, _>>_, checks, passes, after}
 use Rattle.model.specs.Netlist.{Netlist, pathTotal}
-use Rattle.model.specs.Read.{readNetlist, recordLength}
+use Rattle.model.specs.Detect.{Class}
+use Rattle.model.specs.Read.{within, readNetlist, classOf, recordLength}
 use Rattle.model.specs.Refusals.{refusalNumber}
 use Rattle.model.specs.Store.{emptyStore, runsByEdge}
 use Rattle.model.specs.Calls.{beforeTest}
@@ -25,7 +26,7 @@ use Rattle.report.proofs.PromisesHold.{calls-true}
 use Rattle.pieces.specs.declared.BeginAnswer.the-variants as beginning
 use Rattle.pieces.specs.declared.inner.Begun.{Begun}
 use Rattle.pieces.specs.Steps.{begunOf, lentRules, beginAnswer, beginStore, BeginTrue, Ended, withPiece, endBy, endOf}
-use Rattle.pieces.proofs.TogetherHolds.{begun-lent, end-answer, end-store, end-work}
+use Rattle.pieces.proofs.TogetherHolds.{begun-lent, begun-known, begun-before, end-answer, end-store, end-work}
 use Rattle.pieces.proofs.PiecesHold.{pieces-true}
 use Rattle.test_file.specs.declared.walking.Walk.{Walk}
 use Rattle.test_file.specs.declared.writing.Written.{Written}
@@ -46,43 +47,43 @@ twice : (b : Bool) (x : Answer (List ℕ)) (f : List ℕ → Answer (List ℕ))
 twice true x f = refl
 twice false x f = refl
 
-end-again : (N : Netlist) (testFile report : List ℕ)
-    → endOf N (length testFile) report (fileTaken N testFile) ≡ endOf N (length testFile) report (withPiece N testFile (value emptyStore))
+end-again : (N : Netlist) (c : Class) (testFile report : List ℕ)
+    → endOf N (length testFile) report (fileTaken N c testFile) ≡ endOf N (length testFile) report (withPiece N c testFile (value emptyStore))
 unfolding endBy fileTaken withPiece
-end-again N testFile report =
-    twice (wholeRecords N testFile) (testAll N (fileRecords N testFile) emptyStore)
+end-again N c testFile report =
+    twice (wholeRecords N testFile) (testAll N c (fileRecords N testFile) emptyStore)
     (λ left. checks (reportRules report (reportRecord (length testFile / recordLength N) (pathTotal N) (runsByEdge left))) >> value left)
 
 -- A refusal at the beginning: there is no file, and nothing is read
-module _ (netlist ws ws₀ work : List ℕ) (b : Begun) (t : BeginTrue b netlist ws ws₀ work) (w : Refusal) (q : b .answer ≡ beginning.Refused w) (truth space : List ℕ) where
-  before-refused : beforeTest netlist ws work ≡ refused (refusalNumber w)
+module _ (netlist : List ℕ) (class : ℕ) (ws ws₀ work : List ℕ) (b : Begun) (t : BeginTrue b netlist class ws ws₀ work) (w : Refusal) (q : b .answer ≡ beginning.Refused w) (truth space : List ℕ) where
+  before-refused : beforeTest netlist class ws work ≡ refused (refusalNumber w)
   unfolding beginAnswer
-  before-refused = same-number (beforeTest netlist ws work) (refusalNumber w) (sym (ap begunOf q) ∙ t .answer)
+  before-refused = same-number (beforeTest netlist class ws work) (refusalNumber w) (sym (ap begunOf q) ∙ t .answer)
 
-  no-file : fileCall netlist [] ws work ≡ refused (refusalNumber w)
+  no-file : fileCall netlist class [] ws work ≡ refused (refusalNumber w)
   unfolding fileCall
   no-file = rw before-refused refl
 
-  no-report : trueReport netlist [] ws work truth ≡ refused (refusalNumber w)
+  no-report : trueReport netlist class [] ws work truth ≡ refused (refusalNumber w)
   unfolding trueReport
   no-report = rw before-refused refl
 
-  abbrev nothing-read : StreamRead 0 0 0 netlist truth truth space ws work
+  abbrev nothing-read : StreamRead 0 0 0 netlist class truth truth space ws work
   nothing-read = record {
     testFile = [];
     bytesAre = refl;
     inSpace = λ N e k. refl;
-    takenAre = sym (ap (λ (x : Answer Netlist). takenBy x []) before-refused);
+    takenAre = sym (ap (λ (x : Answer Netlist). takenBy x (classOf class) []) before-refused);
     lengthIs = sym (ap (λ (x : Answer (List ℕ)). lengthIn (x >>= λ written. value (length written))) no-report);
     truthIs = sym (ap (λ (x : Answer (List ℕ)). withReport x truth) no-report);
   }
 
   pub audit-refused : (report : List ℕ)
-      → StreamAudited (record { answer = audit.Refused w; length = 0; bytes = 0; taken = 0; whole = true }) netlist report truth truth space ws ws₀ work work
-  audit-refused report = record { read = nothing-read; isAudit = pieces-true .refusedAtOnce netlist [] report ws ws₀ work b t w q }
+      → StreamAudited (record { answer = audit.Refused w; length = 0; bytes = 0; taken = 0; whole = true }) netlist report class truth truth space ws ws₀ work work
+  audit-refused report = record { read = nothing-read; isAudit = pieces-true .refusedAtOnce netlist class [] report ws ws₀ work b t w q }
 
   pub report-refused :
-      StreamReported (record { answer = write.Refused w; length = 0; bytes = 0; taken = 0; whole = true }) netlist truth truth space ws ws₀ work work
+      StreamReported (record { answer = write.Refused w; length = 0; bytes = 0; taken = 0; whole = true }) netlist class truth truth space ws ws₀ work work
   unfolding fileStore beginStore leftStore
   report-refused = record {
     read = nothing-read;
@@ -92,8 +93,8 @@ module _ (netlist ws ws₀ work : List ℕ) (b : Begun) (t : BeginTrue b netlist
   }
 
 -- A file that was walked over
-module _ (netlist ws ws₀ work : List ℕ) (b : Begun) (t : BeginTrue b netlist ws ws₀ work) (q : b .answer ≡ beginning.Ready)
-    (walk : Walk) (space ws₁ work₁ : List ℕ) (v : Walked fileTaken walk netlist (b .loaded) space ws₁ work work₁)
+module _ (netlist : List ℕ) (class : ℕ) (ws ws₀ work : List ℕ) (b : Begun) (t : BeginTrue b netlist class ws ws₀ work) (q : b .answer ≡ beginning.Ready)
+    (walk : Walk) (space ws₁ work₁ : List ℕ) (v : Walked fileTaken walk netlist (b .loaded) class space ws₁ work work₁)
     (r : Written) (truth truth′ : List ℕ) (y : Wrote r (writerAfter netlist (fileOf (walk .records .answer) ws₁) (walk .records .taken) truth) truth truth′) where
   abbrev N : Netlist
   N = v .ready .circuit
@@ -105,69 +106,72 @@ module _ (netlist ws ws₀ work : List ℕ) (b : Begun) (t : BeginTrue b netlist
   legal = v .ready .tables .legal
 
   lent : lentRules ws work ≡ value tt
-  lent = begun-lent netlist ws ws₀ work (b .answer) (t .answer) q
+  lent = begun-lent netlist class ws ws₀ work (b .answer) (t .answer) q
 
-  before : beforeTest netlist ws work ≡ value N
-  before = rw (lent, legal) refl
+  known : within 1 2 class ≡ true
+  known = begun-known netlist class ws ws₀ work (b .answer) (t .answer) q
+
+  before : beforeTest netlist class ws work ≡ value N
+  before = begun-before netlist class ws ws₀ work (b .answer) (t .answer) q N legal
 
   -- the writer is told the number of records
-  same-count : (x : Answer (List ℕ)) → fileTaken N f ≡ x
+  same-count : (x : Answer (List ℕ)) → fileTaken N (classOf class) f ≡ x
       → (x >>= λ left. writerCall netlist left (length (fileRecords N f)) truth) ≡ writerAfter netlist x (walk .records .taken) truth
   unfolding writerAfter
   same-count (refused n) e = refl
-  same-count (value left) e = ap (λ (k : ℕ). writerCall netlist left k truth) (sym (v .taken N legal ∙ all-taken N f left e))
+  same-count (value left) e = ap (λ (k : ℕ). writerCall netlist left k truth) (sym (v .taken N legal ∙ all-taken N (classOf class) f left e))
 
-  report-is : writerAfter netlist (fileOf (walk .records .answer) ws₁) (walk .records .taken) truth ≡ trueReport netlist f ws work truth
+  report-is : writerAfter netlist (fileOf (walk .records .answer) ws₁) (walk .records .taken) truth ≡ trueReport netlist class f ws work truth
   unfolding trueReport
   report-is =
       ap (λ (x : Answer (List ℕ)). writerAfter netlist x (walk .records .taken) truth) (v .answer N legal)
-      ∙ sym (same-count (fileTaken N f) refl)
-      ∙ sym (ap (λ (x : Answer Netlist). x >>= λ M. fileTaken M f >>= λ left. writerCall netlist left (length (fileRecords M f)) truth) before)
+      ∙ sym (same-count (fileTaken N (classOf class) f) refl)
+      ∙ sym (ap (λ (x : Answer Netlist). x >>= λ M. fileTaken M (classOf class) f >>= λ left. writerCall netlist left (length (fileRecords M f)) truth) before)
 
-  wrote : Wrote r (trueReport netlist f ws work truth) truth truth′
+  wrote : Wrote r (trueReport netlist class f ws work truth) truth truth′
   wrote = subst (λ (x : Answer (List ℕ)). Wrote r x truth truth′) report-is y
 
-  abbrev file-read : StreamRead (walk .bytes) (walk .records .taken) (r .length) netlist truth truth′ space ws work
+  abbrev file-read : StreamRead (walk .bytes) (walk .records .taken) (r .length) netlist class truth truth′ space ws work
   file-read = record {
     testFile = f;
     bytesAre = v .bytesAre;
     inSpace = v .inSpace;
-    takenAre = v .taken N legal ∙ sym (ap (λ (x : Answer Netlist). takenBy x f) before);
+    takenAre = v .taken N legal ∙ sym (ap (λ (x : Answer Netlist). takenBy x (classOf class) f) before);
     lengthIs = wrote .size;
     truthIs = wrote .bytes;
   }
 
   pub audit-done : (report : List ℕ) (a : AuditAnswer) (ws₂ : List ℕ) → Ended a netlist (walk .records .answer) (walk .bytes) report ws₁ ws₂
       → StreamAudited (record { answer = a; length = r .length; bytes = walk .bytes; taken = walk .records .taken; whole = walk .whole })
-      netlist report truth truth′ space ws ws₂ work work₁
+      netlist report class truth truth′ space ws ws₂ work work₁
   audit-done report a ws₂ d =
-      let s : endOf N (walk .bytes) report (fileOf (walk .records .answer) ws₁) ≡ endOf N (length f) report (withPiece N f (value emptyStore)) =
+      let s : endOf N (walk .bytes) report (fileOf (walk .records .answer) ws₁) ≡ endOf N (length f) report (withPiece N (classOf class) f (value emptyStore)) =
       ap (λ (k : ℕ). endOf N k report (fileOf (walk .records .answer) ws₁)) (v .bytesAre)
       ∙ ap (λ (x : Answer (List ℕ)). endOf N (length f) report x) (v .answer N legal)
-      ∙ end-again N f report in
+      ∙ end-again N (classOf class) f report in
       record {
         read = file-read;
         isAudit = record {
-          answer = d .answer N legal ∙ ap (λ (x : Answer (List ℕ)). passes x) s ∙ end-answer netlist f report ws work N legal lent;
-          store = d .store N legal ∙ ap leftStore s ∙ end-store netlist f report ws work N legal lent;
-          work = end-work netlist f report ws work N legal lent work₁ (v .sameLength) (v .pastWork);
+          answer = d .answer N legal ∙ ap (λ (x : Answer (List ℕ)). passes x) s ∙ end-answer netlist class f report ws work N lent before;
+          store = d .store N legal ∙ ap leftStore s ∙ end-store netlist class f report ws work N lent before;
+          work = end-work netlist class f report ws work N lent before work₁ (v .sameLength) (v .pastWork);
         };
       }
 
   pub report-done : StreamReported (record { answer = r .answer; length = r .length; bytes = walk .bytes; taken = walk .records .taken; whole = walk .whole })
-      netlist truth truth′ space ws ws₁ work work₁
+      netlist class truth truth′ space ws ws₁ work work₁
   unfolding fileStore fileCall
   report-done = record {
     read = file-read;
     answer = wrote .answer;
-    store = v .store N legal ∙ rw (lent, legal) refl;
-    workIs = end-work netlist f [] ws work N legal lent work₁ (v .sameLength) (v .pastWork);
+    store = v .store N legal ∙ rw (lent, legal) (rw known refl);
+    workIs = end-work netlist class f [] ws work N lent before work₁ (v .sameLength) (v .pastWork);
   }
 
 -- Accepted: there is a test file whose true report this is
-pub stream-accepts : (r : Judged) (netlist report truth truth′ space ws ws′ work work′ : List ℕ)
-    (s : StreamAudited r netlist report truth truth′ space ws ws′ work work′) → (r .answer ≡ audit.Accepted) ↔ Acceptable netlist (s .read .testFile) report ws work
-stream-accepts r netlist report truth truth′ space ws ws′ work work′ s =
-    calls-true .audits (r .answer) netlist (s .read .testFile) report ws ws′ work work′ (s .isAudit)
+pub stream-accepts : (r : Judged) (netlist report : List ℕ) (class : ℕ) (truth truth′ space ws ws′ work work′ : List ℕ)
+    (s : StreamAudited r netlist report class truth truth′ space ws ws′ work work′) → (r .answer ≡ audit.Accepted) ↔ Acceptable netlist class (s .read .testFile) report ws work
+stream-accepts r netlist report class truth truth′ space ws ws′ work work′ s =
+    calls-true .audits (r .answer) netlist class (s .read .testFile) report ws ws′ work work′ (s .isAudit)
 
 pub ruleset stream-cases = (audit-refused, report-refused, needs)

@@ -7,7 +7,8 @@ use Prim.Native.Nat.{ℕ, _+_, _≤_}
 use lib.ListN.{length, take, drop}
 use Rattle.model.specs.Base.{Answer, value}
 use Rattle.model.specs.Netlist.{Netlist}
-use Rattle.model.specs.Read.{readNetlist}
+use Rattle.model.specs.Detect.{Class}
+use Rattle.model.specs.Read.{readNetlist, classOf}
 use Rattle.model.specs.Store.{emptyStore}
 use Rattle.model.specs.Calls.{workWords}
 use Rattle.netlist.specs.declared.inner.Loaded.{Loaded}
@@ -16,23 +17,23 @@ use Rattle.listing_text.specs.Answers.{ListReady}
 use Rattle.test_file.specs.Walked.{InSpace}
 use Rattle.test_file.specs.declared.inner.ListedFile.{ListedFile}
 
--- the store that the records of a file leave, from an empty one, each tried on what the one before left
-abbrev pub listedStore : Netlist → List ℕ → List ℕ
-listedStore N testFile = storeAfterAll N (listedRecords N testFile) emptyStore
+-- the store that the records of a file leave in a class, from an empty one, each tried on what the one before left
+abbrev pub listedStore : Netlist → Class → List ℕ → List ℕ
+listedStore N c testFile = storeAfterAll N c (listedRecords N testFile) emptyStore
 
 -- The walk over a file: its length, the place after its last record, the store that its records leave; all is ready for another
-pub record PiecesListed (bytes place : ℕ) (netlist : List ℕ) (t : Loaded) (space ws work work′ out′ : List ℕ) : Type 0 where
+pub record PiecesListed (bytes place : ℕ) (netlist : List ℕ) (t : Loaded) (class : ℕ) (space ws work work′ out′ : List ℕ) : Type 0 where
   pub testFile : List ℕ
   pub bytesAre : bytes ≡ length testFile
   pub inSpace : InSpace netlist testFile space
   pub placeIs : (N : Netlist) → readNetlist netlist ≡ value N → place ≡ 1 + length (listedRecords N testFile)
-  pub store : (N : Netlist) → readNetlist netlist ≡ value N → ws ≡ listedStore N testFile
+  pub store : (N : Netlist) → readNetlist netlist ≡ value N → ws ≡ listedStore N (classOf class) testFile
   pub ready : ListReady netlist t ws work′ out′
   pub sameLength : length work′ ≡ length work
   pub pastWork : drop workWords work′ ≡ drop workWords work
 
 -- Besides, the buffer begins with the lines after those of the records: the runs and the totals of that store
-pub record FileListed (r : ListedFile) (netlist : List ℕ) (t : Loaded) (space ws work work′ out′ : List ℕ) : Type 0 where
-  pub walk : PiecesListed (r .bytes) (r .place) netlist t space ws work work′ out′
+pub record FileListed (r : ListedFile) (netlist : List ℕ) (t : Loaded) (class : ℕ) (space ws work work′ out′ : List ℕ) : Type 0 where
+  pub walk : PiecesListed (r .bytes) (r .place) netlist t class space ws work work′ out′
   pub inside : r .end ≤ length out′
-  pub lines : (N : Netlist) → readNetlist netlist ≡ value N → take (r .end) out′ ≡ storeLines (listedStore N (walk .testFile))
+  pub lines : (N : Netlist) → readNetlist netlist ≡ value N → take (r .end) out′ ≡ storeLines (listedStore N (classOf class) (walk .testFile))

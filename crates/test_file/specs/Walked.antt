@@ -7,7 +7,8 @@ use Prim.Native.Nat.{ℕ, _+_, _≤_}
 use lib.ListN.{length, take, drop}
 use Rattle.model.specs.Base.{Answer, refused, value, _>>=_, _>>_, checks, after}
 use Rattle.model.specs.Netlist.{Netlist}
-use Rattle.model.specs.Read.{readNetlist, recordLength}
+use Rattle.model.specs.Detect.{Class}
+use Rattle.model.specs.Read.{readNetlist, classOf, recordLength}
 use Rattle.model.specs.Store.{emptyStore}
 use Rattle.model.specs.Calls.{workWords}
 use Rattle.model.specs.Report.{fileRecords, wholeRecords, testAll, writerCall}
@@ -18,13 +19,13 @@ use Rattle.pieces.specs.Steps.{Ready}
 use Rattle.test_file.specs.declared.walking.Walk.{Walk}
 use Rattle.test_file.specs.declared.writing.Written.{Written}
 
--- the test calls with the records of a file, from an empty store
-unfoldable pub recordsTaken : Netlist → List ℕ → Answer (List ℕ)
-recordsTaken N testFile = testAll N (fileRecords N testFile) emptyStore
+-- the test calls with the records of a file, all in one class, from an empty store
+unfoldable pub recordsTaken : Netlist → Class → List ℕ → Answer (List ℕ)
+recordsTaken N c testFile = testAll N c (fileRecords N testFile) emptyStore
 
 -- 33 by the length of the file, then its records
-unfoldable pub fileTaken : Netlist → List ℕ → Answer (List ℕ)
-fileTaken N testFile = checks ((33, wholeRecords N testFile) ∷ []) >> testAll N (fileRecords N testFile) emptyStore
+unfoldable pub fileTaken : Netlist → Class → List ℕ → Answer (List ℕ)
+fileTaken N c testFile = checks ((33, wholeRecords N testFile) ∷ []) >> testAll N c (fileRecords N testFile) emptyStore
 
 -- A file that fits the space, with room for one record more, is what the space holds: it was read as one piece
 abbrev pub InSpace : List ℕ → List ℕ → List ℕ → Type 0
@@ -32,13 +33,14 @@ InSpace netlist testFile space =
     (N : Netlist) → readNetlist netlist ≡ value N → length testFile + recordLength N ≤ length space → testFile ≡ take (length testFile) space
 
 -- The walk over a file: its length, what it answers by `call`, the store that it leaves, and the number of records taken before the first refused
-pub record Walked (call : Netlist → List ℕ → Answer (List ℕ)) (r : Walk) (netlist : List ℕ) (loaded : Loaded) (space ws work work′ : List ℕ) : Type 0 where
+pub record Walked (call : Netlist → Class → List ℕ → Answer (List ℕ)) (r : Walk) (netlist : List ℕ) (loaded : Loaded) (class : ℕ) (space ws work work′ : List ℕ)
+    : Type 0 where
   pub testFile : List ℕ
   pub bytesAre : r .bytes ≡ length testFile
   pub inSpace : InSpace netlist testFile space
-  pub answer : (N : Netlist) → readNetlist netlist ≡ value N → fileOf (r .records .answer) ws ≡ call N testFile
-  pub store : (N : Netlist) → readNetlist netlist ≡ value N → ws ≡ leftStore (call N testFile)
-  pub taken : (N : Netlist) → readNetlist netlist ≡ value N → r .records .taken ≡ takenOf N (fileRecords N testFile) emptyStore
+  pub answer : (N : Netlist) → readNetlist netlist ≡ value N → fileOf (r .records .answer) ws ≡ call N (classOf class) testFile
+  pub store : (N : Netlist) → readNetlist netlist ≡ value N → ws ≡ leftStore (call N (classOf class) testFile)
+  pub taken : (N : Netlist) → readNetlist netlist ≡ value N → r .records .taken ≡ takenOf N (classOf class) (fileRecords N testFile) emptyStore
   pub ready : Ready netlist loaded ws work′
   pub sameLength : length work′ ≡ length work
   pub pastWork : drop workWords work′ ≡ drop workWords work

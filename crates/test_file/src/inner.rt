@@ -45,13 +45,14 @@ fn show_listed(to: i32, place: u64) {
     }
 }
 
-// The lines of the records of a file, piece by piece, each piece's in one write. A piece that is not full is the last; the file was then read
+// The lines of the records of a file, all in one class, piece by piece, each piece's in one write. A piece that is not full is the last; the file was then read
 // whole, unless a read failed, more bytes came or its size is another.
 fn list_pieces(
     fd: i32,
     to: i32,
     netlist: &[u8],
     loaded: Loaded,
+    class: u32,
     space: &mut [u8],
     store: &mut [u64],
     work: &mut [u64],
@@ -60,7 +61,7 @@ fn list_pieces(
     requires { ⌜ ListReady (now netlist) loaded (now store) (now work) (now out) ⌝ }
     requires { ⌜ now store ≡ emptyStore ⌝ }
     requires { ⌜ length (now space) ≤ pieceBytes ⌝ }
-    ensures { λ r. ⌜ PiecesListed (r .bytes) (r .place) (now (netlist .entry)) loaded (now (space .exit)) (now (store .exit)) (now (work .entry)) (now (work .exit)) (now (out .exit)) ⌝ }
+    ensures { λ r. ⌜ PiecesListed (r .bytes) (r .place) (now (netlist .entry)) loaded class (now (space .exit)) (now (store .exit)) (now (work .entry)) (now (work .exit)) (now (out .exit)) ⌝ }
 {
     let bytes = record_length(loaded.survey.inputs);
     let full = whole_part(space.len(), bytes);
@@ -70,7 +71,7 @@ fn list_pieces(
     let mut so_far: u64 = 0;
     while so_far <= MOST_BYTES {
         let n = read_part(fd, full, space);
-        let listed = list_piece(netlist, loaded, place, &space[..n], store, work, out);
+        let listed = list_piece(netlist, loaded, place, &space[..n], class, store, work, out);
         let end = listed.bytes;
         io::write_all(to, &out[..end]);
         place = listed.place;
@@ -98,6 +99,7 @@ pub fn list_file(
     to: i32,
     netlist: &[u8],
     loaded: Loaded,
+    class: u32,
     space: &mut [u8],
     store: &mut [u64],
     work: &mut [u64],
@@ -106,9 +108,9 @@ pub fn list_file(
     requires { ⌜ ListReady (now netlist) loaded (now store) (now work) (now out) ⌝ }
     requires { ⌜ now store ≡ emptyStore ⌝ }
     requires { ⌜ length (now space) ≤ pieceBytes ⌝ }
-    ensures { λ r. ⌜ FileListed r (now (netlist .entry)) loaded (now (space .exit)) (now (store .exit)) (now (work .entry)) (now (work .exit)) (now (out .exit)) ⌝ }
+    ensures { λ r. ⌜ FileListed r (now (netlist .entry)) loaded class (now (space .exit)) (now (store .exit)) (now (work .entry)) (now (work .exit)) (now (out .exit)) ⌝ }
 {
-    let listed = list_pieces(fd, to, netlist, loaded, space, store, work, out);
+    let listed = list_pieces(fd, to, netlist, loaded, class, space, store, work, out);
     end_progress();
     let end = put_store(out, store);
     ListedFile {

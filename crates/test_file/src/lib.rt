@@ -35,21 +35,22 @@ pub struct Reported {
     pub whole: bool,
 }
 
-// The audit of a report with the test file that a descriptor gives. Where all records are taken, `truth` then begins with the true report. The
+// The audit of a report, in a class, with the test file that a descriptor gives. Where all records are taken, `truth` then begins with the true report. The
 // last piece that was read is left in the space.
 pub fn audit_stream(
     fd: i32,
     netlist: &[u8],
     report: &[u8],
+    test_class: u32,
     truth: &mut [u8],
     space: &mut [u8],
     store: &mut [u64],
     work: &mut [u64],
 ) -> Judged
-    ensures { λ r. ⌜ StreamAudited r (now (netlist .entry)) (now (report .entry)) (now (truth .entry)) (now (truth .exit)) (now (space .exit)) (now (store .entry)) (now (store .exit)) (now (work .entry)) (now (work .exit)) ⌝ }
+    ensures { λ r. ⌜ StreamAudited r (now (netlist .entry)) (now (report .entry)) «test_class» (now (truth .entry)) (now (truth .exit)) (now (space .exit)) (now (store .entry)) (now (store .exit)) (now (work .entry)) (now (work .exit)) ⌝ }
     ensures { λ r. ⌜ Counts (r .length) (now (truth .exit)) ⌝ }
 {
-    let begun = begin(netlist, store, work);
+    let begun = begin(netlist, test_class, store, work);
     let beginning = begun.answer;
     let loaded = begun.loaded;
     match beginning {
@@ -61,7 +62,7 @@ pub fn audit_stream(
             whole: true,
         },
         BeginAnswer::Ready => {
-            let walk = walk_file(fd, netlist, loaded, space, store, work);
+            let walk = walk_file(fd, netlist, loaded, test_class, space, store, work);
             let records = walk.records;
             let written = true_report(netlist, records, store, truth);
             let taken = records.answer;
@@ -77,19 +78,20 @@ pub fn audit_stream(
     }
 }
 
-// The report of the test file that a descriptor gives: the true report at the start of `truth`, or the first refusal.
+// The report, in a class, of the test file that a descriptor gives: the true report at the start of `truth`, or the first refusal.
 pub fn report_stream(
     fd: i32,
     netlist: &[u8],
+    test_class: u32,
     truth: &mut [u8],
     space: &mut [u8],
     store: &mut [u64],
     work: &mut [u64],
 ) -> Reported
-    ensures { λ r. ⌜ StreamReported r (now (netlist .entry)) (now (truth .entry)) (now (truth .exit)) (now (space .exit)) (now (store .entry)) (now (store .exit)) (now (work .entry)) (now (work .exit)) ⌝ }
+    ensures { λ r. ⌜ StreamReported r (now (netlist .entry)) «test_class» (now (truth .entry)) (now (truth .exit)) (now (space .exit)) (now (store .entry)) (now (store .exit)) (now (work .entry)) (now (work .exit)) ⌝ }
     ensures { λ r. ⌜ Counts (r .length) (now (truth .exit)) ⌝ }
 {
-    let begun = begin(netlist, store, work);
+    let begun = begin(netlist, test_class, store, work);
     let beginning = begun.answer;
     let loaded = begun.loaded;
     match beginning {
@@ -101,7 +103,7 @@ pub fn report_stream(
             whole: true,
         },
         BeginAnswer::Ready => {
-            let walk = walk_file(fd, netlist, loaded, space, store, work);
+            let walk = walk_file(fd, netlist, loaded, test_class, space, store, work);
             let records = walk.records;
             let written = true_report(netlist, records, store, truth);
             let answer = written.answer;

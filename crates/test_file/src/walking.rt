@@ -57,19 +57,20 @@ pub(crate) fn read_part(fd: i32, most: usize, space: &mut [u8]) -> usize
     io::read_full(fd, &mut space[..most])
 }
 
-// The test calls with the records of a file, piece by piece. A piece that is not full is the last; the file was then read whole, unless a read
+// The test calls with the records of a file, all in one class, piece by piece. A piece that is not full is the last; the file was then read whole, unless a read
 // failed, more bytes came or its size is another. A file of too many bytes is not read further: the rest changes nothing.
 fn take_pieces(
     fd: i32,
     netlist: &[u8],
     loaded: Loaded,
+    class: u32,
     space: &mut [u8],
     store: &mut [u64],
     work: &mut [u64],
 ) -> Walk
     requires { ⌜ Ready (now netlist) loaded (now store) (now work) ⌝ }
     requires { ⌜ now store ≡ emptyStore ⌝ }
-    ensures { λ r. ⌜ Walked recordsTaken r (now (netlist .entry)) loaded (now (space .exit)) (now (store .exit)) (now (work .entry)) (now (work .exit)) ⌝ }
+    ensures { λ r. ⌜ Walked recordsTaken r (now (netlist .entry)) loaded class (now (space .exit)) (now (store .exit)) (now (work .entry)) (now (work .exit)) ⌝ }
 {
     let bytes = record_length(loaded.survey.inputs);
     let full = whole_part(space.len(), bytes);
@@ -82,7 +83,7 @@ fn take_pieces(
     let mut so_far: u64 = 0;
     while so_far <= MAX_BYTES {
         let n = read_part(fd, full, space);
-        records = take_piece(netlist, loaded, records, &space[..n], store, work);
+        records = take_piece(netlist, loaded, records, &space[..n], class, store, work);
         so_far += n as u64;
         if n < least {
             let whole = at_end(fd, size);
@@ -106,15 +107,16 @@ pub(crate) fn walk_file(
     fd: i32,
     netlist: &[u8],
     loaded: Loaded,
+    class: u32,
     space: &mut [u8],
     store: &mut [u64],
     work: &mut [u64],
 ) -> Walk
     requires { ⌜ Ready (now netlist) loaded (now store) (now work) ⌝ }
     requires { ⌜ now store ≡ emptyStore ⌝ }
-    ensures { λ r. ⌜ Walked fileTaken r (now (netlist .entry)) loaded (now (space .exit)) (now (store .exit)) (now (work .entry)) (now (work .exit)) ⌝ }
+    ensures { λ r. ⌜ Walked fileTaken r (now (netlist .entry)) loaded class (now (space .exit)) (now (store .exit)) (now (work .entry)) (now (work .exit)) ⌝ }
 {
-    let walk = take_pieces(fd, netlist, loaded, space, store, work);
+    let walk = take_pieces(fd, netlist, loaded, class, space, store, work);
     end_progress();
     let each = record_length(loaded.survey.inputs) as u64;
     if whole_length(walk.bytes, each) {

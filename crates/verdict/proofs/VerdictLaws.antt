@@ -1,10 +1,11 @@
 -- A text that fits a line, alone on it, is what the line says.
 -- Assumes nothing.
-use mathlib.Core.Path.{_≡_, ap, sym, _∙_}
+use mathlib.Core.Path.{_≡_, refl, ap, sym, _∙_}
 use mathlib.Core.List.{List, [], _++_}
 use Prim.Native.Nat.{ℕ, _+_, _≤_}
 use native.Mathlib.Omega.{arith}
 use borrow.Author.Needs.{needs}
+use borrow.Author.Tests.{eq-eqb, ne-eqb}
 use lib.ListN.{length, take, length-append}
 use lib.Seq.{take-all}
 use Rattle.model.specs.Refusals.{refusalNumber}
@@ -15,7 +16,7 @@ use Rattle.report.specs.declared.AuditAnswer.the-variants as audit
 use Rattle.text.specs.Decimal.{refusedWord, refusedText, decimalText}
 use Rattle.text.specs.Lines.{onLine}
 use Rattle.text.proofs.DecimalLaws.{at-most-20}
-use Rattle.verdict.specs.Verdict.{acceptedText, verdictText}
+use Rattle.verdict.specs.Verdict.{acceptedText, verdictText, judgedText, nonRobustText, robustText, classText}
 
 alone : (text : List ℕ) → length text ≤ 128 → onLine [] text ≡ text
 unfolding onLine
@@ -37,3 +38,17 @@ module _ (answer : AuditAnswer) (before after : List ℕ) (e : before ≡ []) wh
       ∙ ap (λ (a : AuditAnswer). verdictText (auditedOf a)) (sym q)
 
 pub ruleset line-cases = (line-accepted, line-refused, needs)
+
+-- the class
+module _ (class : ℕ) (before after : List ℕ) (e : before ≡ []) where
+  pub class-robust : class ≡ 2 → after ≡ onLine before (judgedText ++ robustText) → after ≡ classText class
+  unfolding classText
+  class-robust q l =
+      l ∙ ap (λ (t : List ℕ). onLine t (judgedText ++ robustText)) e ∙ alone (judgedText ++ robustText) (omega arith) ∙ rw (eq-eqb class 2 q) refl
+
+  pub class-other : (class ≡ 2 → ⊥) → after ≡ onLine before (judgedText ++ nonRobustText) → after ≡ classText class
+  unfolding classText
+  class-other q l =
+      l ∙ ap (λ (t : List ℕ). onLine t (judgedText ++ nonRobustText)) e ∙ alone (judgedText ++ nonRobustText) (omega arith) ∙ rw (ne-eqb class 2 q) refl
+
+pub ruleset class-cases = (class-robust, class-other, needs)

@@ -3,7 +3,8 @@ ghost use mathlib.Core.Path.{_≡_};
 ghost use Rattle.model.specs.Refusals.{refusalNumber};
 ghost use Rattle.report.specs.Answers.{auditedOf};
 ghost use Rattle.text.specs.Lines.{textOf};
-ghost use Rattle.verdict.specs.Verdict.{verdictText, ofRecord};
+ghost use Rattle.verdict.specs.Verdict.{verdictText, ofRecord, classText};
+use model::ROBUST;
 use model::Refusal;
 use model::refusal_number;
 use report::AuditAnswer;
@@ -20,6 +21,16 @@ pub fn verdict_line(answer: AuditAnswer) -> Line
         AuditAnswer::Accepted => with_text(empty_line(), b"accepted"),
         AuditAnswer::Refused(why) => with_refusal(empty_line(), why),
     }
+}
+
+// `judged in class 1 (non-robust)` or `judged in class 2 (robust)`, for a class that the audit did not refuse.
+pub fn class_line(class: u32) -> Line
+    ensures { λ r. ⌜ textOf r ≡ classText class ⌝ }
+{
+    if class == ROBUST {
+        return with_text(empty_line(), b"judged in class 2 (robust)");
+    }
+    with_text(empty_line(), b"judged in class 1 (non-robust)")
 }
 
 // Whether a refusal is that of one test record of a file, which then has a place.

@@ -1,11 +1,13 @@
-// Writes the report of the tests of a file on a netlist to standard output: `write_report [CIRCUIT [TESTS]]`, without names those of the current
-// folder; a missing file counts as empty. Where the netlist, the file or a record is refused it writes no report, and says why on standard error;
+// Writes the report of the tests of a file on a netlist, in a class, to standard output: `write_report [CIRCUIT [TESTS [CLASS]]]`, without names
+// those of the current folder; a missing file counts as empty, a missing class file as class 1. Where the netlist, the class, the file or a record is
+// refused it writes no report, and says why on standard error;
 // so where a file can't be read whole.
 use command::close_file;
 use command::file_name;
 use command::is_argument;
 use command::load_argument;
 use command::open_file;
+use command::read_class;
 use console::NETLIST_BYTES;
 use console::empty_line;
 use console::print;
@@ -26,10 +28,10 @@ use test_file::report_stream;
 use verdict::is_of_record;
 
 fn print_usage(fd: i32) {
-    print(fd, b"usage: write_report [CIRCUIT [TESTS]]\n");
+    print(fd, b"usage: write_report [CIRCUIT [TESTS [CLASS]]]\n");
     print(
         fd,
-        b"Writes the report of the tests on a circuit. Without names: circuit.nl, tests.tp.\n",
+        b"Writes the report of the tests on a circuit. Without names: circuit.nl, tests.tp, class.txt.\n",
     );
 }
 
@@ -62,8 +64,8 @@ fn print_reported(reported: Reported, report: &[u8]) {
     }
 }
 
-// The report of the test file that the second argument names.
-fn report_tests(netlist: &[u8]) {
+// The report, in a class, of the test file that the second argument names.
+fn report_tests(netlist: &[u8], class: u32) {
     let mut name = io::buffer();
     let n = file_name(2, b"tests.tp", &mut name);
     let mut bytes = [0u8; REPORT_BYTES];
@@ -74,6 +76,7 @@ fn report_tests(netlist: &[u8]) {
     let reported = report_stream(
         opened.fd,
         netlist,
+        class,
         &mut bytes,
         &mut space,
         &mut store,
@@ -90,14 +93,15 @@ fn main() {
         print_usage(STDOUT_FILENO);
         return;
     }
-    if 3 < os::arg_count() {
+    if 4 < os::arg_count() {
         print_usage(STDERR_FILENO);
         return;
     }
     let mut bytes = [0u8; NETLIST_BYTES];
     let circuit = load_argument(1, b"circuit.nl", &mut bytes);
     let length = circuit.bytes;
-    if circuit.whole {
-        report_tests(&bytes[..length]);
+    let read = read_class(3);
+    if circuit.whole && read.whole {
+        report_tests(&bytes[..length], read.class);
     }
 }

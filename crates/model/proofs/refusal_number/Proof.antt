@@ -105,6 +105,9 @@ enum-told-32 c = search needs
 enum-told-33 : tie.Need-enum-told-33
 enum-told-33 c = search needs
 
+enum-told-34 : tie.Need-enum-told-34
+enum-told-34 c = search needs
+
 returns : tie.Need-returns
 returns c = sym (ap refusalNumber (c .enum-told .given .1))
 
@@ -204,6 +207,9 @@ returns-32 c = sym (ap refusalNumber (c .enum-told32 .given .1))
 returns-33 : tie.Need-returns-33
 returns-33 c = sym (ap refusalNumber (c .enum-told33 .given .1))
 
+returns-34 : tie.Need-returns-34
+returns-34 c = sym (ap refusalNumber (c .enum-told34 .given .1))
+
 pub refusal-number-spec : {M : Type 1} → statement M
 refusal-number-spec =
     tie.close
@@ -241,6 +247,7 @@ refusal-number-spec =
     enum-told-31
     enum-told-32
     enum-told-33
+    enum-told-34
     returns
     returns-2
     returns-3
@@ -273,4 +280,5 @@ refusal-number-spec =
     returns-30
     returns-31
     returns-32
-    returns-33)
+    returns-33
+    returns-34)

@@ -19,7 +19,7 @@ pub struct TakenRecords {
     pub answer: FileAnswer,
 }
 
-// The test stage with the records of a file in order. A refused record ends them and empties the store.
+// The test stage with the records of a file in order, all in one class. A refused record ends them and empties the store.
 pub fn take_records(
     netlist: &[u8],
     positions: &[u16; 512],
@@ -28,11 +28,12 @@ pub fn take_records(
     nets: usize,
     outputs: usize,
     tests: &[u8],
+    class: u32,
     store: &mut [u64],
     work: &mut [u64],
 ) -> TakenRecords
     requires { ⌜ StageReady (now netlist) (now positions) (now counts) inputs nets outputs (now store) (now work) ⌝ }
-    ensures { λ r. ⌜ FileTaken r (now (netlist .entry)) (now (positions .entry)) (now (counts .entry)) inputs nets outputs (now (tests .entry)) (now (store .entry)) (now (store .exit)) (now (work .entry)) (now (work .exit)) ⌝ }
+    ensures { λ r. ⌜ FileTaken r (now (netlist .entry)) (now (positions .entry)) (now (counts .entry)) inputs nets outputs class (now (tests .entry)) (now (store .entry)) (now (store .exit)) (now (work .entry)) (now (work .exit)) ⌝ }
 {
     let bytes = record_length(inputs);
     let mut at = 0;
@@ -46,6 +47,7 @@ pub fn take_records(
             nets,
             outputs,
             &tests[at..at + bytes],
+            class,
             store,
             work,
         );

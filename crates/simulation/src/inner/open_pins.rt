@@ -1,14 +1,14 @@
-// The open pins of all gates under one vector: one pass over the gates, each value from the values at its pins.
+// The open pins of all gates in a class: one pass over the gates, each net from the nets at its pins.
 ghost use mathlib.Core.Path.{_≡_};
-ghost use mathlib.Core.Bool.{Bool};
-ghost use mathlib.Core.List.{List};
 ghost use Prim.Native.Nat.{ℕ, _≤_, _<_};
 ghost use lib.Dec.{eqb};
 ghost use Rattle.model.specs.Base.{bit};
 ghost use Rattle.model.specs.Netlist.{Netlist};
-ghost use Rattle.simulation.specs.Packed.{oneWhere};
-ghost use Rattle.simulation.specs.Circuit.{CircuitAt, SomeCircuit, VectorIs, InputBits, OpenMasks};
-use crate::inner::gates;
+ghost use Rattle.model.specs.Detect.{Test};
+ghost use Rattle.simulation.specs.States.{wordOf};
+ghost use Rattle.simulation.specs.Circuit.{CircuitAt, SomeCircuit, TestIs, InputStates, inputState, OpenMasks};
+use crate::inner::evaluation;
+use crate::inner::evaluation::NetState;
 use records::inner;
 
 // The bit of an input.
@@ -19,48 +19,59 @@ fn input_value(vector: u64, input: usize) -> u8
     ((vector >> (input as u64)) & 1) as u8
 }
 
-// The values of the inputs, 0 for the other nets.
-fn input_values(vector: u64, inputs: usize) -> [u8; 512]
-    requires { ⌜ inputs ≤ 64 ⌝ }
-    ensures { λ r. ⌜ InputBits vector inputs r ⌝ }
+// The state of an input.
+fn input_state(v1: u64, v2: u64, input: usize) -> u32
+    requires { ⌜ input < 64 ⌝ }
+    ensures { λ r. ⌜ r ≡ wordOf (inputState v1 v2 input) ⌝ }
 {
-    let mut values = [0u8; 512];
+    let first = input_value(v1, input);
+    let last = input_value(v2, input);
+    evaluation::state_word(NetState {
+        v1: first == 1,
+        v2: last == 1,
+        steady: first == last,
+    })
+}
+
+// The states of the inputs, 0 for the other nets.
+fn input_states(v1: u64, v2: u64, inputs: usize) -> [u32; 512]
+    requires { ⌜ inputs ≤ 64 ⌝ }
+    ensures { λ r. ⌜ InputStates v1 v2 inputs r ⌝ }
+{
+    let mut states = [0u32; 512];
     let mut i = 0;
     while i < inputs {
-        values[i] = input_value(vector, i);
+        states[i] = input_state(v1, v2, i);
         i += 1;
     }
-    values
+    states
 }
 
-// A value as a bit.
-fn one_where(value: bool) -> u8
-    ensures { λ r. ⌜ r ≡ oneWhere value ⌝ }
-{
-    if value { 1 } else { 0 }
-}
-
-// For each gate its open pins, pin 0 in the lowest bit, at the place of the net that it drives.
+// For each gate its open pins in a class, pin 0 in the lowest bit, at the place of the net that it drives. Every net is evaluated under both
+// vectors, in either class.
 pub fn open_masks(
     netlist: &[u8],
     positions: &[u16; 512],
     inputs: usize,
     nets: usize,
-    vector: u64,
+    v1: u64,
+    v2: u64,
+    class: u32,
 ) -> [u8; 512]
     requires { ⌜ SomeCircuit (now netlist) (now positions) inputs nets ⌝ }
-    ensures { λ r. ⌜ ((N : Netlist) (v : List Bool) → CircuitAt N (now (netlist .entry)) (now (positions .entry)) inputs nets → VectorIs N v vector → OpenMasks N v r) ⌝ }
+    ensures { λ r. ⌜ ((N : Netlist) (t : Test) → CircuitAt N (now (netlist .entry)) (now (positions .entry)) inputs nets → TestIs N t class v1 v2 → OpenMasks N t r) ⌝ }
 {
-    let mut values = input_values(vector, inputs);
+    let mut states = input_states(v1, v2, inputs);
     let mut masks = [0u8; 512];
     let mut net = inputs;
     while net < nets {
         let at = inner::wide_word(positions[net]);
         let kind = netlist[at + 2];
         let pins = netlist[at + 3];
-        let packed = gates::pack(netlist, at, inner::wide(pins), &values);
-        masks[net] = gates::open_pins(kind, pins, packed);
-        values[net] = one_where(gates::gate_value(kind, pins, packed));
+        let packed = evaluation::pack_states(netlist, at, inner::wide(pins), &states);
+        let at_pins = evaluation::pin_states(packed);
+        masks[net] = evaluation::class_pins(class, kind, pins, at_pins);
+        states[net] = evaluation::state_word(evaluation::evaluate(kind, pins, at_pins));
         net += 1;
     }
     masks

@@ -21,10 +21,10 @@ walk-file-requires : tie.Need-walk-file-requires
 walk-file-requires c κs =
     let begun = c .before .before .before .before .before .before .before .before .begin in
     let ready = c .before .before .before .enum-told .given .1 in
-    (begun-ready _ _ _ _ (begun .result) (begun .ensures) ready, begun-empty _ _ _ _ (begun .result .answer) (begun .ensures .answer) ready (begun .ensures .store))
+    (begun-ready _ _ _ _ _ (begun .result) (begun .ensures) ready, begun-empty _ _ _ _ _ (begun .result .answer) (begun .ensures .answer) ready (begun .ensures .store))
 
 true-report-requires : tie.Need-true-report-requires
-true-report-requires c κs = few-tests _ _ _ _ _ _ _ (c .before .before .before .before .before .before .before .before .before .walk-file .ensures)
+true-report-requires c κs = few-tests _ _ _ _ _ _ _ _ (c .before .before .before .before .before .before .before .before .before .walk-file .ensures)
 
 finish-requires : tie.Need-finish-requires
 finish-requires c κs = search needs
@@ -62,7 +62,7 @@ returns-2 c =
     let ready = atWalk .before .before .before .before .enum-told .given .1 in
     let begun = atWalk .before .before .before .before .before .before .before .before .before .begin in
     let done =
-    audit-done _ _ _ _ (begun .result) (begun .ensures) ready (walked .result) _ _ _ (walked .ensures) (wrote .result) _ _ (wrote .ensures .0)
+    audit-done _ _ _ _ _ (begun .result) (begun .ensures) ready (walked .result) _ _ _ (walked .ensures) (wrote .result) _ _ (wrote .ensures .0)
     _ (finished .result) _ (finished .ensures) in
     (done, wrote .ensures .1)
 

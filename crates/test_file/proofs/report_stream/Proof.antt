@@ -20,10 +20,10 @@ walk-file-requires : tie.Need-walk-file-requires
 walk-file-requires c κs =
     let begun = c .before .before .before .before .before .before .before .before .begin in
     let ready = c .before .before .before .enum-told .given .1 in
-    (begun-ready _ _ _ _ (begun .result) (begun .ensures) ready, begun-empty _ _ _ _ (begun .result .answer) (begun .ensures .answer) ready (begun .ensures .store))
+    (begun-ready _ _ _ _ _ (begun .result) (begun .ensures) ready, begun-empty _ _ _ _ _ (begun .result .answer) (begun .ensures .answer) ready (begun .ensures .store))
 
 true-report-requires : tie.Need-true-report-requires
-true-report-requires c κs = few-tests _ _ _ _ _ _ _ (c .before .before .before .before .before .before .before .before .before .walk-file .ensures)
+true-report-requires c κs = few-tests _ _ _ _ _ _ _ _ (c .before .before .before .before .before .before .before .before .before .walk-file .ensures)
 
 same-length : tie.Need-same-length
 same-length c = search needs
@@ -54,7 +54,7 @@ returns-2 c =
     let ready = atWalk .before .before .before .before .enum-told .given .1 in
     let begun = atWalk .before .before .before .before .before .before .before .before .before .begin in
     let done =
-    report-done _ _ _ _ (begun .result) (begun .ensures) ready (walked .result) _ _ _ (walked .ensures) (wrote .result) _ _ (wrote .ensures .0) in
+    report-done _ _ _ _ _ (begun .result) (begun .ensures) ready (walked .result) _ _ _ (walked .ensures) (wrote .result) _ _ (wrote .ensures .0) in
     (done, wrote .ensures .1)
 
 pub report-stream-spec : {M : Type 1} → statement M

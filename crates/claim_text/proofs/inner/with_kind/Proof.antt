@@ -25,6 +25,15 @@ slice-aggregate-with-text-2 c = search needs
 with-text-requires-2 : tie.Need-with-text-requires-2
 with-text-requires-2 c κs = search needs
 
+enum-told-3 : tie.Need-enum-told-3
+enum-told-3 c = search needs
+
+slice-aggregate-with-text-3 : tie.Need-slice-aggregate-with-text-3
+slice-aggregate-with-text-3 c = search needs
+
+with-text-requires-3 : tie.Need-with-text-requires-3
+with-text-requires-3 c κs = search needs
+
 returns : tie.Need-returns
 returns c =
     as-part _ _ _ _ (c .with-text .ensures) (sym (ap kindText (c .before .before .enum-told .given .1)))
@@ -32,6 +41,10 @@ returns c =
 returns-2 : tie.Need-returns-2
 returns-2 c =
     as-part _ _ _ _ (c .with-text2 .ensures) (sym (ap kindText (c .before .before .enum-told2 .given .1)))
+
+returns-3 : tie.Need-returns-3
+returns-3 c =
+    as-part _ _ _ _ (c .with-text3 .ensures) (sym (ap kindText (c .before .before .enum-told3 .given .1)))
 
 pub with-kind-spec : {M : Type 1} → statement M
 with-kind-spec =
@@ -43,5 +56,9 @@ with-kind-spec =
     enum-told-2
     slice-aggregate-with-text-2
     with-text-requires-2
+    enum-told-3
+    slice-aggregate-with-text-3
+    with-text-requires-3
     returns
-    returns-2)
+    returns-2
+    returns-3)

@@ -23,7 +23,7 @@ count-new-requires c κs =
     let s = c .before .before .before .before .before .before .before .before .before in
     let a = s .args in
     let q = c .before .before .before .before .check-record in
-    test-legal (a .netlist .now) (a .positions .now) (a .counts .now) (a .inputs) (a .nets) (a .outputs) (a .test .now) (a .store .now) (a .work .now)
+    test-legal (a .netlist .now) (a .positions .now) (a .counts .now) (a .inputs) (a .nets) (a .outputs) (a .class) (a .test .now) (a .store .now) (a .work .now)
     (s .pre) (q .result) (q .ensures) (c .before .before .enum-told .given .1)
 
 returns : tie.Need-returns
@@ -32,7 +32,7 @@ returns c =
     let a = s .args in
     let q = c .before .before .before .check-record in
     let w = c .before .checked .given in
-    count-not-legal (a .netlist .now) (a .positions .now) (a .counts .now) (a .inputs) (a .nets) (a .outputs) (a .test .now) (a .store .now) (a .work .now)
+    count-not-legal (a .netlist .now) (a .positions .now) (a .counts .now) (a .inputs) (a .nets) (a .outputs) (a .class) (a .test .now) (a .store .now) (a .work .now)
     (s .pre) (q .result) (q .ensures) (w .0 .0) (w .1)
 
 same-length : tie.Need-same-length

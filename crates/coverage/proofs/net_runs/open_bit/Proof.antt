@@ -1,7 +1,7 @@
 -- `coverage::net_runs::open_bit` meets its contract: the lowest bit of the shifted mask.
 -- Assumes nothing.
 use native.Mathlib.Omega.{arith}
-use Rattle.simulation.proofs.OpenCases.{input-bit}
+use Rattle.simulation.proofs.InputCases.{input-bit}
 use borrow.Author.Needs.{needs}
 use Rattle.coverage.proofs.net_runs.open_bit.Statement.{statement}
 use Rattle.coverage.proofs.net_runs.open_bit.Tie as tie

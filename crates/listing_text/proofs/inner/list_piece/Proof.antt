@@ -7,6 +7,7 @@ use native.Mathlib.Omega.{arith}
 use borrow.Author.Needs.{needs}
 use lib.ListN.{length}
 use Rattle.model.specs.Netlist.{Netlist}
+use Rattle.model.specs.Read.{classOf}
 use Rattle.model.proofs.AnswerLaws.{value-inj}
 use Rattle.coverage.specs.Stage.{MemoryReady}
 use Rattle.listing_text.proofs.PieceSteps.{tables-limits, Listing, listing-start, listing-room, listing-next, listing-end}
@@ -14,11 +15,11 @@ use Rattle.listing_text.proofs.inner.list_piece.Statement.{statement}
 use Rattle.listing_text.proofs.inner.list_piece.Tie as tie
 
 abbrev Inv-loop : tie.InvT-loop
-Inv-loop netlist first piece store₀ work₀ out₀ survey positions inputs nets outputs bytes place₀ at₀ end₀ store work out place at end =
-    Listing netlist positions (survey .counts) inputs nets outputs first piece store₀ work₀ out₀ store work out place at end
+Inv-loop netlist first piece class store₀ work₀ out₀ survey positions inputs nets outputs bytes place₀ at₀ end₀ store work out place at end =
+    Listing netlist positions (survey .counts) inputs nets outputs (classOf class) first piece store₀ work₀ out₀ store work out place at end
 
 abbrev μ-loop : tie.MeasureT-loop
-μ-loop netlist first piece store₀ work₀ out₀ survey positions inputs nets outputs bytes place₀ at₀ end₀ store work out place at end =
+μ-loop netlist first piece class store₀ work₀ out₀ survey positions inputs nets outputs bytes place₀ at₀ end₀ store work out place at end =
     length piece - at
 
 add-nets : tie.Need-add-nets Inv-loop μ-loop
@@ -43,7 +44,7 @@ loop-holds c =
     let a = s .args in
     let t = a .tables in
     listing-start (a .netlist .now) (t .positions) (t .survey .counts) (t .survey .inputs) (t .survey .inputs + t .survey .gates) (t .survey .outputs)
-    (a .first) (a .piece .now) (a .store .now) (a .work .now) (a .out .now)
+    (classOf (a .class)) (a .first) (a .piece .now) (a .store .now) (a .work .now) (a .out .now)
     (record { circuit = s .pre .circuit; tables = s .pre .tables; memory = s .pre .memory })
 
 record-end-requires : tie.Need-record-end-requires Inv-loop μ-loop
@@ -69,7 +70,7 @@ put-record-requires c κs =
     let t = a .tables in
     let l = here .loop in
     listing-room (a .netlist .now) (t .positions) (t .survey .counts) (t .survey .inputs) (t .survey .inputs + t .survey .gates) (t .survey .outputs)
-    (a .first) (a .piece .now) (a .store .now) (a .work .now) (a .out .now)
+    (classOf (a .class)) (a .first) (a .piece .now) (a .store .now) (a .work .now) (a .out .now)
     (l .store) (l .work) (l .out) (l .place) (l .at) (l .end) (l .inv)
     (c .before .before .before .before .before .before .before .before .before .before .before .before .before .loop-test .taken) (s .pre .shortPiece) (s .pre .room)
 
@@ -98,11 +99,11 @@ loop-again c =
     let q = c .before .before .before .before .before .before .before .before .count-test in
     let p = c .before .before .put-record in
     listing-next (a .netlist .now) (t .positions) (t .survey .counts) (t .survey .inputs) (t .survey .inputs + t .survey .gates) (t .survey .outputs)
-    (a .first) (a .piece .now) (a .store .now) (a .work .now) (a .out .now)
+    (classOf (a .class)) (a .first) (a .piece .now) (a .store .now) (a .work .now) (a .out .now)
     (l .store) (l .work) (l .out) (l .place) (l .at) (l .end) (l .inv)
     (bytes .result) (next .result) (bytes .ensures .0)
     (c .before .before .before .before .before .before .before .before .before .before .before .before .before .before .before .before .loop-test .taken) (next .ensures)
-    (q .last .1 .1 .1 .1 .1 .1 .1 .0) (q .last .1 .1 .1 .1 .1 .1 .1 .1 .0) (p .last .0) (p .result) (q .result) (q .ensures) (p .ensures)
+    (q .last .1 .1 .1 .1 .1 .1 .1 .1 .0) (q .last .1 .1 .1 .1 .1 .1 .1 .1 .1 .0) (p .last .0) (p .result) (q .result) (q .ensures) (p .ensures)
 
 same-length : tie.Need-same-length Inv-loop μ-loop
 same-length c = omega (arith, c .before .loop .inv .ready .memory .storeLength, c .before .before .before .before .before .before .before .before .before .before .pre .memory .storeLength)
@@ -121,7 +122,7 @@ returns c =
     let l = c .before .loop in
     record {
       ofCircuit = listing-end (a .netlist .now) (t .positions) (t .survey .counts) (t .survey .inputs) (t .survey .inputs + t .survey .gates) (t .survey .outputs)
-          (a .first) (a .piece .now) (a .store .now) (a .work .now) (a .out .now)
+          (classOf (a .class)) (a .first) (a .piece .now) (a .store .now) (a .work .now) (a .out .now)
           (l .store) (l .work) (l .out) (l .place) (l .at) (l .end) (l .inv) (c .loop-test .left);
       memory = λ N k. subst (λ (M : Netlist). MemoryReady M (l .store) (l .work)) (value-inj (sym (l .inv .ready .tables .legal) ∙ k .legal)) (l .inv .ready .memory);
       fewPlaces = omega (arith, l .inv .places, l .inv .within);

@@ -23,6 +23,9 @@ enum-known-answer c = search needs
 enum-told : tie.Need-enum-told
 enum-told c = search needs
 
+known-class-requires : tie.Need-known-class-requires
+known-class-requires c κs = search needs
+
 same-length : tie.Need-same-length
 same-length c = search needs
 
@@ -35,6 +38,12 @@ same-length-2 c = search needs
 returns-4 : tie.Need-returns-4
 returns-4 c = search begin-cases
 
+same-length-3 : tie.Need-same-length-3
+same-length-3 c = search needs
+
+returns-5 : tie.Need-returns-5
+returns-5 c = search begin-cases
+
 pub begin-spec : {M : Type 1} → statement M
 begin-spec =
     tie.close
@@ -45,7 +54,10 @@ begin-spec =
     clear-requires
     enum-known-answer
     enum-told
+    known-class-requires
     same-length
     returns-3
     same-length-2
-    returns-4)
+    returns-4
+    same-length-3
+    returns-5)

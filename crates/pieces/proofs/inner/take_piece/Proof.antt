@@ -20,8 +20,8 @@ enum-told c = search needs
 take-records-requires : tie.Need-take-records-requires
 take-records-requires c κs = search needs
 
-add-t20 : tie.Need-add-t20
-add-t20 c = search needs
+add-t21 : tie.Need-add-t21
+add-t21 c = search needs
 
 returns : tie.Need-returns
 returns c = search piece-cases
@@ -43,7 +43,7 @@ take-piece-spec =
     enum-known-answer
     enum-told
     take-records-requires
-    add-t20
+    add-t21
     returns
     same-length
     same-length-2

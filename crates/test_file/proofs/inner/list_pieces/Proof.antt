@@ -10,12 +10,12 @@ use Rattle.test_file.proofs.inner.list_pieces.Statement.{statement}
 use Rattle.test_file.proofs.inner.list_pieces.Tie as tie
 
 abbrev Inv-loop : tie.InvT-loop
-Inv-loop fd to netlist loaded space₀ store₀ work₀ out₀ bytes full least size place₀ so-far₀ space store work out place so-far =
-    ListedSoFar netlist loaded full (length space₀) work₀ place so-far space store work out
+Inv-loop fd to netlist loaded class space₀ store₀ work₀ out₀ bytes full least size place₀ so-far₀ space store work out place so-far =
+    ListedSoFar netlist loaded class full (length space₀) work₀ place so-far space store work out
     × (length space ≡ length space₀) × (length store ≡ length store₀) × (length work ≡ length work₀) × (length out ≡ length out₀)
 
 abbrev μ-loop : tie.MeasureT-loop
-μ-loop fd to netlist loaded space₀ store₀ work₀ out₀ bytes full least size place₀ so-far₀ space store work out place so-far =
+μ-loop fd to netlist loaded class space₀ store₀ work₀ out₀ bytes full least size place₀ so-far₀ space store work out place so-far =
     9223372036854775808 - so-far
 
 record-length-requires : tie.Need-record-length-requires Inv-loop μ-loop

@@ -10,12 +10,12 @@ use Rattle.test_file.proofs.walking.take_pieces.Statement.{statement}
 use Rattle.test_file.proofs.walking.take_pieces.Tie as tie
 
 abbrev Inv-loop : tie.InvT-loop
-Inv-loop fd netlist loaded space₀ store₀ work₀ bytes full least size records₀ so-far₀ space store work records so-far =
-    Reading netlist loaded full (length space₀) work₀ records so-far space store work
+Inv-loop fd netlist loaded class space₀ store₀ work₀ bytes full least size records₀ so-far₀ space store work records so-far =
+    Reading netlist loaded class full (length space₀) work₀ records so-far space store work
     × (length space ≡ length space₀) × (length store ≡ length store₀) × (length work ≡ length work₀)
 
 abbrev μ-loop : tie.MeasureT-loop
-μ-loop fd netlist loaded space₀ store₀ work₀ bytes full least size records₀ so-far₀ space store work records so-far =
+μ-loop fd netlist loaded class space₀ store₀ work₀ bytes full least size records₀ so-far₀ space store work records so-far =
     77309411311 - so-far
 
 record-length-requires : tie.Need-record-length-requires Inv-loop μ-loop
@@ -52,7 +52,7 @@ add-so-far c =
     let within = read .before .before .loop-test .taken in
     let full = read .before .before .before .before .before .before .whole-part in
     let start = read .before .before .before .before .before .before .before .before .before .before .before .before in
-    omega (arith, within, n .ensures .1, full .ensures .0, start .good .1 .1 .1 .0 .1)
+    omega (arith, within, n .ensures .1, full .ensures .0, start .good .1 .1 .1 .1 .0 .1)
 
 at-end-requires : tie.Need-at-end-requires Inv-loop μ-loop
 at-end-requires c κs = search needs

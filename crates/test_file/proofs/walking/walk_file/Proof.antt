@@ -1,6 +1,6 @@
 -- `test_file::walk_file` meets its contract: the length of the file decides, or its records do.
 -- Assumes nothing.
-use Rattle.test_file.proofs.FileCases.{file-cut, file-cases}
+use Rattle.test_file.proofs.FileCases.{file-whole, file-cut, file-cases}
 use borrow.Author.Needs.{needs}
 use Rattle.test_file.proofs.walking.walk_file.Statement.{statement}
 use Rattle.test_file.proofs.walking.walk_file.Tie as tie
@@ -27,7 +27,11 @@ same-length-3 : tie.Need-same-length-3
 same-length-3 c = search needs
 
 returns : tie.Need-returns
-returns c = search file-cases
+returns c =
+    let tested = c .before .whole-length in
+    let each = c .before .before .record-length in
+    let walked = c .before .before .before .before .before .before .before .before .before .before .take-pieces in
+    file-whole (walked .result) _ _ _ _ _ _ _ (walked .ensures) (each .result) (each .ensures .0) (tested .result) (tested .ensures) (c .if1 .taken)
 
 clear-requires : tie.Need-clear-requires
 clear-requires c κs = search needs
@@ -48,7 +52,7 @@ returns-2 c =
     let tested = c .before .before .before .before .before .whole-length in
     let each = c .before .before .before .before .before .before .record-length in
     let walked = c .before .before .before .before .before .before .before .before .before .before .before .before .before .before .take-pieces in
-    file-cut (walked .result) _ _ _ _ _ _ (walked .ensures) (each .result) (each .ensures .0) (tested .result) (tested .ensures) other _ (cleared .ensures)
+    file-cut (walked .result) _ _ _ _ _ _ _ (walked .ensures) (each .result) (each .ensures .0) (tested .result) (tested .ensures) other _ (cleared .ensures)
 
 pub walk-file-spec : {M : Type 1} → statement M
 walk-file-spec =

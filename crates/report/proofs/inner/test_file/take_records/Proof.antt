@@ -8,11 +8,11 @@ use Rattle.report.proofs.inner.test_file.take_records.Statement.{statem
 use Rattle.report.proofs.inner.test_file.take_records.Tie as tie
 
 abbrev Inv-loop : tie.InvT-loop
-Inv-loop netlist positions counts inputs nets outputs tests store₀ work₀ bytes at₀ taken₀ store work at taken =
-    Taking netlist positions counts inputs nets outputs tests store₀ work₀ store work at taken
+Inv-loop netlist positions counts inputs nets outputs tests class store₀ work₀ bytes at₀ taken₀ store work at taken =
+    Taking netlist positions counts inputs nets outputs class tests store₀ work₀ store work at taken
 
 abbrev μ-loop : tie.MeasureT-loop
-μ-loop netlist positions counts inputs nets outputs tests store₀ work₀ bytes at₀ taken₀ store work at taken = length tests - at
+μ-loop netlist positions counts inputs nets outputs tests class store₀ work₀ bytes at₀ taken₀ store work at taken = length tests - at
 
 record-length-requires : tie.Need-record-length-requires Inv-loop μ-loop
 record-length-requires c κs = search file-cases

@@ -1,7 +1,7 @@
 -- `simulation::inner::open_pins::input_value` meets its contract: the lowest bit of the shifted word.
 -- Assumes nothing.
 use native.Mathlib.Omega.{arith}
-use Rattle.simulation.proofs.OpenCases.{input-bit}
+use Rattle.simulation.proofs.InputCases.{input-bit}
 use borrow.Author.Needs.{needs}
 use Rattle.simulation.proofs.inner.open_pins.input_value.Statement.{statement}
 use Rattle.simulation.proofs.inner.open_pins.input_value.Tie as tie

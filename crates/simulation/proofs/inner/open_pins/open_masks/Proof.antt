@@ -1,34 +1,27 @@
--- `simulation::inner::open_pins::open_masks` meets its contract. The loop's invariant: the values and the open pins of the nets before `net`
--- are those of the vector, for every netlist that the bytes are. In a need `t` is the state after the loop's test, `w` after the gate's
--- position is read, `p` after its pins are packed.
+-- `simulation::inner::open_pins::open_masks` meets its contract. The loop's invariant: the states and the open pins of the nets before `net`
+-- are those of the test in its class, for every netlist that the bytes are. In a need `t` is the state after the loop's test, `w` after the gate's
+-- position is read, `p` after the states at its pins are packed.
 -- Assumes nothing.
 use Prim.Native.Nat.{_-_}
 use native.Mathlib.Omega.{arith}
 use borrow.Author.Needs.{needs}
-use Rattle.simulation.proofs.OpenCases.{Simulating, few-inputs, few-nets, sim-start, gate-inside, gate-pins, gate-packed, sim-step, sim-end, pins-as, packs-as}
+use Rattle.simulation.proofs.PackStates.{packed-fits}
+use Rattle.simulation.proofs.OpenCases.{Simulating, few-inputs, few-nets, sim-start, gate-inside, gate-few, gate-states, states-packed, sim-step, sim-end, states-as, packs-states-as}
 use Rattle.simulation.proofs.inner.open_pins.open_masks.Statement.{statement}
 use Rattle.simulation.proofs.inner.open_pins.open_masks.Tie as tie
-use Rattle.simulation.proofs.inner.open_pins.open_masks.Reads as reads
-use Rattle.simulation.proofs.inner.open_pins.open_masks.Lts as lts
-use Rattle.records.proofs.inner.wide.Reads as wide-reads
-use Rattle.records.proofs.inner.wide_word.Reads as wide-word-reads
-use Rattle.simulation.proofs.inner.gates.gate_value.Reads as gate-value-reads
-use Rattle.simulation.proofs.inner.gates.open_pins.Reads as open-pins-reads
-use Rattle.simulation.proofs.inner.gates.pack.Reads as pack-reads
-use Rattle.simulation.proofs.inner.open_pins.input_values.Reads as input-values-reads
-use Rattle.simulation.proofs.inner.open_pins.one_where.Reads as one-where-reads
 
 abbrev Inv-loop : tie.InvT-loop
-Inv-loop netlist positions inputs nets vector values₀ masks₀ net₀ values masks net = Simulating netlist positions inputs nets vector values masks net
+Inv-loop netlist positions inputs nets v1 v2 class states₀ masks₀ net₀ states masks net =
+    Simulating netlist positions inputs nets class v1 v2 states masks net
 
 abbrev μ-loop : tie.MeasureT-loop
-μ-loop netlist positions inputs nets vector values₀ masks₀ net₀ values masks net = nets - net
+μ-loop netlist positions inputs nets v1 v2 class states₀ masks₀ net₀ states masks net = nets - net
 
-input-values-requires : tie.Need-input-values-requires Inv-loop μ-loop
-input-values-requires c κs = few-inputs _ _ _ _ (c .before .pre)
+input-states-requires : tie.Need-input-states-requires Inv-loop μ-loop
+input-states-requires c κs = few-inputs _ _ _ _ (c .before .pre)
 
 loop-holds : tie.Need-loop-holds Inv-loop μ-loop
-loop-holds c = sim-start _ _ _ _ (c .before .before .pre) _ _ (c .input-values .ensures)
+loop-holds c = sim-start _ _ _ _ (c .before .before .pre) _ _ _ _ (c .input-states .ensures)
 
 mul-wide-word : tie.Need-mul-wide-word Inv-loop μ-loop
 mul-wide-word c = omega (arith, few-nets _ _ _ _ (c .before .before .before .before .pre), c .loop-test .taken)
@@ -46,7 +39,7 @@ shared-slice-read-kind : tie.Need-shared-slice-read-kind Inv-loop μ-loop
 shared-slice-read-kind c =
     let w = c .before in
     let t = w .before .before in
-    omega (arith, gate-inside _ _ _ _ (t .before .before .before .before .pre) _ _ _ _ (t .before .loop .inv) (t .loop-test .taken) _ (w .wide-word .ensures .0))
+    omega (arith, gate-inside _ _ _ _ (t .before .before .before .before .pre) _ _ _ _ _ _ (t .before .loop .inv) (t .loop-test .taken) _ (w .wide-word .ensures .0))
 
 add-pins : tie.Need-add-pins Inv-loop μ-loop
 add-pins c = omega (arith, c .before .wide-word .ensures .1)
@@ -55,64 +48,78 @@ shared-slice-read-pins : tie.Need-shared-slice-read-pins Inv-loop μ-loop
 shared-slice-read-pins c =
     let w = c .before .before in
     let t = w .before .before in
-    omega (arith, gate-inside _ _ _ _ (t .before .before .before .before .pre) _ _ _ _ (t .before .loop .inv) (t .loop-test .taken) _ (w .wide-word .ensures .0))
+    omega (arith, gate-inside _ _ _ _ (t .before .before .before .before .pre) _ _ _ _ _ _ (t .before .loop .inv) (t .loop-test .taken) _ (w .wide-word .ensures .0))
 
 wide-requires : tie.Need-wide-requires Inv-loop μ-loop
 wide-requires c κs = search needs
 
-pack-requires : tie.Need-pack-requires Inv-loop μ-loop
-pack-requires c κs =
+pack-states-requires : tie.Need-pack-states-requires Inv-loop μ-loop
+pack-states-requires c κs =
     let w = c .before .before .before .before in
     let t = w .before .before in
-    pins-as (c .before .wide .ensures .0) (gate-pins _ _ _ _ (t .before .before .before .before .pre) _ _ _ _ (t .before .loop .inv) (t .loop-test .taken) _ (w .wide-word .ensures .0))
+    states-as (c .before .wide .ensures .0)
+    (gate-states _ _ _ _ (t .before .before .before .before .pre) _ _ _ _ _ _ (t .before .loop .inv) (t .loop-test .taken) _ (w .wide-word .ensures .0))
 
-open-pins-requires : tie.Need-open-pins-requires Inv-loop μ-loop
-open-pins-requires c κs =
+pin-states-requires : tie.Need-pin-states-requires Inv-loop μ-loop
+pin-states-requires c κs =
     let w = c .before .before .before .before .before in
     let t = w .before .before in
-    gate-packed _ _ _ _ (t .before .before .before .before .pre) _ _ _ _ (t .before .loop .inv) (t .loop-test .taken) _ (w .wide-word .ensures .0)
-    _ (packs-as (c .before .before .wide .ensures .0) (c .pack .ensures))
+    packed-fits _ _ _ _ _ (gate-few _ _ _ _ (t .before .before .before .before .pre) _ _ _ _ _ _ (t .before .loop .inv) (t .loop-test .taken) _ (w .wide-word .ensures .0))
+    (packs-states-as (c .before .before .wide .ensures .0) (c .pack-states .ensures))
 
-array-write-masks : tie.Need-array-write-masks Inv-loop μ-loop
-array-write-masks c =
-    let t = c .before .before .before .before .before .before .before .before in
-    omega (arith, few-nets _ _ _ _ (t .before .before .before .before .pre), t .loop-test .taken)
-
-gate-value-requires : tie.Need-gate-value-requires Inv-loop μ-loop
-gate-value-requires c κs =
+class-pins-requires : tie.Need-class-pins-requires Inv-loop μ-loop
+class-pins-requires c κs =
     let w = c .before .before .before .before .before .before in
     let t = w .before .before in
     let p = c .before in
-    gate-packed _ _ _ _ (t .before .before .before .before .pre) _ _ _ _ (t .before .loop .inv) (t .loop-test .taken) _ (w .wide-word .ensures .0)
-    _ (packs-as (p .before .before .wide .ensures .0) (p .pack .ensures))
+    states-packed _ _ _ _ (t .before .before .before .before .pre) _ _ _ _ _ _ (t .before .loop .inv) (t .loop-test .taken) _ (w .wide-word .ensures .0)
+    _ (packs-states-as (p .before .before .wide .ensures .0) (p .pack-states .ensures)) _ (c .pin-states .ensures)
 
-one-where-requires : tie.Need-one-where-requires Inv-loop μ-loop
-one-where-requires c κs = search needs
+array-write-masks : tie.Need-array-write-masks Inv-loop μ-loop
+array-write-masks c =
+    let t = c .before .before .before .before .before .before .before .before .before in
+    omega (arith, few-nets _ _ _ _ (t .before .before .before .before .pre), t .loop-test .taken)
 
-array-write-values : tie.Need-array-write-values Inv-loop μ-loop
-array-write-values c =
-    let t = c .before .before .before .before .before .before .before .before .before .before in
+evaluate-requires : tie.Need-evaluate-requires Inv-loop μ-loop
+evaluate-requires c κs =
+    let w = c .before .before .before .before .before .before .before in
+    let t = w .before .before in
+    let p = c .before .before in
+    states-packed _ _ _ _ (t .before .before .before .before .pre) _ _ _ _ _ _ (t .before .loop .inv) (t .loop-test .taken) _ (w .wide-word .ensures .0)
+    _ (packs-states-as (p .before .before .wide .ensures .0) (p .pack-states .ensures)) _ (c .before .pin-states .ensures)
+
+state-word-requires : tie.Need-state-word-requires Inv-loop μ-loop
+state-word-requires c κs = search needs
+
+mul-states : tie.Need-mul-states Inv-loop μ-loop
+mul-states c =
+    let t = c .before .before .before .before .before .before .before .before .before .before .before in
+    omega (arith, few-nets _ _ _ _ (t .before .before .before .before .pre), t .loop-test .taken)
+
+array-write-states : tie.Need-array-write-states Inv-loop μ-loop
+array-write-states c =
+    let t = c .before .before .before .before .before .before .before .before .before .before .before in
     omega (arith, few-nets _ _ _ _ (t .before .before .before .before .pre), t .loop-test .taken)
 
 add-net : tie.Need-add-net Inv-loop μ-loop
 add-net c =
-    let t = c .before .before .before .before .before .before .before .before .before .before in
+    let t = c .before .before .before .before .before .before .before .before .before .before .before in
     omega (arith, few-nets _ _ _ _ (t .before .before .before .before .pre), t .loop-test .taken)
 
 loop-less : tie.Need-loop-less Inv-loop μ-loop
-loop-less c = omega (arith, c .before .before .before .before .before .before .before .before .before .before .loop-test .taken)
+loop-less c = omega (arith, c .before .before .before .before .before .before .before .before .before .before .before .loop-test .taken)
 
 loop-again : tie.Need-loop-again Inv-loop μ-loop
 loop-again c =
-    let w = c .before .before .before .before .before .before .before .before in
+    let w = c .before .before .before .before .before .before .before .before .before in
     let t = w .before .before in
-    let p = c .before .before .before in
-    sim-step _ _ _ _ (t .before .before .before .before .pre) _ _ _ _ (t .before .loop .inv) (t .loop-test .taken) _ (w .wide-word .ensures .0)
-    _ (packs-as (p .before .before .wide .ensures .0) (p .pack .ensures))
-    _ (c .before .before .open-pins .ensures) _ (c .before .gate-value .ensures) _ (c .one-where .ensures)
+    let p = c .before .before .before .before in
+    sim-step _ _ _ _ (t .before .before .before .before .pre) _ _ _ _ _ _ (t .before .loop .inv) (t .loop-test .taken) _ (w .wide-word .ensures .0)
+    _ (packs-states-as (p .before .before .wide .ensures .0) (p .pack-states .ensures)) _ (c .before .before .before .pin-states .ensures)
+    _ (c .before .before .class-pins .ensures) _ (c .before .evaluate .ensures) _ (c .state-word .ensures)
 
 returns : tie.Need-returns Inv-loop μ-loop
-returns c = sim-end _ _ _ _ (c .before .before .before .before .pre) _ _ _ _ (search needs) (c .before .loop .inv)
+returns c = sim-end _ _ _ _ (c .before .before .before .before .pre) _ _ _ _ _ _ (search needs) (c .before .loop .inv)
 
 pub open-masks-spec : {M : Type 1} → statement M
 open-masks-spec =
@@ -120,7 +127,7 @@ open-masks-spec =
     (tie.spec
     Inv-loop
     μ-loop
-    input-values-requires
+    input-states-requires
     loop-holds
     mul-wide-word
     element-copy-out-wide-word
@@ -130,12 +137,14 @@ open-masks-spec =
     add-pins
     shared-slice-read-pins
     wide-requires
-    pack-requires
-    open-pins-requires
+    pack-states-requires
+    pin-states-requires
+    class-pins-requires
     array-write-masks
-    gate-value-requires
-    one-where-requires
-    array-write-values
+    evaluate-requires
+    state-word-requires
+    mul-states
+    array-write-states
     add-net
     loop-less
     loop-again

@@ -1,0 +1,90 @@
+-- `simulation::inner::evaluation::robust_pins` meets its contract, kind by kind.
+-- Assumes nothing.
+use Rattle.simulation.proofs.EvaluationCases.{pins-few, robust-3, robust-4, robust-5, robust-6, robust-rest}
+use borrow.Author.Needs.{needs}
+use Rattle.simulation.proofs.inner.evaluation.robust_pins.Statement.{statement}
+use Rattle.simulation.proofs.inner.evaluation.robust_pins.Tie as tie
+use Rattle.simulation.proofs.inner.evaluation.robust_pins.Reads as reads
+use Rattle.simulation.proofs.inner.evaluation.robust_pins.Lts as lts
+use Rattle.simulation.proofs.inner.gates.all_pins.Reads as all-pins-reads
+use Rattle.simulation.proofs.inner.gates.open_set.Reads as open-set-reads
+
+all-pins-requires : tie.Need-all-pins-requires
+all-pins-requires c κs = pins-few (c .before .args .kind) (c .before .args .pins) (c .before .args .states) (c .before .pre)
+
+sub-open-set : tie.Need-sub-open-set
+sub-open-set c = search needs
+
+open-set-requires : tie.Need-open-set-requires
+open-set-requires c κs = search needs
+
+sub-open-set-2 : tie.Need-sub-open-set-2
+sub-open-set-2 c = search needs
+
+open-set-requires-2 : tie.Need-open-set-requires-2
+open-set-requires-2 c κs = search needs
+
+sub-open-set-3 : tie.Need-sub-open-set-3
+sub-open-set-3 c = search needs
+
+open-set-requires-3 : tie.Need-open-set-requires-3
+open-set-requires-3 c κs = search needs
+
+open-set-requires-4 : tie.Need-open-set-requires-4
+open-set-requires-4 c κs = search needs
+
+sub-result : tie.Need-sub-result
+sub-result c = search needs
+
+open-set-requires-5 : tie.Need-open-set-requires-5
+open-set-requires-5 c κs = search needs
+
+sub-result-2 : tie.Need-sub-result-2
+sub-result-2 c = search needs
+
+returns : tie.Need-returns
+returns c =
+    robust-3 _ _ _ (c .before .before .before .before .before .before .pre) (c .before .before .before .before .all-pins .result) (c .before .before .before .before .all-pins .ensures)
+    (c .before .before .open-set .result) (c .before .before .open-set .ensures) (c .open-set2 .result) (c .open-set2 .ensures) (c .before .match .keys1)
+
+returns-2 : tie.Need-returns-2
+returns-2 c =
+    robust-4 _ _ _ (c .before .before .before .before .before .before .pre) (c .before .before .before .before .all-pins .result) (c .before .before .before .before .all-pins .ensures)
+    (c .before .before .open-set .result) (c .before .before .open-set .ensures) (c .open-set3 .result) (c .open-set3 .ensures) (c .before .match .keys2)
+
+returns-3 : tie.Need-returns-3
+returns-3 c =
+    robust-5 _ _ _ (c .before .before .before .before .before .before .pre) (c .before .before .before .before .all-pins .result) (c .before .before .before .before .all-pins .ensures)
+    (c .before .before .open-set .result) (c .before .before .open-set .ensures) (c .open-set4 .result) (c .open-set4 .ensures) (c .before .match .keys3)
+
+returns-4 : tie.Need-returns-4
+returns-4 c =
+    robust-6 _ _ _ (c .before .before .before .before .before .before .pre) (c .before .before .before .before .all-pins .result) (c .before .before .before .before .all-pins .ensures)
+    (c .before .before .open-set .result) (c .before .before .open-set .ensures) (c .open-set5 .result) (c .open-set5 .ensures) (c .before .match .keys4)
+
+returns-5 : tie.Need-returns-5
+returns-5 c =
+    let r = c .match .rest in
+    robust-rest _ _ _ (c .before .before .before .before .before .pre) (c .before .before .before .all-pins .result) (c .before .before .before .all-pins .ensures)
+    (c .before .open-set .result) (c .before .open-set .ensures) (r .0 .0 .0 .1) (r .0 .0 .1) (r .0 .1) (r .1)
+
+pub robust-pins-spec : {M : Type 1} → statement M
+robust-pins-spec =
+    tie.close
+    (tie.spec
+    all-pins-requires
+    sub-open-set
+    open-set-requires
+    sub-open-set-2
+    open-set-requires-2
+    sub-open-set-3
+    open-set-requires-3
+    open-set-requires-4
+    sub-result
+    open-set-requires-5
+    sub-result-2
+    returns
+    returns-2
+    returns-3
+    returns-4
+    returns-5)
