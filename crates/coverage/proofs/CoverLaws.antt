@@ -21,10 +21,11 @@ use Rattle.runs.specs.Runs.{Sound, inEither, runAt, runsInWords, writeRuns}
 use Rattle.runs.specs.Answers.{Room, answer, Adds, InsideWhere}
 use Rattle.runs.specs.declared.inner.Added.{Added}
 use Rattle.runs.specs.declared.inner.Added.the-variants.{Count, Full}
-use Rattle.runs.proofs.RunLaws.{run-path, sound-mono}
-use Rattle.runs.proofs.WordLaws.{length-runs, runs-write-before}
+use Rattle.runs.proofs.MemberLaws.{run-path, sound-mono}
+use Rattle.runs.proofs.RunWordLaws.{length-runs}
+use Rattle.run_union.proofs.RunWriteLaws.{runs-write-before}
+use Rattle.run_union.proofs.Adding.{answer-over, adds-count}
 use Rattle.runs.proofs.InsideSteps.{inside-union}
-use Rattle.runs.proofs.Adding.{answer-over, adds-count}
 use Rattle.coverage.proofs.AddLaws.{as-adds}
 use Rattle.coverage.specs.Scene.{Case, allRuns}
 use Rattle.coverage.specs.Edges.{EdgeAt, detected, working, Detects}

@@ -16,11 +16,10 @@ use Rattle.runs.specs.Runs.{runsInWords, writeRuns}
 use Rattle.runs.specs.Answers.{Room, Adds}
 use Rattle.runs.specs.declared.inner.Added.{Added}
 use Rattle.runs.specs.declared.inner.Added.the-variants.{Count, Full}
-use Rattle.runs.proofs.RunLaws.{cases}
-use Rattle.runs.proofs.WordLaws.{length-writeRuns, runs-write, runs-write-before, answer-fits, answer-full}
-use Rattle.runs.proofs.Adding.{answer-count, answer-over}
+use Rattle.runs.proofs.MemberLaws.{cases}
+use Rattle.run_union.proofs.RunWriteLaws.{length-writeRuns, runs-write, runs-write-before, write-append}
+use Rattle.run_union.proofs.Adding.{answer-fits, answer-full, answer-count, answer-over}
 use Rattle.coverage.proofs.AddLaws.{as-adds}
-use Rattle.runs.proofs.PlaceSteps.{write-append}
 use Rattle.coverage.specs.Scene.{Case, setRuns, allRuns, Scene, Done, NetAt, SomeNetAt, NetsAt, NetsMade}
 use Rattle.coverage.proofs.NetLaws.{all-next, all-mono}
 

@@ -30,10 +30,11 @@ use Rattle.runs.specs.Runs.{run, Sound, addRun, addRuns, shiftRuns, runsInWords
 use Rattle.runs.specs.Answers.{answer, Adds}
 use Rattle.runs.specs.declared.inner.Added.{Added}
 use Rattle.runs.specs.declared.inner.Added.the-variants.{Count, Full}
-use Rattle.runs.proofs.RunLaws.{cases, joined-one, joined-two}
-use Rattle.runs.proofs.Adding.{addRuns-append, answer-count, answer-over, adds-count}
-use Rattle.runs.proofs.WordLaws.{length-writeRuns, answer-fits}
-use Rattle.runs.proofs.PartLaws.{addRuns-part}
+use Rattle.runs.proofs.MemberLaws.{cases}
+use Rattle.run_union.proofs.AddRunLaws.{joined-one, joined-two, addRuns-append}
+use Rattle.run_union.proofs.ShiftLaws.{addRuns-part}
+use Rattle.run_union.proofs.RunWriteLaws.{length-writeRuns}
+use Rattle.run_union.proofs.Adding.{answer-count, answer-over, adds-count, answer-fits}
 use Rattle.coverage.proofs.AddLaws.{runs-zero}
 use Rattle.coverage.specs.Parts.{parts, sumTo, runsIn, outAt, atGate, gateCounts, netPart, NetReady, PartsReady, OutputsReady}
 use Rattle.coverage.specs.Scene.{Case, setRuns, allRuns, Scene, Done, NetsMade, NetsAt}

@@ -12,7 +12,7 @@ use Rattle.runs.specs.Runs.{addRuns, shiftRuns, runsInWords}
 use Rattle.runs.specs.Answers.{Room, Adds}
 use Rattle.runs.specs.declared.inner.Added.{Added}
 use Rattle.runs.specs.declared.inner.Added.the-variants.{Count, Full}
-use Rattle.runs.proofs.Adding.{Adding, adding-start, as-rest}
+use Rattle.run_union.proofs.Adding.{Adding, adding-start, as-rest}
 use Rattle.coverage.specs.Parts.{parts, sumTo, runsIn, netPart, NetReady, PartsReady}
 use Rattle.coverage.proofs.PartSteps.{sum-next, net-kept, net-ready, same-words, parts-room, parts-done, parts-full, parts-more, net-part}
 

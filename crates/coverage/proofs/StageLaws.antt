@@ -27,8 +27,8 @@ use Rattle.model.proofs.HoldingLaws.{at-edge}
 use Rattle.netlist.specs.Places.{Tables}
 use Rattle.netlist.proofs.LoadLaws.{gate-record, count-is, output-net-at, outputs-room}
 use Rattle.runs.specs.Runs.{Sound, runsInWords}
-use Rattle.runs.proofs.WordLaws.{length-runs}
-use Rattle.runs.proofs.RunLaws.{sound-mono}
+use Rattle.runs.proofs.MemberLaws.{sound-mono}
+use Rattle.runs.proofs.RunWordLaws.{length-runs}
 use Rattle.model.proofs.ListLaws.{length-numbersFrom}
 use Rattle.simulation.specs.Records.{recordOf, RecordTrue, VectorsTrue, EdgesTrue}
 use Rattle.simulation.specs.declared.inner.test_record.RecordAnswer.{RecordAnswer}

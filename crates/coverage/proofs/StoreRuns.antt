@@ -15,7 +15,7 @@ use Rattle.model.specs.Calls.{runsThen}
 use Rattle.model.proofs.HoldingLaws.{ofEdge-byEdge}
 use Rattle.model.proofs.RunLaws.{separated→}
 use Rattle.runs.specs.Runs.{Sound, runsInWords}
-use Rattle.runs.proofs.WordLaws.{runs-of-part}
+use Rattle.runs.proofs.RunWordLaws.{runs-of-part}
 use Rattle.coverage.specs.Scene.{Case}
 use Rattle.coverage.specs.Covers.{thenRuns}
 

@@ -18,10 +18,10 @@ use Rattle.model.proofs.AnswerLaws.{AllPass}
 use Rattle.model.proofs.HoldingLaws.{at-edge}
 use Rattle.model.proofs.StoreLaws.{length-places}
 use Rattle.runs.specs.Runs.{run, runAt, runsInWords, writeRuns}
-use Rattle.runs.proofs.RunLaws.{run-path}
-use Rattle.runs.proofs.WordLaws.{length-runs, writeRuns-self}
+use Rattle.runs.proofs.MemberLaws.{run-path}
+use Rattle.runs.proofs.RunWordLaws.{length-runs}
+use Rattle.run_union.proofs.RunWriteLaws.{writeRuns-self, write-append}
 use Rattle.coverage.specs.Stores.{zeroRuns, paddedRuns, madeOr, bothPlaces, storeWith, ZeroWords, PlacesHold, StoreReady}
-use Rattle.runs.proofs.PlaceSteps.{write-append}
 
 write-block : (s : List Run) (i : ℕ) (pre mid post : List ℕ) → length pre ≡ 2 * i → length mid ≡ 2 * length s → writeRuns (pre ++ (mid ++ post)) i s ≡ pre ++ (lowsHighs s ++ post)
 write-block [] i pre [] post e l = refl

@@ -21,7 +21,7 @@ use Rattle.model.proofs.AnswerLaws.{AllPass, Passed, checks→, pass-second, no
 use Rattle.model.proofs.RunLaws.{separated→, runs-size, runs-of-runs, howMany-or}
 use Rattle.model.proofs.StoreLaws.{runs-store}
 use Rattle.model.proofs.HoldingLaws.{ofEdge-byEdge, at-edge, stage-passes, stage-result, stage-length, stage-sound}
-use Rattle.runs.proofs.RunLaws.{sound-mono}
+use Rattle.runs.proofs.MemberLaws.{sound-mono}
 use Rattle.model.proofs.ReadLaws.{limits}
 use Rattle.netlist.specs.declared.SurveyAnswer.the-variants as survey
 use Rattle.simulation.specs.Records.{recordOf, RecordTrue}

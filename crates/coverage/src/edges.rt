@@ -14,6 +14,7 @@ ghost use Rattle.coverage.specs.Covers.{Covers};
 ghost use Rattle.coverage.specs.Both.{caseOf, joined, BothAt, SomeBothAt, CoversBoth, up, down};
 use crate::net_runs::detected_runs;
 use model::MAX_RUNS;
+use run_union::inner::merging;
 use runs::inner;
 use runs::inner::Added;
 
@@ -36,7 +37,7 @@ fn union_runs(
     requires { ⌜ Sound (2 ^ 62) (runsInWords (now store) first held) × Sound (2 ^ 62) (runsInWords (now words) maxRuns found) ⌝ }
     ensures { λ r. ⌜ ((t : ℕ) → Sound t (runsInWords (now (store .entry)) first held) → Sound t (runsInWords (now (words .entry)) maxRuns found) → Adds (now (words .entry)) (now (words .exit)) target maxRuns (runsOf (inEither (runsInWords (now (store .entry)) first held) (runsInWords (now (words .entry)) maxRuns found)) t) r) ⌝ }
 {
-    inner::union(
+    merging::union(
         store,
         first,
         first + held,

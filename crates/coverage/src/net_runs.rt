@@ -13,7 +13,7 @@ ghost use Rattle.coverage.specs.Parts.{parts, runsIn, pinAt, outAt, atGa
 ghost use Rattle.coverage.specs.Edges.{EdgeAt, SomeEdgeAt, Detects};
 ghost use Rattle.coverage.specs.Scene.{Case, setRuns, NetAt, SomeNetAt, NetsAt, SomeNetsAt, NetsMade};
 use model::MAX_RUNS;
-use runs::inner;
+use run_union::inner;
 use runs::inner::Added;
 
 // The bit of a pin in its gate's mask: 1 where the pin is open.

@@ -9,7 +9,7 @@ use crate::edges::FALLING_UNION;
 use crate::edges::RISING_UNION;
 use model::HEAD_WORDS;
 use model::MAX_RUNS;
-use runs::inner;
+use run_union::inner;
 use store::inner::FALLING_COUNT;
 use store::inner::RISING_COUNT;
 

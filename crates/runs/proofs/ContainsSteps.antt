@@ -8,8 +8,8 @@ use native.Mathlib.Omega.{arith}
 use lib.ListN.{getD}
 use Rattle.model.specs.Runs.{Run, inRuns}
 use Rattle.runs.specs.Runs.{Sound, runAt, runsInWords}
-use Rattle.runs.proofs.RunLaws.{member, member-in}
-use Rattle.runs.proofs.CutLaws.{runs-cut, sound-left, sound-right, cut-up, cut-down, cut-hit}
+use Rattle.runs.proofs.MemberLaws.{member, member-in}
+use Rattle.runs.proofs.RunCutLaws.{runs-cut, sound-left, sound-right, cut-up, cut-down, cut-hit}
 
 -- the runs lo..hi are left of the runs from..to
 pub record Left (ws : List ℕ) (from to x lo hi : ℕ) : Type 0 where

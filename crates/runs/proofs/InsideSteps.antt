@@ -13,8 +13,8 @@ use Rattle.model.proofs.BoolLaws.{or-cases, and-left, and-right}
 use Rattle.model.proofs.RunLaws.{runs-same, runs-of-runs}
 use Rattle.runs.specs.Runs.{Sound, inEither, runAt, runsInWords}
 use Rattle.runs.specs.Answers.{RunInside, InsideWhere}
-use Rattle.runs.proofs.RunLaws.{cases, member, member-in}
-use Rattle.runs.proofs.CutLaws.{cut-hit, runs-cut}
+use Rattle.runs.proofs.MemberLaws.{cases, member, member-in}
+use Rattle.runs.proofs.RunCutLaws.{cut-hit, runs-cut}
 
 -- the runs before run `j` lie inside
 pub record Walked (a : List ℕ) (a-from a-to : ℕ) (b : List ℕ) (b-from b-to i j : ℕ) : Type 0 where

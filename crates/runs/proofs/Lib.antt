@@ -1,12 +1,6 @@
-pub mod RunLaws
-pub mod PartLaws
-pub mod WordLaws
-pub mod CutLaws
-pub mod AppendSteps
-pub mod Adding
-pub mod ShiftedSteps
-pub mod PlaceSteps
-pub mod UnionSteps
+pub mod MemberLaws
+pub mod RunWordLaws
+pub mod RunCutLaws
 pub mod InsideSteps
 pub mod SizeSteps
 pub mod ContainsSteps

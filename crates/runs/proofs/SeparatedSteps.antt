@@ -9,7 +9,7 @@ use borrow.Author.Tests.{le-leb, lt-leb}
 use lib.ListN.{getD}
 use Rattle.model.specs.Runs.{Run, separatedRuns}
 use Rattle.runs.specs.Runs.{runAt, runsInWords}
-use Rattle.runs.proofs.WordLaws.{runs-next}
+use Rattle.runs.proofs.RunWordLaws.{runs-next}
 
 module _ (n least : ℕ) (r : Run) (rs : List Run) where
   first-passes : least ≤ r .low → r .low ≤ r .high → r .high ≤ n → separatedRuns n least (r ∷ rs) ≡ separatedRuns n (r .high + 2) rs

@@ -9,8 +9,8 @@ use mir.Val.{Fits}
 use lib.ListN.{getD}
 use Rattle.model.specs.Runs.{Run, size}
 use Rattle.runs.specs.Runs.{Sound, runAt, runsInWords}
-use Rattle.runs.proofs.RunLaws.{size-le}
-use Rattle.runs.proofs.WordLaws.{runs-next, sound-at}
+use Rattle.runs.proofs.MemberLaws.{size-le}
+use Rattle.runs.proofs.RunWordLaws.{runs-next, sound-at}
 
 size-none : size [] ≡ 0
 unfolding size

@@ -1,11 +1,11 @@
 -- What the functions that add runs answer, and the words that they leave.
 -- Assumes nothing.
-use Prim.Native.Nat.{ℕ, _+_, _-_, _*_, _≤_, _<_}
+use Prim.Native.Nat.{ℕ, _+_, _*_, _≤_, _<_}
 use mathlib.Core.Path.{_≡_}
 use mathlib.Core.Bool.{Bool, true, cond}
 use mathlib.Core.List.{List}
 use lib.Dec.{leb}
-use lib.ListN.{length, take, getD}
+use lib.ListN.{length, take}
 use Rattle.model.specs.Runs.{Run}
 use Rattle.runs.specs.Runs.{runAt, writeRuns}
 use Rattle.runs.specs.declared.inner.Added.{Added}
@@ -36,7 +36,3 @@ pub record RunInside (ws : List ℕ) (from to : ℕ) (r : Run) : Type 0 where
 -- where the answer is true, each of the runs b-from..b-to of some words lies in one of the runs a-from..a-to of others
 abbrev pub InsideWhere : Bool → List ℕ → ℕ → ℕ → List ℕ → ℕ → ℕ → Type 0
 InsideWhere r a a-from a-to b b-from b-to = r ≡ true → (j : ℕ) → b-from ≤ j → j < b-to → RunInside a a-from a-to (runAt b j)
-
--- where the answer is true, a list has room for the runs from..to, and the first of them, shifted, is apart from the word before the list's end
-abbrev pub FitsWhere : Bool → List ℕ → ℕ → ℕ → ℕ → ℕ → ℕ → ℕ → Type 0
-FitsWhere r ws from to start n cap offset = r ≡ true → (n + (to - from) ≤ cap) × (getD ws (2 * (start + n) - 1) 0 + 1 < getD ws (2 * from) 0 + offset)

@@ -43,12 +43,6 @@ abbrev pub shiftRuns : ℕ → List Run → List Run
 shiftRuns o [] = []
 shiftRuns o (r ∷ rs) = shiftRun o r ∷ shiftRuns o rs
 
--- whether the first run of the two lists by ascending low is the left list's
-abbrev pub leftFirst : List Run → List Run → Bool
-leftFirst [] ys = false
-leftFirst (x ∷ xs) [] = true
-leftFirst (x ∷ xs) (y ∷ ys) = leb (x .low) (y .low)
-
 -- the number lies in a run of one list or of the other
 abbrev pub inEither : List Run → List Run → ℕ → Bool
 inEither xs ys k = inRuns xs k || inRuns ys k

@@ -9,7 +9,7 @@ use Rattle.model.specs.Path.{rising, falling}
 use Rattle.model.specs.Store.{headWords, maxRuns, runCount, storeRuns}
 use Rattle.runs.specs.Runs.{runsInWords}
 use Rattle.netlist.proofs.PartLaws.{part-rest}
-use Rattle.runs.proofs.WordLaws.{runs-of-part}
+use Rattle.runs.proofs.RunWordLaws.{runs-of-part}
 
 -- the part of the words after the head, as the code lends it
 abbrev pub placesOf : List ℕ → List ℕ

@@ -20,7 +20,7 @@ use Rattle.faults.specs.Answers.{modelEdge}
 use Rattle.faults.specs.declared.Edge as Code
 use Rattle.faults.specs.declared.Edge.the-variants as at
 use Rattle.runs.specs.Runs.{Sound, runsInWords}
-use Rattle.runs.proofs.RunLaws.{sound-mono}
+use Rattle.runs.proofs.MemberLaws.{sound-mono}
 use Rattle.store.specs.Answers.{checkOf, totalsIn, totalsBoth, totalsOn, faultOn}
 use Rattle.store.specs.Sound.{SoundWords}
 use Rattle.store.specs.declared.inner.StoreCheck.{StoreCheck}

@@ -10,7 +10,7 @@ use Rattle.coverage.proofs.edges.union_runs.Statement.{statement}
 use Rattle.coverage.proofs.edges.union_runs.Tie as tie
 use Rattle.coverage.proofs.edges.union_runs.Reads as reads
 use Rattle.coverage.proofs.edges.union_runs.Lts as lts
-use Rattle.runs.proofs.inner.union.Reads as union-reads
+use Rattle.run_union.proofs.inner.merging.union.Reads as union-reads
 
 -- src/lib.rt:269:38
 add-union : tie.Need-add-union

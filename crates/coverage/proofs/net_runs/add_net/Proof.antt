@@ -12,7 +12,7 @@ use Rattle.coverage.proofs.net_runs.add_net.Tie as tie
 use Rattle.coverage.proofs.net_runs.add_net.Reads as reads
 use Rattle.coverage.proofs.net_runs.add_net.Lts as lts
 use Rattle.records.proofs.inner.wide_word.Reads as wide-word-reads
-use Rattle.runs.proofs.inner.append_shifted.Reads as append-shifted-reads
+use Rattle.run_union.proofs.inner.append_shifted.Reads as append-shifted-reads
 
 -- src/lib.rt:59:23
 mul-wide-word : tie.Need-mul-wide-word

@@ -11,7 +11,7 @@ use Rattle.coverage.proofs.net_runs.add_pin.Statement.{statement}
 use Rattle.coverage.proofs.net_runs.add_pin.Tie as tie
 use Rattle.coverage.proofs.net_runs.open_bit.Reads as open-bit-reads
 use Rattle.records.proofs.inner.wide_word.Reads as wide-word-reads
-use Rattle.runs.proofs.inner.append_shifted.Reads as append-shifted-reads
+use Rattle.run_union.proofs.inner.append_shifted.Reads as append-shifted-reads
 
 open-bit-requires : tie.Need-open-bit-requires
 open-bit-requires c κs = search needs

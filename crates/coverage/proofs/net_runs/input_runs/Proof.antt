@@ -13,7 +13,7 @@ use Rattle.coverage.proofs.net_runs.input_runs.Tie as tie
 use Rattle.coverage.proofs.net_runs.input_runs.Reads as reads
 use Rattle.coverage.proofs.net_runs.input_runs.Lts as lts
 use Rattle.coverage.proofs.net_runs.makes_edge.Reads as makes-edge-reads
-use Rattle.runs.proofs.inner.append.Reads as append-reads
+use Rattle.run_union.proofs.inner.append.Reads as append-reads
 
 -- src/lib.rt:136:8
 makes-edge-requires : tie.Need-makes-edge-requires

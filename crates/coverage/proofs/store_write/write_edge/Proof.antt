@@ -5,7 +5,7 @@ use borrow.Author.Needs.{needs}
 use Rattle.coverage.proofs.store_write.write_edge.Statement.{statement}
 use Rattle.coverage.proofs.store_write.write_edge.Tie as tie
 use Rattle.coverage.proofs.store_write.clear.Reads as clear-reads
-use Rattle.runs.proofs.inner.copy.Reads as copy-reads
+use Rattle.run_union.proofs.inner.copy.Reads as copy-reads
 
 returns : tie.Need-returns
 returns c = edge-kept (c .before .before .before .args .words .now) (c .before .before .before .args .places .now) (c .before .before .before .args .from) (c .before .before .before .args .count) (c .before .before .before .args .first) (c .before .before .before .args .held) (c .before .before .before .args .made) (c .before .before .before .pre .0 .0) (c .before .before .before .pre .0 .1) (c .before .before .before .pre .1) (c .if1 .taken)

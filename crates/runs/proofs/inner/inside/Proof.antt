@@ -15,7 +15,7 @@ abbrev μ-loop : tie.MeasureT-loop
 μ-loop a a-from a-to b b-from b-to i₀ j₀ i j = b-to - j
 
 returns : tie.Need-returns Inv-loop μ-loop
-returns c = search (walked-none, walked-start, walked-more, walked-end, no-answer, needs)
+returns c = search (walked-none, needs)
 
 mul-first-reaching : tie.Need-mul-first-reaching Inv-loop μ-loop
 mul-first-reaching c = search needs
@@ -30,7 +30,7 @@ first-reaching-requires : tie.Need-first-reaching-requires Inv-loop μ-loop
 first-reaching-requires c κs = search needs
 
 loop-holds : tie.Need-loop-holds Inv-loop μ-loop
-loop-holds c = search (walked-none, walked-start, walked-more, walked-end, no-answer, needs)
+loop-holds c = search (walked-start, needs)
 
 mul-next-reaching : tie.Need-mul-next-reaching Inv-loop μ-loop
 mul-next-reaching c = search needs
@@ -45,7 +45,7 @@ next-reaching-requires : tie.Need-next-reaching-requires Inv-loop μ-loop
 next-reaching-requires c κs = search needs
 
 returns-2 : tie.Need-returns-2 Inv-loop μ-loop
-returns-2 c = search (walked-none, walked-start, walked-more, walked-end, no-answer, needs)
+returns-2 c = search (no-answer, needs)
 
 mul-if3 : tie.Need-mul-if3 Inv-loop μ-loop
 mul-if3 c = search needs
@@ -66,7 +66,7 @@ shared-slice-read-if3-2 : tie.Need-shared-slice-read-if3-2 Inv-loop μ-loop
 shared-slice-read-if3-2 c = search needs
 
 returns-3 : tie.Need-returns-3 Inv-loop μ-loop
-returns-3 c = search (walked-none, walked-start, walked-more, walked-end, no-answer, needs)
+returns-3 c = search (no-answer, needs)
 
 mul-if4 : tie.Need-mul-if4 Inv-loop μ-loop
 mul-if4 c = search needs
@@ -93,7 +93,7 @@ shared-slice-read-if4-2 : tie.Need-shared-slice-read-if4-2 Inv-loop μ-loop
 shared-slice-read-if4-2 c = search needs
 
 returns-4 : tie.Need-returns-4 Inv-loop μ-loop
-returns-4 c = search (walked-none, walked-start, walked-more, walked-end, no-answer, needs)
+returns-4 c = search (no-answer, needs)
 
 add-j : tie.Need-add-j Inv-loop μ-loop
 add-j c = search needs
@@ -102,10 +102,10 @@ loop-less : tie.Need-loop-less Inv-loop μ-loop
 loop-less c = search needs
 
 loop-again : tie.Need-loop-again Inv-loop μ-loop
-loop-again c = search (walked-none, walked-start, walked-more, walked-end, no-answer, needs)
+loop-again c = search (walked-more, needs)
 
 returns-5 : tie.Need-returns-5 Inv-loop μ-loop
-returns-5 c = search (walked-none, walked-start, walked-more, walked-end, no-answer, needs)
+returns-5 c = search (walked-end, needs)
 
 pub inside-spec : {M : Type 1} → statement M
 inside-spec =

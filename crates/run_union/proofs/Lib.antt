@@ -1,0 +1,11 @@
+pub mod AddRunLaws
+pub mod ShiftLaws
+pub mod UnionLaws
+pub mod RunWriteLaws
+pub mod Adding
+pub mod AppendCases
+pub mod CopySteps
+pub mod EachSteps
+pub mod PlacingSteps
+pub mod ShiftedCases
+pub mod UnionSteps

@@ -1,0 +1,2 @@
+-- Runs made in lent words: what the functions of `inner` promise.
+pub mod Unions
