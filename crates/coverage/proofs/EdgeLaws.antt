@@ -18,9 +18,9 @@ use Rattle.runs.specs.Runs.{addRuns, runsInWords, writeRuns}
 use Rattle.runs.specs.Answers.{answer, Adds}
 use Rattle.runs.specs.declared.inner.Added.{Added}
 use Rattle.runs.specs.declared.inner.Added.the-variants.{Count, Full}
-use Rattle.runs.proofs.MemberLaws.{cases}
 use Rattle.run_union.proofs.RunWriteLaws.{length-writeRuns}
 use Rattle.run_union.proofs.Adding.{answer-fits, answer-count, answer-over, adds-count}
+use Rattle.model.proofs.BoolLaws.{cases}
 use Rattle.coverage.proofs.AddLaws.{as-adds}
 use Rattle.coverage.specs.Parts.{parts, outAt, atGate, gateCounts, netPart, OutputsReady}
 use Rattle.coverage.specs.Scene.{Case, allRuns, Scene, Done, NetsAt, NetsMade}

@@ -23,9 +23,10 @@ use Rattle.model.proofs.NumberLaws.{countsBefore-suc, countsBefore-all}
 use Rattle.model.proofs.ReadLaws.{legal, limits, Limits}
 use Rattle.model.proofs.RunLaws.{runs-separated}
 use Rattle.runs.specs.Runs.{run, Sound, addRuns, shiftRuns, runsInWords}
-use Rattle.runs.proofs.MemberLaws.{sound-mono, cases}
+use Rattle.runs.proofs.MemberLaws.{sound-mono}
 use Rattle.run_union.proofs.AddRunLaws.{addRuns-append}
 use Rattle.run_union.proofs.ShiftLaws.{addRuns-part}
+use Rattle.model.proofs.BoolLaws.{cases}
 use Rattle.coverage.proofs.AddLaws.{single, runs-zero}
 use Rattle.coverage.specs.Parts.{parts, sumTo, runsIn, pinAt, netPart, NetReady, PartsReady, GateReady}
 use Rattle.coverage.specs.Scene.{Case, setRuns, allRuns, GateAt, Scene, Done, NetAt, SomeNetAt}

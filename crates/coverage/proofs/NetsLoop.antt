@@ -16,9 +16,9 @@ use Rattle.runs.specs.Runs.{runsInWords, writeRuns}
 use Rattle.runs.specs.Answers.{Room, Adds}
 use Rattle.runs.specs.declared.inner.Added.{Added}
 use Rattle.runs.specs.declared.inner.Added.the-variants.{Count, Full}
-use Rattle.runs.proofs.MemberLaws.{cases}
 use Rattle.run_union.proofs.RunWriteLaws.{length-writeRuns, runs-write, runs-write-before, write-append}
 use Rattle.run_union.proofs.Adding.{answer-fits, answer-full, answer-count, answer-over}
+use Rattle.model.proofs.BoolLaws.{cases}
 use Rattle.coverage.proofs.AddLaws.{as-adds}
 use Rattle.coverage.specs.Scene.{Case, setRuns, allRuns, Scene, Done, NetAt, SomeNetAt, NetsAt, NetsMade}
 use Rattle.coverage.proofs.NetLaws.{all-next, all-mono}

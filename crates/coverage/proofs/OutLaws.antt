@@ -20,7 +20,7 @@ use Rattle.model.specs.Path.{countsBefore}
 use Rattle.model.specs.Detect.{inNetSet, detectsNumber}
 use Rattle.model.specs.Runs.{Run, runsOf, workingRuns}
 use Rattle.runs.specs.Runs.{onlyIf}
-use Rattle.model.proofs.BoolLaws.{and3, le-or-lt}
+use Rattle.model.proofs.BoolLaws.{and3, le-or-lt, cases}
 use Rattle.model.proofs.NetLaws.{output-count-wire, output-count-gate, output-count-same}
 use Rattle.model.proofs.NumberLaws.{output-net, length-outputCounts, outputCounts-is, outputCounts-at, outputCounts-none}
 use Rattle.model.proofs.NetSetLaws.{set-output}
@@ -30,7 +30,6 @@ use Rattle.runs.specs.Runs.{run, Sound, addRun, addRuns, shiftRuns, runsInWords
 use Rattle.runs.specs.Answers.{answer, Adds}
 use Rattle.runs.specs.declared.inner.Added.{Added}
 use Rattle.runs.specs.declared.inner.Added.the-variants.{Count, Full}
-use Rattle.runs.proofs.MemberLaws.{cases}
 use Rattle.run_union.proofs.AddRunLaws.{joined-one, joined-two, addRuns-append}
 use Rattle.run_union.proofs.ShiftLaws.{addRuns-part}
 use Rattle.run_union.proofs.RunWriteLaws.{length-writeRuns}

@@ -14,8 +14,8 @@ use Rattle.runs.specs.Runs.{Sound, addRuns, shiftRuns, runsInWords}
 use Rattle.runs.specs.Answers.{Room, Adds}
 use Rattle.runs.specs.declared.inner.Added.{Added}
 use Rattle.runs.specs.declared.inner.Added.the-variants.{Count, Full}
-use Rattle.runs.proofs.MemberLaws.{cases}
 use Rattle.run_union.proofs.Adding.{Adding, adding-start, adding-runs, adding-length, adding-done, as-rest, part-full, part-more}
+use Rattle.model.proofs.BoolLaws.{cases}
 use Rattle.coverage.proofs.AddLaws.{as-adds}
 use Rattle.coverage.specs.Parts.{parts, sumTo, runsIn, netPart, NetReady}
 

@@ -22,7 +22,7 @@ use Rattle.model.proofs.NumberLaws.{pin-lower}
 use Rattle.runs.specs.Runs.{run, addRuns, shiftRuns, onlyIf, runsInWords}
 use Rattle.runs.specs.declared.inner.Added.{Added}
 use Rattle.runs.specs.declared.inner.Added.the-variants.{Count, Full}
-use Rattle.runs.proofs.MemberLaws.{cases}
+use Rattle.model.proofs.BoolLaws.{cases}
 use Rattle.coverage.specs.Parts.{parts}
 use Rattle.coverage.specs.Scene.{Case, setRuns, allRuns}
 use Rattle.coverage.specs.Edges.{EdgeAt, detected, working, Detects}

@@ -18,7 +18,8 @@ use Rattle.model.specs.Refusals.{refusalNumber}
 use Rattle.model.specs.declared.Refusal.{Refusal}
 use Rattle.model.specs.declared.Refusal.the-variants as why
 use Rattle.model.proofs.AnswerLaws.{AllPass, Passed, checks→, pass-second, not-refused, value-inj, checks-both}
-use Rattle.model.proofs.RunLaws.{separated→, runs-size, runs-of-runs, howMany-or}
+use Rattle.model.proofs.RunLaws.{separated→, runs-of-runs}
+use Rattle.model.proofs.RunSizeLaws.{runs-size, howMany-or}
 use Rattle.model.proofs.StoreLaws.{runs-store}
 use Rattle.model.proofs.HoldingLaws.{ofEdge-byEdge, at-edge, stage-passes, stage-result, stage-length, stage-sound}
 use Rattle.runs.proofs.MemberLaws.{sound-mono}

@@ -1,12 +1,12 @@
 -- Whether runs ascend, run by run: with one run more at the end they still do, or that run is the first out of order.
 -- Assumes nothing.
 use mathlib.Core.Path.{_≡_, refl, ap, sym, _∙_, subst}
-use mathlib.Core.Bool.{Bool, true, false, _&&_, not, true≢false}
+use mathlib.Core.Bool.{Bool, true, false, _&&_, not, true≢false, and-false}
 use mathlib.Core.List.{List, [], _∷_, _++_}
 use mathlib.Core.Logic.{⊎-elim}
 use Prim.Native.Nat.{ℕ, _+_, _*_, _/_, _≤_, _<_}
 use native.Mathlib.Omega.{arith}
-use borrow.Author.Tests.{le-leb, lt-leb, le-ltb, lt-ltb, eq-eqb, ne-eqb}
+use borrow.Author.Tests.{le-leb, lt-leb, le-ltb, lt-ltb, eq-eqb, ne-eqb, not-true, not-false}
 use lib.Dec.{leb, ltb, leb→le}
 use lib.ListN.{length, take, drop}
 use lib.Seq.{take-all}
@@ -35,10 +35,6 @@ ascends-last least [] r h = (h .0, h .1)
 ascends-last least (q ∷ rs) r h = ascends-last (q .high + 1) rs r (h .2)
 
 -- The test of one run
-and-false : (b : Bool) → (b && false) ≡ false
-and-false true = refl
-and-false false = refl
-
 pub least-first : (at last : ℕ) → at ≡ 0 → leastAt at last ≡ 0
 unfolding leastAt
 least-first at last e = rw (eq-eqb at 0 e, leastAt) refl
@@ -65,14 +61,6 @@ module _ (at last low high : ℕ) where
 
       over : last < low → ltb last low ≡ (leb (leastAt at last) low && leb low high)
       over a = rw (least-later at last l, lt-ltb last low a, le-leb (last + 1) low (omega arith), le-leb low high h) refl
-
-not-true : (b : Bool) → not b ≡ true → b ≡ false
-not-true true e = sym e
-not-true false e = refl
-
-not-false : (b : Bool) → not b ≡ false → b ≡ true
-not-false true e = refl
-not-false false e = sym e
 
 -- Runs of which those before place `at` ascend
 module _ (bs : List ℕ) (at last : ℕ) (up : Ascends 0 (take at (runsOfBytes bs))) (least : leastAfter 0 (take at (runsOfBytes bs)) ≡ leastAt at last)

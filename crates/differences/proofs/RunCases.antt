@@ -1,7 +1,7 @@
 -- Numbers in ascending runs, and the places of runs in bytes: what stands at a place, what the runs before it hold, and whether they ascend.
 -- Assumes nothing.
 use mathlib.Core.Path.{_≡_, refl, ap, ap₂, _∙_, subst}
-use mathlib.Core.Bool.{Bool, true, false, _&&_}
+use mathlib.Core.Bool.{Bool, true, false, _&&_, and-false}
 use mathlib.Core.List.{List, [], _∷_, _++_}
 use Prim.Native.Nat.{ℕ, zero, suc, _+_, _*_, _/_, _≤_, _<_}
 use native.Mathlib.Omega.{arith}
@@ -19,10 +19,6 @@ use Rattle.differences.specs.declared.inner.walk.Standing.the-variants a
 
 abbrev pub run : ℕ → ℕ → Run
 run low high = record { low = low; high = high }
-
-and-false : (b : Bool) → (b && false) ≡ false
-and-false true = refl
-and-false false = refl
 
 -- a number in the run in front, and one below or above it
 in-front : (low high k : ℕ) (rs : List Run) → low ≤ k → k ≤ high → inRuns (run low high ∷ rs) k ≡ true

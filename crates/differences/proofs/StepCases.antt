@@ -1,7 +1,7 @@
 -- Whether a number is in the runs of `a` only, from where it stands among both; then from step to step.
 -- Assumes nothing.
 use mathlib.Core.Path.{_≡_, refl, subst, sym, _∙_}
-use mathlib.Core.Bool.{Bool, true, false, _&&_, not}
+use mathlib.Core.Bool.{Bool, true, false, _&&_, not, and-false}
 use mathlib.Core.List.{List}
 use mathlib.Core.Logic.{⊎-elim}
 use Prim.Native.Nat.{ℕ, _+_, _-_, _^_, _≤_, _<_}
@@ -17,10 +17,6 @@ use Rattle.differences.specs.declared.inner.walk.First.{First}
 use Rattle.differences.specs.declared.inner.walk.First.the-variants as first
 use Rattle.differences.specs.declared.inner.walk.Piece.{Piece}
 use Rattle.differences.specs.declared.inner.walk.Piece.the-variants as piece
-
-and-false : (b : Bool) → (b && false) ≡ false
-and-false true = refl
-and-false false = refl
 
 module _ (a b : List ℕ) (k : ℕ) where
   in-a-only : inRuns (runsOfBytes a) k ≡ true → inRuns (runsOfBytes b) k ≡ false → only a b k ≡ true

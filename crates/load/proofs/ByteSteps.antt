@@ -9,9 +9,10 @@ use native.Mathlib.Numerals.{add-one}
 use borrow.Author.Needs.{needs}
 use lib.ListN.{length, set, take, drop, length-drop}
 use lib.Seq.{sets, drop-drop}
+use Rattle.model.proofs.FieldLaws.{length-littleEndian}
 use Rattle.model.specs.Base.{littleEndian, field, fromLittleEndian}
 use Rattle.model.specs.Encode.{testBytes}
-use Rattle.records.proofs.ByteLaws.{sets-append, length-littleEndian}
+use Rattle.records.proofs.ByteLaws.{sets-append}
 
 pub mark-put : (l : List ℕ) (at : ℕ) → set (set l at 0x54) (at + 1) 0x50 ≡ sets l at (0x54 ∷ 0x50 ∷ [])
 mark-put l at = rw (add-one at) refl

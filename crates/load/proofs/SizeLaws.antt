@@ -10,7 +10,7 @@ use lib.ListN.{length, set, length-append, length-set}
 use Rattle.model.specs.Encode.{testBytes}
 use Rattle.model.specs.Path.{Edge, rising, falling}
 use Rattle.model.specs.Read.{vectorBytes}
-use Rattle.records.proofs.ByteLaws.{length-littleEndian}
+use Rattle.model.proofs.FieldLaws.{length-littleEndian}
 use Rattle.load.specs.Load.{Pair, nextState, stateAfter, drawn, inputTest, testsFrom, loadTests, wordOf, packed, recordBytes, fileBytes, loadRecords, vectorRecords}
 use Rattle.load.specs.Answers.{recordSize, vectorSize}
 use Rattle.load.proofs.ByteSteps.{size-small}

@@ -15,7 +15,8 @@ use Rattle.model.specs.Base.{littleEndian}
 use Rattle.model.specs.Encode.{testBytes}
 use Rattle.model.specs.Path.{Edge, rising, falling}
 use Rattle.model.specs.Read.{vectorBytes}
-use Rattle.records.proofs.ByteLaws.{sets-append, length-littleEndian}
+use Rattle.records.proofs.ByteLaws.{sets-append}
+use Rattle.model.proofs.FieldLaws.{length-littleEndian}
 use Rattle.load.specs.Load.{Pair, nextState, drawn, finalValue, invertedAt, inputTest, testsFrom, loadTests, wordOf, packed, recordBytes, fileBytes, loadRecords}
 use Rattle.load.specs.Answers.{DrawnTrue, vectorSize}
 use Rattle.load.specs.declared.inner.Drawn.{Drawn}

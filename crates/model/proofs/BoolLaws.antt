@@ -1,10 +1,10 @@
 -- Boolean tests as facts.
 -- Assumes nothing.
 use mathlib.Core.Path.{_≡_, refl, sym, _∙_}
-use mathlib.Core.Bool.{Bool, true, false, _&&_, _||_, not}
-use mathlib.Core.Logic.{_⊎_, inl, inr}
+use mathlib.Core.Bool.{Bool, true, false, _&&_, _||_, not, Bool·beq}
+use mathlib.Core.Logic.{_⊎_, inl, inr, ⊎-elim}
 use Prim.Native.Nat.{ℕ, _≤_, _<_}
-use lib.Dec.{T, ltb, leb, eqb, leb→le, le→leb, nleb→lt, ltb→lt, eqb-refl, not-T}
+use lib.Dec.{T, leb, eqb, leb→le, le→leb, nleb→lt, eqb-refl}
 
 pub and-left : (a b : Bool) → T (a && b) → T a
 and-left true b t = tt
@@ -48,6 +48,10 @@ le-or-lt m n = go (leb m n) refl
     go true e = inl (leb→le m n (true→T _ e))
     go false e = inr (nleb→lt m n (false→not _ e))
 
+-- by cases on the order of two numbers
+pub cases : (m n : ℕ) {C : Type 0} → (m ≤ n → C) → (n < m → C) → C
+cases m n f g = ⊎-elim f g (le-or-lt m n)
+
 pub and3 : (a b c : Bool) → T (a && b && c) → T a × T b × T c
 and3 true true c t = (tt, tt, t)
 and3 true false c t = absurd t
@@ -57,9 +61,6 @@ pub all3 : (a b c : Bool) → T a → T b → T c → T (a && b && c)
 all3 true true c s t u = u
 all3 true false c s t u = absurd t
 all3 false b c s t u = absurd s
-
-pub le→not-ltb : (m n : ℕ) → n ≤ m → T (not (ltb m n))
-le→not-ltb m n h = not-T (ltb m n) (λ t. native.Mathlib.Nat.lt-irrefl _ (native.Mathlib.Nat.lt-of-lt-of-le (ltb→lt m n t) h))
 
 pub and4 : (a b c d : Bool) → T (a && b && c && d) → T a × T b × T c × T d
 and4 true true true d t = (tt, tt, tt, t)
@@ -95,6 +96,17 @@ or-right false b t = t
 pub or-false : (a : Bool) → T (a || false) → T a
 or-false true t = tt
 or-false false t = t
+
+pub or-around : (a b c : Bool) → b || (a || c) ≡ (a || b) || c
+or-around true true c = refl
+or-around true false c = refl
+or-around false b c = refl
+
+pub beq→ : (a b : Bool) → T (Bool·beq a b) → a ≡ b
+beq→ true true t = refl
+beq→ true false t = absurd t
+beq→ false true t = absurd t
+beq→ false false t = refl
 
 pub eq→eqb : (m n : ℕ) → m ≡ n → T (eqb m n)
 eq→eqb m n e = rw e (eqb-refl n)

@@ -1,7 +1,7 @@
 -- What the classes mean for one another: robust faults are among the non-robust ones, also in reports, and a steady net has one value.
 -- Assumes nothing.
 use mathlib.Core.Path.{_≡_, refl, ap, sym, _∙_, subst}
-use mathlib.Core.Bool.{Bool, true, false, _&&_, _||_, not, Bool·beq}
+use mathlib.Core.Bool.{Bool, true, false, _&&_, _||_, not, Bool·beq, and-false, or-true}
 use mathlib.Core.List.{List, [], _∷_, _++_, map}
 use mathlib.Core.Logic.{⊎-elim}
 use mathlib.Core.Option.{Option, none, some}
@@ -11,12 +11,13 @@ use lib.ListN.{getD}
 use Rattle.model.specs.Base.{value, allOf, anyOf, numbersFrom}
 use Rattle.model.specs.Netlist.{Netlist, Gate, Kind, buffer, inverter, and, nand, or, nor, xor, xnor, netByNet, atNets, gateOf, pinNet, outputNet}
 use Rattle.model.specs.Path.{Edge, rising, falling, Fault, valid}
-use Rattle.model.specs.Detect.{Class, nonRobust, robust, Test, Evaluation, noEvaluation, inputEvaluation, gateValue, oneControls, gateSteady, gateEvaluation, evaluate, nonControlling, others, openAmong, robustSides, robustAmong, differs, isOpen, pinEvaluations, openPin, hasEdge, allOpen, detects}
+use Rattle.model.specs.Detect.{Class, nonRobust, robust, Test, Evaluation, noEvaluation, inputEvaluation, gateValue, oneControls, gateSteady, gateEvaluation, evaluate}
+use Rattle.model.specs.Detect.{nonControlling, others, openAmong, robustSides, robustAmong, differs, isOpen, pinEvaluations, openPin, hasEdge, allOpen, detects}
 use Rattle.model.specs.Read.{readNetlist, testOf}
 use Rattle.model.specs.Report.{fileRecords, auditAnswer}
 use Rattle.model.specs.Demand3.{detectedBy, testsOf}
 use Rattle.model.specs.Classes.{judgedIn, names, ClassesTrue}
-use Rattle.model.proofs.BoolLaws.{and-left, and-right, both, or-cases, or-left, or-right}
+use Rattle.model.proofs.BoolLaws.{and-left, and-right, both, or-cases, or-left, or-right, beq→}
 use Rattle.model.proofs.ListLaws.{allOf-head, allOf-tail}
 use Rattle.model.proofs.ReportsHold.{demand-3}
 
@@ -88,12 +89,6 @@ abbrev AllSame : List Evaluation → Type 0
 AllSame [] = Unit {0}
 AllSame (n ∷ ns) = SteadySame n × AllSame ns
 
-beq→ : (a b : Bool) → T (Bool·beq a b) → a ≡ b
-beq→ true true t = refl
-beq→ true false t = absurd t
-beq→ false true t = absurd t
-beq→ false false t = refl
-
 -- all pins are steady
 maps-same : (ns : List Evaluation) → AllSame ns → T (allOf (λ n. n .steady) ns) → map (λ n. n .underV1) ns ≡ map (λ n. n .underV2) ns
 maps-same [] h t = refl
@@ -119,10 +114,6 @@ one-zero (n ∷ ns) h t =
     is-zero true t = absurd t
     is-zero false t = refl
 
-    and-false : (v : Bool) → v && false ≡ false
-    and-false true = refl
-    and-false false = refl
-
 one-one : (ns : List Evaluation) → AllSame ns → T (oneControls (some false) ns)
     → (anyOf (λ v. v) (map (λ n. n .underV1) ns) ≡ true) × (anyOf (λ v. v) (map (λ n. n .underV2) ns) ≡ true)
 one-one [] h t = absurd t
@@ -140,10 +131,6 @@ one-one (n ∷ ns) h t =
     is-one : (v : Bool) → T (not (Bool·beq false v)) → v ≡ true
     is-one true t = refl
     is-one false t = absurd t
-
-    or-true : (v : Bool) → v || true ≡ true
-    or-true true = refl
-    or-true false = refl
 
 one-same : (kind : Kind) (ns : List Evaluation) → AllSame ns → T (oneControls (nonControlling kind) ns)
     → gateValue kind (map (λ n. n .underV1) ns) ≡ gateValue kind (map (λ n. n .underV2) ns)

@@ -25,7 +25,8 @@ use Rattle.model.proofs.RunLaws.{separated→, in→, →in, unique}
 use Rattle.model.proofs.ReadLaws.{legal}
 use Rattle.model.proofs.NumberLaws.{path-of-number}
 use Rattle.model.proofs.FaultLaws.{detectedAt, countOf-detected, countOf-new, runs-detected}
-use Rattle.model.proofs.HoldingLaws.{Holding, holding-empty, holding-runs, holding-length, holding-passes, holding-size, ofEdge-byEdge, stage-passes, stage-taken, stage-rules, test-part, work-few, work-room, holding-next, returned-new, returned-held}
+use Rattle.model.proofs.HoldingLaws.{Holding, holding-empty, holding-runs, holding-length, holding-passes, holding-size, holding-next}
+use Rattle.model.proofs.HoldingLaws.{ofEdge-byEdge, stage-passes, stage-taken, stage-rules, test-part, work-few, work-room, returned-new, returned-held}
 
 -- The runs of the detected numbers are one list
 pub one-list : (N : Netlist) (ts : List Test) (e : Edge) (rs qs : List Run) → RunsOfDetected N ts e rs → RunsOfDetected N ts e qs → rs ≡ qs

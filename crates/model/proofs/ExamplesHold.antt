@@ -1,7 +1,7 @@
--- Every row of the tables of examples holds, computed from the definitions.
+-- Every row of the tables of small examples holds, computed from the definitions.
 -- Assumes nothing.
 use mathlib.Core.Path.{_≡_, ap}
-use mathlib.Core.Bool.{Bool, false, _&&_}
+use mathlib.Core.Bool.{Bool, false}
 use mathlib.Core.List.{List, []}
 use Prim.Native.Nat.{ℕ, _<_}
 use lib.Dec.{T, eqb, eqb→eq}
@@ -18,14 +18,13 @@ use Rattle.model.specs.Report.{sameBytes, reportHead, reportRecord, test
 use Rattle.model.specs.Demand3.{afterCalls}
 use Rattle.model.specs.Encode.{headerBytes, netBytes, gateBytes, outputBytes, testBytes}
 use Rattle.model.specs.SinglePin.{readGatesBy, readNetlistBy}
-use Rattle.model.specs.Examples.{Row, row, starred, further, requested, robustRows, reply, faultIf, faultList, enoughWork, firstRuns, netCounts}
-use Rattle.model.specs.Examples.{Q, detectsNone, detectsFalling, detectsRising, chain, doubling, spread, aRises, reportOfThree, outputsBytes, oneGate, besideOnePin, bRises, withOutputs, halves}
+use Rattle.model.specs.Examples.{Row, row, further, requested, robustRows, reply, faultIf, faultList, enoughWork, firstRuns, netCounts}
+use Rattle.model.specs.Examples.{Q, detectsNone, detectsFalling, detectsRising, chain, spread, aRises, reportOfThree, outputsBytes, oneGate, besideOnePin, bRises, withOutputs, halves}
 use Rattle.model.specs.Examples.{twice, aFalls, hazard, riseAndFall, carry, carryTest, callIn, steadyOf}
 use Rattle.model.proofs.ListLaws.{allOf-at}
-use Rattle.model.proofs.BoolLaws.{and-left, and-right}
 use Rattle.model.proofs.AnswerLaws.{same→}
 
-same : Answer (List ℕ) → Answer (List ℕ) → Bool
+unfoldable pub same : Answer (List ℕ) → Answer (List ℕ) → Bool
 same (refused m) (refused n) = eqb m n
 same (refused m) (value ys) = false
 same (value xs) (refused n) = false
@@ -38,12 +37,11 @@ same-answer (refused m) (value ys) t = absurd t
 same-answer (value xs) (refused n) t = absurd t
 same-answer (value xs) (value ys) t = ap value (same→ xs ys t)
 
-right : Row → Bool
+unfoldable pub right : Row → Bool
 right r = same (reply (r .netlist) (r .question)) (r .answer)
 
-all-right : T (allOf right starred && allOf right further)
-unfolding starred further right same row aRises spread doubling Q detectsNone detectsFalling detectsRising reportOfThree enoughWork firstRuns
-    outputBytes headerBytes chain gateBytes netBytes testBytes reply faultList faultIf
+all-right : T (allOf right further)
+unfolding further right same row Q detectsNone detectsFalling detectsRising reportOfThree enoughWork firstRuns reply faultList faultIf
     readNetlist readGates readOutputs counts outputCount pathTotal pathOf pathAt split detectsNumber detects allOpen hasEdge openPin evaluate faultNumber
     testOf workingRuns inNetSet runsOf runsFrom addNumber testCall testStage tested storeRuns separatedRuns inRuns howMany howManyFrom
     auditCall testAll storeOf reportRecord reportHead size
@@ -63,21 +61,17 @@ unfolding requested right same row Q oneGate besideOnePin bRises withOutputs hal
     openPin evaluate faultNumber testOf
 all-requested = tt
 
-abbrev noRow : Row
+abbrev pub noRow : Row
 noRow = record { netlist = []; question = netCounts; answer = refused 10 }
 
 -- Every row of a table of right rows holds
-rows-hold : (table : List Row) → T (allOf right table)
+pub rows-hold : (table : List Row) → T (allOf right table)
     → (i : ℕ) → i < length table → reply (getD table i noRow .netlist) (getD table i noRow .question) ≡ getD table i noRow .answer
 unfolding right
 rows-hold table t i h = same-answer _ _ (allOf-at right table noRow t i h)
 
--- Document 01's table of starred examples holds for the definitions
-pub starred-hold : (i : ℕ) → i < length starred → reply (getD starred i noRow .netlist) (getD starred i noRow .question) ≡ getD starred i noRow .answer
-starred-hold = rows-hold starred (and-left (allOf right starred) (allOf right further) all-right)
-
 pub further-hold : (i : ℕ) → i < length further → reply (getD further i noRow .netlist) (getD further i noRow .question) ≡ getD further i noRow .answer
-further-hold = rows-hold further (and-right (allOf right starred) (allOf right further) all-right)
+further-hold = rows-hold further all-right
 
 -- The tickets' small examples hold
 pub requested-hold : (i : ℕ) → i < length requested → reply (getD requested i noRow .netlist) (getD requested i noRow .question) ≡ getD requested i noRow .answer

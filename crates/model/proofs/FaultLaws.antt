@@ -18,7 +18,8 @@ use Rattle.model.specs.Demand3.{CountOf, Detected, DetectedNumber, RunsO
 use Rattle.model.proofs.WellFormed.{WellFormed}
 use Rattle.model.proofs.BoolLaws.{T→true, true→T, bool-cases, le-or-lt, and-left, and-right, both, or-left, or-false}
 use Rattle.model.proofs.NumberLaws.{numbers-bounds, path-of-number, number-of-path}
-use Rattle.model.proofs.RunLaws.{many-true, many-false, runs-separated, runs→, →runs, →separated, in→, →in}
+use Rattle.model.proofs.RunLaws.{runs-separated, runs→, →runs, →separated, in→, →in}
+use Rattle.model.proofs.RunSizeLaws.{many-true, many-false}
 
 -- a property with the same faults
 pub countOf-iff : {P Q : Fault → Type 0} {n : ℕ} → ((f : Fault) → P f ↔ Q f) → CountOf P n → CountOf Q n

@@ -2,7 +2,7 @@
 -- The idea: each record's test stage keeps the fact that the store holds exactly what the tests so far detect.
 -- Assumes nothing.
 use mathlib.Core.Path.{_≡_, refl, sym, subst}
-use mathlib.Core.Bool.{Bool, true, false, _||_}
+use mathlib.Core.Bool.{Bool, true, false, _||_, or-false}
 use mathlib.Core.List.{List, [], _∷_, _++_, map}
 use Prim.Native.Nat.{ℕ}
 use lib.Dec.{T, leb, eqb, leb→le, eqb→eq}
@@ -16,22 +16,13 @@ use Rattle.model.specs.Calls.{Tested, storeLeft, testStage, testCall, te
 use Rattle.model.specs.Report.{testAll, wholeRecords, fileRecords}
 use Rattle.model.specs.Demand3.{Call, State, start, next, afterCalls, knownClass, AllTaken, WhollyTaken, fileCall, FileCalls, leftBy, testsOf}
 use Rattle.model.proofs.WellFormed.{WellFormed}
-use Rattle.model.proofs.BoolLaws.{and-left, and-right}
+use Rattle.model.proofs.BoolLaws.{and-left, and-right, or-around}
 use Rattle.model.proofs.ListLaws.{allOf-head, allOf-tail}
 use Rattle.model.proofs.AnswerLaws.{AllPass, Passed, steps, value-inj}
 use Rattle.model.proofs.ReadLaws.{legal}
 use Rattle.model.proofs.FaultLaws.{detectedAt}
 use Rattle.model.proofs.HoldingLaws.{Sets, Holding, withTest, holding-empty, holding-same, holding-length, holding-passes, holding-next}
 use Rattle.model.proofs.DemandHolds.{Holds, holds-start, holds-next, stage→, →stage, stage-holding, stage-call}
-
-or-around : (a b c : Bool) → b || (a || c) ≡ (a || b) || c
-or-around true true c = refl
-or-around true false c = refl
-or-around false b c = refl
-
-or-none : (a : Bool) → a || false ≡ a
-or-none true = refl
-or-none false = refl
 
 -- The store that test calls leave holds also what their tests detect
 pub all-holding : (N : Netlist) (c : Class) (recs : List (List ℕ)) (ws : List ℕ) (D : Sets) (left : List ℕ) → Holding N ws D → testAll N c recs ws ≡ value left
@@ -50,7 +41,7 @@ module _ (N : Netlist) (c : Class) (recs : List (List ℕ)) (left : List ℕ) (q
   pub left-holding : Holding N left (detectedAt N (map (testOf N c) recs))
   left-holding =
       let ts : List Test = map (testOf N c) recs in
-      holding-same N left (λ d k. detectedAt N ts d k || false) (detectedAt N ts) (λ d k. or-none (detectedAt N ts d k))
+      holding-same N left (λ d k. detectedAt N ts d k || false) (detectedAt N ts) (λ d k. or-false (detectedAt N ts d k))
       (all-holding N c recs emptyStore (λ d k. false) left (holding-empty N) q)
 
   pub left-length : length left ≡ storeWords

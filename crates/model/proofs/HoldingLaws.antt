@@ -17,8 +17,9 @@ use Rattle.model.specs.Store.{ByEdge, byEdge, ofEdge, storeWords, maxRun
 use Rattle.model.specs.Calls.{Tested, storeLeft, tested, testStage, stageRules, workRules, heldThen, newThen, runsThen}
 use Rattle.model.proofs.BoolLaws.{both, and-left, and-right}
 use Rattle.model.proofs.AnswerLaws.{AllPass, checks→, →checks, then-first, then-second, value-inj, pass-both}
-use Rattle.model.proofs.RunLaws.{runs-separated, runs-test, runs-same, howMany-same, runs-none, separated→, →separated, runs-size, runs-of-runs}
-use Rattle.model.proofs.StoreLaws.{runs-store, length-store, length-runsAt, store-passes, store-runs, empty-store}
+use Rattle.model.proofs.RunLaws.{runs-separated, runs-test, runs-same, runs-none, separated→, →separated, runs-of-runs}
+use Rattle.model.proofs.RunSizeLaws.{runs-size, howMany-same}
+use Rattle.model.proofs.StoreLaws.{runs-store, length-store, length-runsAt, store-passes, store-runs, empty-store, at-both}
 
 -- for each edge the numbers of a set
 abbrev pub Sets : Type 0
@@ -91,9 +92,6 @@ module _ (N : Netlist) (ws : List ℕ) (D : Sets) (x : Holding N ws D) where
 pub at-edge : (f : Edge → Bool) → T (bothEdges f) → (e : Edge) → T (f e)
 at-edge f t rising = and-left (f rising) (f falling) t
 at-edge f t falling = and-right (f rising) (f falling) t
-
-pub at-both : (f : Edge → Bool) → ((e : Edge) → T (f e)) → T (bothEdges f)
-at-both f h = both (f rising) (f falling) (h rising) (h falling)
 
 -- The places Test, Store and Work: all rules pass, exactly when there is a result
 pub stage-passes : (N : Netlist) (c : Class) (rec ws : List ℕ) (r : Tested) → testStage N c rec ws ≡ value r → AllPass (stageRules N c rec ws)

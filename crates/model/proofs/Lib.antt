@@ -12,6 +12,7 @@ pub mod NetSetLaws
 pub mod NumberingHolds
 pub mod PathCallLaws
 pub mod RunLaws
+pub mod RunSizeLaws
 pub mod StoreLaws
 pub mod FaultCallLaws
 pub mod FaultLaws

@@ -9,12 +9,13 @@ use native.Mathlib.Omega.{arith}
 use lib.Dec.{T, ltb, ltb→lt, lt→ltb}
 use lib.ListN.{length, getD, replicate, length-map, length-append, length-replicate, getD-replicate, List·getD-append}
 use lib.Seq.{getD-append-seam}
+use borrow.Author.Tests.{lt-leb}
 use Rattle.model.specs.Base.{allOf, sumOf, numbersFrom}
 use Rattle.model.specs.Netlist.{Netlist, Gate, noGate, netByNet, atNets, counts, gateCount, outputCount, pinsOf, nets, gateOf}
 use Rattle.model.specs.Detect.{Evaluation, noEvaluation, inputEvaluation, gateEvaluation, evaluate, pinEvaluations}
 use Rattle.model.proofs.ListLaws.{allOf-head, allOf-tail, getD-map-in, length-numbersFrom, numbersFrom-at}
 use Rattle.model.proofs.WellFormed.{lower}
-use Rattle.model.proofs.BoolLaws.{and-left, and-right, T→true, lt-false}
+use Rattle.model.proofs.BoolLaws.{and-left, and-right, T→true}
 
 module _ {A : Type 0} (f : Gate → List A → A) (d : A) where
   -- one more value
@@ -83,7 +84,7 @@ output-count-wire inputs cs net h = rw (T→true (ltb net inputs) (lt→ltb net 
 
 pub output-count-gate : (inputs : ℕ) (cs : List ℕ) (net : ℕ) → inputs ≤ net → outputCount inputs cs net ≡ getD cs net 0
 unfolding outputCount
-output-count-gate inputs cs net h = rw (lt-false (suc net) inputs (omega arith), outputCount) refl
+output-count-gate inputs cs net h = rw (lt-leb (suc net) inputs (omega arith), outputCount) refl
 
 -- from a count under another name
 pub output-count-same : {i j : ℕ} (cs ds : List ℕ) (net : ℕ) → i ≡ j → getD cs net 0 ≡ getD ds net 0 → outputCount i cs net ≡ outputCount j ds net

@@ -10,12 +10,14 @@ use native.Mathlib.Omega.{arith}
 use lib.Dec.{T, ltb, leb, ltb→lt, lt→ltb, nltb→le}
 use lib.ListN.{length, getD, length-map}
 use lib.Seq.{take-all}
+use lib.Arith.{le→nltb}
+use borrow.Author.Tests.{le-leb, lt-leb}
 use Rattle.model.specs.Base.{allOf, sumOf}
 use Rattle.model.specs.Netlist.{Netlist, Gate, noGate, counts, pinsOf, pinNet, nets, isInput, pinCounts, outputCount, outputCounts, outputNet, pathTotal}
 use Rattle.model.specs.Path.{CircuitPath, countsBefore, split, validAt, numberAt, pathAt, valid, numberOf, pathOf}
 use Rattle.model.specs.Numbering.{PathNumbered}
 use Rattle.model.proofs.WellFormed.{lower, WellFormed, ascendingNets}
-use Rattle.model.proofs.BoolLaws.{and-left, and-right, le-true, lt-false, T→true, le-or-lt, and3, all3, le→not-ltb, both}
+use Rattle.model.proofs.BoolLaws.{and-left, and-right, T→true, le-or-lt, and3, all3, both}
 use Rattle.model.proofs.ListLaws.{getD-map-in, allOf-at}
 use Rattle.model.proofs.NetLaws.{count-input, count-gate, output-count-wire, output-count-gate}
 
@@ -28,11 +30,11 @@ pub record Splits (cs : List ℕ) (k : ℕ) (s : ℕ × ℕ) : Type 0 where
 
 pub split-here : (c : ℕ) (cs : List ℕ) (k : ℕ) → k ≤ c → split (c ∷ cs) k ≡ (0, k)
 unfolding split
-split-here c cs k h = rw (le-true k c h, split)
+split-here c cs k h = rw (le-leb k c h, split)
 
 pub split-there : (c : ℕ) (cs : List ℕ) (k : ℕ) → c < k → split (c ∷ cs) k ≡ (suc (split cs (k - c) .0), split cs (k - c) .1)
 unfolding split
-split-there c cs k h = rw (lt-false k c h, split)
+split-there c cs k h = rw (lt-leb k c h, split)
 
 pub splits : (cs : List ℕ) (k : ℕ) → 1 ≤ k → k ≤ sumOf cs → Splits cs k (split cs k)
 splits [] k l h = absurd (omega arith)
@@ -108,7 +110,7 @@ module _ (N : Netlist) (w : WellFormed N) where
   of-gate : (net p : ℕ) (ps : List ℕ) → N .inputs ≤ net → p < length (pinsOf N net) → T (validAt N (pinNet N net p) ps) → T (validAt N net (p ∷ ps))
   unfolding validAt
   of-gate net p ps h i v =
-      all3 (not (isInput N net)) (ltb p (length (pinsOf N net))) (validAt N (pinNet N net p) ps) (le→not-ltb _ _ h) (lt→ltb _ _ i) v
+      all3 (not (isInput N net)) (ltb p (length (pinsOf N net))) (validAt N (pinNet N net p) ps) (le→nltb _ _ h) (lt→ltb _ _ i) v
 
   -- A partial path's number is 1 to the net's count
   pub number-bounds : (ps : List ℕ) (net : ℕ) → net < nets N → T (validAt N net ps)
@@ -137,7 +139,7 @@ module _ (N : Netlist) (w : WellFormed N) where
   pub pathAt-gate : (fuel net k : ℕ) → N .inputs ≤ net
       → pathAt N (suc fuel) net k ≡ split (pinCounts N net) k .0 ∷ pathAt N fuel (pinNet N net (split (pinCounts N net) k .0)) (split (pinCounts N net) k .1)
   unfolding pathAt
-  pathAt-gate fuel net k h = rw (lt-false (suc net) (N .inputs) (omega arith), pathAt)
+  pathAt-gate fuel net k h = rw (lt-leb (suc net) (N .inputs) (omega arith), pathAt)
 
   -- the path of a partial path's number is that path
   pub path-back : (ps : List ℕ) (fuel net : ℕ) → net ≤ fuel → net < nets N → T (validAt N net ps) → pathAt N fuel net (numberAt N net ps) ≡ ps

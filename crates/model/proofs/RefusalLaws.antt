@@ -7,6 +7,7 @@ use Prim.Native.Nat.{ℕ, zero, suc, _+_, _*_, _≤_, _<_}
 use native.Mathlib.Omega.{arith}
 use lib.Dec.{T, ltb, eqb, ltb→lt}
 use lib.ListN.{length, getD, drop}
+use borrow.Author.Tests.{le-leb, lt-leb}
 use Rattle.model.specs.Base.{Answer, refused, value, _>>=_, _>>_, check, Rule, checks, allOf, field}
 use Rattle.model.specs.Netlist.{Netlist, Gate, netByNet, gateCount, outputCount, pathTotal}
 use Rattle.model.specs.Detect.{Class}
@@ -14,7 +15,7 @@ use Rattle.model.specs.Read.{readGates, readOutputs, readNetlist, gateRu
 use Rattle.model.specs.Store.{emptyStore, runsByEdge}
 use Rattle.model.specs.Calls.{storeLeft, tested, storeRule, workRule, stageRules, testStage, beforeTest}
 use Rattle.model.specs.Report.{wholeRecords, fileRecords, testAll, reportRecord, reportRules, auditCall, auditAfter, auditStore}
-use Rattle.model.proofs.BoolLaws.{and-left, and-right, le-true, lt-false}
+use Rattle.model.proofs.BoolLaws.{and-left, and-right}
 
 -- The answer's refusal, if it is one, has a number over `k`
 abbrev pub RefusesOver : {A : Type 0} → ℕ → Answer A → Type 0
@@ -101,10 +102,10 @@ report-over report written = over-checks 2 (reportRules report written) tt
 
 -- The store after an audit that is refused
 pub emptied-over : (n : ℕ) (ws : List ℕ) → 2 < n → auditAfter (refused n) ws ≡ emptyStore
-emptied-over n ws h = rw (lt-false n 2 h, auditAfter) refl
+emptied-over n ws h = rw (lt-leb n 2 h, auditAfter) refl
 
 pub found-under : (n : ℕ) (ws : List ℕ) → n ≤ 2 → auditAfter (refused n) ws ≡ ws
-found-under n ws h = rw (le-true n 2 h, auditAfter) refl
+found-under n ws h = rw (le-leb n 2 h, auditAfter) refl
 
 module _ (netlist : List ℕ) (class : ℕ) (testFile report ws work : List ℕ) where
   abbrev lent : Answer (Unit {0})

@@ -18,10 +18,6 @@ use Rattle.model.specs.Report.{runBytes, reportHead, reportRecord, repor
 use Rattle.model.proofs.BoolLaws.{and-left, and-right, both, eq→eqb}
 use Rattle.model.proofs.AnswerLaws.{AllPass, same-refl}
 
-pub length-littleEndian : (n k : ℕ) → length (littleEndian n k) ≡ n
-length-littleEndian zero k = refl
-length-littleEndian (suc n) k = ap suc (length-littleEndian n (k / 256))
-
 -- A number that its bytes hold is read back
 pub littleEndian-back : (n k : ℕ) → k < 256 ^ n → fromLittleEndian (littleEndian n k) ≡ k
 littleEndian-back zero k h = omega arith

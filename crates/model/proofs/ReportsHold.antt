@@ -15,7 +15,8 @@ use Rattle.model.specs.Read.{readNetlist, classOf, classRule}
 use Rattle.model.specs.Store.{ofEdge, storeWords, maxRuns, emptyStore, storeRuns, runsByEdge, storeRules}
 use Rattle.model.specs.Runs.{size}
 use Rattle.model.specs.Calls.{storeRule, workRule, workWords, beforeTest}
-use Rattle.model.specs.Report.{reportRule, testAll, writerCall, writerAnswer, writerBuffer, auditCall, auditAnswer, reportRecord, namedRuns, reportRules, wholeRecords, fileRecords, reportBufferBytes}
+use Rattle.model.specs.Report.{reportRule, testAll, writerCall, writerAnswer, writerBuffer, auditCall, auditAnswer}
+use Rattle.model.specs.Report.{reportRecord, namedRuns, reportRules, wholeRecords, fileRecords, reportBufferBytes}
 use Rattle.model.specs.Demand3.{Call, RunsOfDetected, knownClass, WhollyTaken, FileCalls, leftBy, testsOf, TrueReport, NamesDetected, WriterTrue, Acceptable, Demand3}
 use Rattle.model.proofs.WellFormed.{WellFormed}
 use Rattle.model.proofs.BeforeLaws.{reached→, other-class}

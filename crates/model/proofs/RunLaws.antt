@@ -2,14 +2,14 @@
 -- Assumes nothing.
 use mathlib.Core.Path.{_≡_, refl, ap, ap₂, sym, _∙_, subst}
 use mathlib.Core.Logic.{_⊎_, inl, inr, ⊎-elim}
-use mathlib.Core.Bool.{Bool, true, false, _&&_, _||_, not}
+use mathlib.Core.Bool.{Bool, true, false}
 use mathlib.Core.List.{List, [], _∷_}
 use Prim.Native.Nat.{ℕ, zero, suc, _+_, _-_, _≤_, _<_}
 use native.Mathlib.Omega.{arith}
 use lib.Dec.{T, leb, eqb, leb→le, le→leb, eqb→eq}
-use lib.ListN.{length}
-use Rattle.model.specs.Runs.{Separated, Run, addNumber, runsFrom, runsOf, inRun, inRuns, size, howManyFrom, howMany, separatedRuns}
-use Rattle.model.proofs.BoolLaws.{and-left, and-right, both, and4, all4, T→true, true→T, le-or-lt, not→false, bool-cases, eqb-false, or-cases, or-left, or-right}
+use borrow.Author.Tests.{eqb-false}
+use Rattle.model.specs.Runs.{Separated, Run, addNumber, runsFrom, runsOf, inRun, inRuns, separatedRuns}
+use Rattle.model.proofs.BoolLaws.{and-left, and-right, both, and4, all4, T→true, true→T, le-or-lt, not→false, bool-cases, or-cases, or-left, or-right}
 
 -- the tests as facts
 abbrev pub In : List Run → ℕ → Type 0
@@ -96,7 +96,7 @@ unique top least (r ∷ rs) (q ∷ qs) a b f g =
     (unique top (r .high + 2) rs qs (a .3) (b′ .3) (tail-in top least r rs qs a f′) (tail-in top least r qs rs b′ g′))
 
 -- The runs of a set. A number put before runs of higher numbers joins the first or stands alone
-push-cases : (k : ℕ) (r : Run) (rs : List Run)
+pub push-cases : (k : ℕ) (r : Run) (rs : List Run)
     → ((r .low ≡ suc k) × (addNumber k (r ∷ rs) ≡ record { low = k; high = r .high } ∷ rs))
     ⊎ ((r .low ≡ suc k → ⊥) × (addNumber k (r ∷ rs) ≡ record { low = k; high = k } ∷ r ∷ rs))
 unfolding addNumber
@@ -106,7 +106,7 @@ push-cases k r rs =
     (λ (e : eqb (r .low) (suc k) ≡ false). inr (eqb-false (r .low) (suc k) e, rw (e, addNumber)))
     (bool-cases (eqb (r .low) (suc k)))
 
-push-nil : (k : ℕ) → addNumber k [] ≡ record { low = k; high = k } ∷ []
+pub push-nil : (k : ℕ) → addNumber k [] ≡ record { low = k; high = k } ∷ []
 unfolding addNumber
 push-nil k = refl
 
@@ -135,10 +135,9 @@ push→ top k (r ∷ rs) j a t =
     (λ c. rw (c .1) (⊎-elim (λ e. inl (omega arith, omega arith)) (λ u. inr u) t))
     (push-cases k r rs)
 
-size-push : (top k : ℕ) (rs : List Run) → Separated top (suc k) rs → size (addNumber k rs) ≡ suc (size rs)
-unfolding size
-size-push top k [] a = rw push-nil (omega arith)
-size-push top k (r ∷ rs) a = ⊎-elim (λ c. rw (c .1) (omega arith)) (λ c. rw (c .1) (omega arith)) (push-cases k r rs)
+pub separated-weaken : (top k l : ℕ) (rs : List Run) → l ≤ k → Separated top k rs → Separated top l rs
+separated-weaken top k l [] h a = tt
+separated-weaken top k l (r ∷ rs) h a = (omega arith, a .1, a .2, a .3)
 
 module _ (P : ℕ → Bool) where
   pub from-true : (k n : ℕ) → P k ≡ true → runsFrom P k (suc n) ≡ addNumber k (runsFrom P (suc k) n)
@@ -149,18 +148,6 @@ module _ (P : ℕ → Bool) where
   unfolding runsFrom
   from-false k n e = rw (e, runsFrom)
 
-  pub many-true : (k n : ℕ) → P k ≡ true → howManyFrom P k (suc n) ≡ suc (howManyFrom P (suc k) n)
-  unfolding howManyFrom
-  many-true k n e = rw (e, howManyFrom)
-
-  pub many-false : (k n : ℕ) → P k ≡ false → howManyFrom P k (suc n) ≡ howManyFrom P (suc k) n
-  unfolding howManyFrom
-  many-false k n e = rw (e, howManyFrom)
-
-  weaken : (top k l : ℕ) (rs : List Run) → l ≤ k → Separated top k rs → Separated top l rs
-  weaken top k l [] h a = tt
-  weaken top k l (r ∷ rs) h a = (omega arith, a .1, a .2, a .3)
-
   -- the runs are apart
   pub from-separated : (n k top : ℕ) → k + n ≤ suc top → Separated top k (runsFrom P k n)
   unfolding runsFrom
@@ -169,7 +156,7 @@ module _ (P : ℕ → Bool) where
       let ih : Separated top (suc k) (runsFrom P (suc k) n) = from-separated n (suc k) top (omega arith) in
       ⊎-elim
       (λ (e : P k ≡ true). rw (from-true k n e) (push-apart top k (runsFrom P (suc k) n) (omega arith) ih))
-      (λ (e : P k ≡ false). rw (from-false k n e) (weaken top (suc k) k (runsFrom P (suc k) n) (omega arith) ih))
+      (λ (e : P k ≡ false). rw (from-false k n e) (separated-weaken top (suc k) k (runsFrom P (suc k) n) (omega arith) ih))
       (bool-cases (P k))
 
   -- they hold exactly the numbers that pass the test
@@ -203,19 +190,7 @@ module _ (P : ℕ → Bool) where
       (bool-cases (P k)))
       (le-or-lt j k)
 
-  -- and are as large
-  pub size-from : (n k : ℕ) → size (runsFrom P k n) ≡ howManyFrom P k n
-  unfolding runsFrom howManyFrom size
-  size-from zero k = refl
-  size-from (suc n) k =
-      ⊎-elim
-      (λ (e : P k ≡ true).
-      rw (from-true k n e, many-true k n e)
-      (size-push (k + n) k (runsFrom P (suc k) n) (from-separated n (suc k) (k + n) (omega arith)) ∙ ap suc (size-from n (suc k))))
-      (λ (e : P k ≡ false). rw (from-false k n e, many-false k n e) (size-from n (suc k)))
-      (bool-cases (P k))
-
--- Tests that agree have the same runs, and as many numbers
+-- Tests that agree have the same runs
 module _ (P Q : ℕ → Bool) where
   pub from-same : (n k : ℕ) → ((j : ℕ) → k ≤ j → j < k + n → P j ≡ Q j) → runsFrom P k n ≡ runsFrom Q k n
   unfolding runsFrom
@@ -226,17 +201,6 @@ module _ (P Q : ℕ → Bool) where
       ⊎-elim
       (λ (e : P k ≡ true). from-true P k n e ∙ ap (addNumber k) ih ∙ sym (from-true Q k n (sym q ∙ e)))
       (λ (e : P k ≡ false). from-false P k n e ∙ ih ∙ sym (from-false Q k n (sym q ∙ e)))
-      (bool-cases (P k))
-
-  pub many-same : (n k : ℕ) → ((j : ℕ) → k ≤ j → j < k + n → P j ≡ Q j) → howManyFrom P k n ≡ howManyFrom Q k n
-  unfolding howManyFrom
-  many-same zero k h = refl
-  many-same (suc n) k h =
-      let ih = many-same n (suc k) (λ j a b. h j (omega arith) (omega arith)) in
-      let q = h k (omega arith) (omega arith) in
-      ⊎-elim
-      (λ (e : P k ≡ true). many-true P k n e ∙ ap suc ih ∙ sym (many-true Q k n (sym q ∙ e)))
-      (λ (e : P k ≡ false). many-false P k n e ∙ ih ∙ sym (many-false Q k n (sym q ∙ e)))
       (bool-cases (P k))
 
 pub from-none : (n k : ℕ) → runsFrom (λ j. false) k n ≡ []
@@ -258,10 +222,6 @@ module _ (P : ℕ → Bool) (n : ℕ) where
   unfolding runsOf
   →runs j h l t = →from P n 1 j h (omega arith) t
 
-  pub runs-size : size (runsOf P n) ≡ howMany P n
-  unfolding runsOf howMany
-  runs-size = size-from P n 1
-
   -- the test whether a number lies in the runs is the test of the set
   pub runs-test : (j : ℕ) → 1 ≤ j → j ≤ n → inRuns (runsOf P n) j ≡ P j
   runs-test j h l =
@@ -274,10 +234,6 @@ module _ (P Q : ℕ → Bool) (n : ℕ) (h : (j : ℕ) → 1 ≤ j → j ≤ n �
   pub runs-same : runsOf P n ≡ runsOf Q n
   unfolding runsOf
   runs-same = from-same P Q n 1 (λ j a b. h j a (omega arith))
-
-  pub howMany-same : howMany P n ≡ howMany Q n
-  unfolding howMany
-  howMany-same = many-same P Q n 1 (λ j a b. h j a (omega arith))
 
 pub runs-none : (n : ℕ) → runsOf (λ j. false) n ≡ []
 unfolding runsOf
@@ -297,31 +253,3 @@ runs-by P n rs a f g =
     unique n 1 rs (runsOf P n) a (runs-separated P n)
     (λ j t. →runs P n j (in-low n 1 rs j a t) (in-high n 1 rs j a t) (f j t))
     (λ j t. let q = runs→ P n j t in g j (q .0) (q .1) (q .2))
-
--- What is held after a test: what was held, and what is new
-many-or : (A D : ℕ → Bool) (n k : ℕ)
-    → howManyFrom (λ j. A j || D j) k n ≡ howManyFrom D k n + howManyFrom (λ j. A j && not (D j)) k n
-unfolding howManyFrom
-many-or A D zero k = refl
-many-or A D (suc n) k = go (many-or A D n (suc k)) (A k) (D k) refl refl
-  where
-    go : howManyFrom (λ j. A j || D j) (suc k) n ≡ howManyFrom D (suc k) n + howManyFrom (λ j. A j && not (D j)) (suc k) n
-        → (a d : Bool) → A k ≡ a → D k ≡ d
-        → howManyFrom (λ j. A j || D j) k (suc n) ≡ howManyFrom D k (suc n) + howManyFrom (λ j. A j && not (D j)) k (suc n)
-    go ih true true p q = rw (p, q, howManyFrom) (omega (arith, ih))
-    go ih true false p q = rw (p, q, howManyFrom) (omega (arith, ih))
-    go ih false true p q = rw (p, q, howManyFrom) (omega (arith, ih))
-    go ih false false p q = rw (p, q, howManyFrom) ih
-
-pub howMany-or : (A D : ℕ → Bool) (n : ℕ) → howMany (λ j. A j || D j) n ≡ howMany D n + howMany (λ j. A j && not (D j)) n
-unfolding howMany
-howMany-or A D n = many-or A D n 1
-
--- Bounds on runs that are apart: at most as many as their numbers, and as the gaps between them and one more
-size-bounds : (top least : ℕ) (rs : List Run) → Separated top least rs → (length rs ≤ size rs) × (length rs + size rs ≤ suc (suc top) - least)
-unfolding size
-size-bounds top least [] a = omega arith
-size-bounds top least (r ∷ rs) a = let ih = size-bounds top (r .high + 2) rs (a .3) in omega (arith, ih .0, ih .1)
-
-pub few-runs : (P : ℕ → Bool) (n : ℕ) → (length (runsOf P n) ≤ howMany P n) × (length (runsOf P n) + howMany P n ≤ suc n)
-few-runs P n = let b = size-bounds n 1 (runsOf P n) (runs-separated P n) in omega (arith, b .0, b .1, runs-size P n)

@@ -2,7 +2,7 @@
 -- stricter one takes as the stricter one does.
 -- Assumes nothing.
 use mathlib.Core.Path.{_≡_, refl, ap, _∙_}
-use mathlib.Core.Bool.{Bool, true, false, _&&_, Bool·beq}
+use mathlib.Core.Bool.{Bool, true, false, _&&_, Bool·beq, and-true}
 use mathlib.Core.List.{List, [], _∷_, _++_}
 use mathlib.Core.Logic.{⊎-elim}
 use Prim.Native.Nat.{ℕ, zero, suc, _+_, _*_}
@@ -61,10 +61,6 @@ alone-robust or n = no-sides false (n .underV2)
 alone-robust nor n = no-sides false (n .underV2)
 alone-robust xor n = refl
 alone-robust xnor n = refl
-
-and-true : (b : Bool) → b && true ≡ b
-and-true true = refl
-and-true false = refl
 
 pub one-pin-robust : (kind : Kind) (n : Evaluation) → isOpen robust kind (n ∷ []) 0 ≡ differs n
 one-pin-robust kind n = ap (λ b. differs n && b) (alone-robust kind n) ∙ and-true (differs n)

@@ -11,7 +11,8 @@ use lib.Seq.{getD-at, take-at, drop-at, drop-cons, length-take-le, take-add, dro
 use Rattle.model.specs.Base.{allOf}
 use Rattle.model.specs.Path.{Edge, rising, falling}
 use Rattle.model.specs.Runs.{Run, separatedRuns}
-use Rattle.model.specs.Store.{ByEdge, byEdge, ofEdge, storeWords, maxRuns, placeWords, emptyStore, runsAt, runCount, storeRuns, runsByEdge, lowsHighs, places, storeOf, wordsAfter, bothEdges, storeRules, firstWord}
+use Rattle.model.specs.Store.{ByEdge, byEdge, ofEdge, storeWords, maxRuns, placeWords, emptyStore, runsAt, runCount, storeRuns, runsByEdge}
+use Rattle.model.specs.Store.{lowsHighs, places, storeOf, wordsAfter, bothEdges, storeRules, firstWord}
 use Rattle.model.proofs.ListLaws.{allOf-head, allOf-tail}
 use Rattle.model.proofs.BoolLaws.{both, and-left, and-right}
 use Rattle.model.proofs.AnswerLaws.{AllPass}
@@ -51,6 +52,9 @@ after-written rs pre post n h =
 all-zero : (n : ℕ) → T (allOf (λ w. eqb w 0) (replicate n 0))
 all-zero zero = tt
 all-zero (suc n) = all-zero n
+
+pub at-both : (f : Edge → Bool) → ((e : Edge) → T (f e)) → T (bothEdges f)
+at-both f h = both (f rising) (f falling) (h rising) (h falling)
 
 module _ (s : ByEdge (List Run)) (fits : (e : Edge) → length (ofEdge s e) ≤ maxRuns) where
   -- the words up to an edge's places, and after them
@@ -104,9 +108,6 @@ module _ (s : ByEdge (List Run)) (fits : (e : Edge) → length (ofEdge s e) ≤ 
       (at-both (λ e. allOf (λ w. eqb w 0) (wordsAfter (storeOf s) e)) (λ e. rw (after-store e) (all-zero (placeWords - 2 * length (ofEdge s e)))), tt),
     ),
   )
-    where
-      at-both : (f : Edge → Bool) → ((e : Edge) → T (f e)) → T (bothEdges f)
-      at-both f h = both (f rising) (f falling) (h rising) (h falling)
 
 pub empty-store : emptyStore ≡ storeOf (byEdge (λ e. []))
 unfolding storeOf
@@ -156,6 +157,7 @@ store-runs n (x ∷ y ∷ zs) l p =
     places-read ws (firstWord rising) x a (omega arith) (and-left (allOf zero? (wordsAfter ws rising)) (allOf zero? (wordsAfter ws falling)) z) (length-runsAt x ws (firstWord rising)) in
     let f : places (runsAt ws (firstWord falling) y) ≡ take placeWords (drop placeWords zs) =
     places-read ws (firstWord falling) y b (omega arith) (and-right (allOf zero? (wordsAfter ws rising)) (allOf zero? (wordsAfter ws falling)) z) (length-runsAt y ws (firstWord falling)) in
-    ap₂ {C = List ℕ} (λ j k. j ∷ k ∷ (places (runsAt ws (firstWord rising) x) ++ places (runsAt ws (firstWord falling) y))) (length-runsAt x ws (firstWord rising)) (length-runsAt y ws (firstWord falling))
+    ap₂ {C = List ℕ} (λ j k. j ∷ k ∷ (places (runsAt ws (firstWord rising) x) ++ places (runsAt ws (firstWord falling) y)))
+    (length-runsAt x ws (firstWord rising)) (length-runsAt y ws (firstWord falling))
     ∙ ap (λ k. x ∷ y ∷ k)
     (ap₂ (λ u v. u ++ v) r (f ∙ take-all placeWords (drop placeWords zs) (omega (arith, length-drop placeWords zs))) ∙ take-append-drop placeWords zs)

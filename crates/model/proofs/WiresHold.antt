@@ -8,6 +8,7 @@ use Prim.Native.Nat.{ℕ, _+_, _*_, _≤_, _<_}
 use native.Mathlib.Omega.{arith}
 use lib.Dec.{T, ltb, leb, ltb→lt, leb→le}
 use lib.ListN.{length, getD, drop}
+use borrow.Author.Tests.{le-leb, lt-leb}
 use Rattle.model.specs.Base.{refused, value, Rule, checks}
 use Rattle.model.specs.Netlist.{Netlist, outputCounts, outputNet, pathTotal}
 use Rattle.model.specs.Path.{CircuitPath, Edge, rising, falling, Fault, validAt, valid, numberOf}
@@ -19,7 +20,7 @@ use Rattle.model.specs.Calls.{storeRule, pathWords, pathToNumberCall, nu
 use Rattle.model.specs.Report.{reportRecord}
 use Rattle.model.specs.Demand3.{Detected, DetectedNumber, RunsOfDetected, CountOf, TrueReport}
 use Rattle.model.specs.Wires.{WireTrue, Wires}
-use Rattle.model.proofs.BoolLaws.{and-left, and-right, and3, and4, le-true, lt-false, le-or-lt}
+use Rattle.model.proofs.BoolLaws.{and-left, and-right, and3, and4, le-or-lt}
 use Rattle.model.proofs.AnswerLaws.{checks→, →checks, checks-both}
 use Rattle.model.proofs.NumberLaws.{valid-gate, outputCounts-none, numbers-bounds}
 use Rattle.model.proofs.ReadLaws.{legal}
@@ -42,14 +43,14 @@ no-pins file N e o = rw (e, middle-false (ltb o (length (N .outputs))) (validAt 
 -- a number from 1 to 0
 none-within : (n : ℕ) → within 1 0 n ≡ false
 none-within n = ⊎-elim
-    (λ (h : 1 ≤ n). rw (le-true 1 n h, lt-false n 0 h) refl)
-    (λ (h : n < 1). rw (lt-false 1 n h) refl)
+    (λ (h : 1 ≤ n). rw (le-leb 1 n h, lt-leb n 0 h) refl)
+    (λ (h : n < 1). rw (lt-leb 1 n h) refl)
     (le-or-lt 1 n)
 
 no-number : (file : List ℕ) (N : Netlist) → readNetlist file ≡ value N → pathTotal N ≡ 0
     → (number : ℕ) (buffer : List ℕ) → pathWords ≤ length buffer → numberToPathCall file number buffer ≡ refused 60
 unfolding numberToPathCall
-no-number file N e z number buffer h = rw (le-true pathWords (length buffer) h, e, z, none-within number) refl
+no-number file N e z number buffer h = rw (le-leb pathWords (length buffer) h, e, z, none-within number) refl
 
 no-fault : (file : List ℕ) (N : Netlist) → readNetlist file ≡ value N → pathTotal N ≡ 0
     → (ws : List ℕ) → length ws ≡ storeWords → checks (storeRules (pathTotal N) ws) ≡ value tt → (fault : ℕ) → faultCall file ws fault ≡ refused 60

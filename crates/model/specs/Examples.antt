@@ -1,6 +1,6 @@
--- Examples as questions with their answers: `starred` is document 01's table of those marked *, judged in class 1; `further` one list of test
--- calls and its audit; `requested` has small examples of document 02's tickets, worked out by hand, `robustRows` those of robust tests.
--- proofs/ExamplesHold.antt has the theorems over them.
+-- Examples as questions with their answers: `further` is one list of test calls and its audit; `requested` has small examples of document 02's
+-- tickets, worked out by hand, `robustRows` those of robust tests. proofs/ExamplesHold.antt has the theorems over them.
+-- Document 01's table of those marked * is in crate `starred`.
 -- Assumes nothing.
 use mathlib.Core.Bool.{Bool, true, false}
 use mathlib.Core.List.{List, [], _∷_, _++_, map}
@@ -96,10 +96,6 @@ unfoldable pub chain : ℕ → ℕ → ℕ → ℕ → List ℕ
 chain kind pins net zero = []
 chain kind pins net (suc n) = gateBytes kind (replicate pins net) ++ chain kind pins (suc net) n
 
--- one input and `n` gates AND(n, n), each fed by the net before, last as output
-unfoldable pub doubling : ℕ → List ℕ
-doubling n = headerBytes 1 n 1 ++ chain 3 2 0 n ++ outputBytes n
-
 -- inputs a, b; XOR(a,b,a,b,a,b,a,b), then `n` gates XOR of eight pins from the net before
 unfoldable pub spread : ℕ → List ℕ
 spread n = headerBytes 2 (suc n) 1 ++ gateBytes 7 (0 ∷ 1 ∷ 0 ∷ 1 ∷ 0 ∷ 1 ∷ 0 ∷ 1 ∷ []) ++ chain 7 8 2 n ++ outputBytes (2 + n)
@@ -141,24 +137,6 @@ pub record Row : Type 0 where
 
 unfoldable pub row : List ℕ → Question → Answer (List ℕ) → Row
 row f q a = record { netlist = f; question = q; answer = a }
-
--- with T of an input as output as ticket 5 of document 02 has it, 0 and not 1
-unfoldable pub starred : List Row
-starred =
-    row Q netCounts (value (1 ∷ 1 ∷ 2 ∷ 3 ∷ []))
-    ∷ row Q paths (value (3 ∷ []))
-    ∷ row Q (pathNumber 2) (value (0 ∷ 2 ∷ 0 ∷ 1 ∷ []))
-    ∷ row Q (pathNumber 3) (value (0 ∷ 1 ∷ 1 ∷ []))
-    ∷ row Q (faultsOf nonRobust detectsNone) (value [])
-    ∷ row Q (faultsOf nonRobust detectsFalling) (value (4 ∷ 6 ∷ []))
-    ∷ row Q (faultsOf nonRobust detectsRising) (value (5 ∷ []))
-    ∷ row (doubling 62) paths (value (2 ^ 62 ∷ []))
-    ∷ row (doubling 63) paths (refused 17)
-    ∷ row (headerBytes 1 0 1 ++ outputBytes 0) paths (value (0 ∷ []))
-    ∷ row (spread 2) (risingWork nonRobust aRises) (value (293 ∷ []))
-    ∷ row (spread 3) (risingWork nonRobust aRises) (value (2341 ∷ []))
-    ∷ row (spread 3) (newRising 1 aRises) (refused 50)
-    ∷ []
 
 -- The three tests as a file: the true report is accepted and leaves one run of each edge; with another number of tests it is refused 72
 unfoldable pub further : List Row

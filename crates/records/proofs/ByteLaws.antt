@@ -1,7 +1,7 @@
 -- Fields of bytes: one byte more, as the loops count; stores one after the other; bytes compared part by part.
 -- Assumes nothing.
 use mathlib.Core.Path.{_≡_, refl, ap, sym, _∙_}
-use mathlib.Core.Bool.{Bool, true, false, _&&_}
+use mathlib.Core.Bool.{Bool, true, false, _&&_, and-assoc}
 use mathlib.Core.List.{List, [], _∷_, _++_}
 use Prim.Native.Nat.{ℕ, zero, suc, _+_, _-_, _*_, _/_, _%_, _≤_, _<_}
 use native.Mathlib.Omega.{arith}
@@ -52,21 +52,13 @@ pub sets-append : (xs ys l : List ℕ) (i j : ℕ) → j ≡ i + length xs → s
 sets-append [] ys l i j e = ap (λ (k : ℕ). sets l k ys) (omega arith)
 sets-append (x ∷ xs) ys l i j e = sets-append xs ys (set l i x) (suc i) j (omega arith)
 
-pub length-littleEndian : (n k : ℕ) → length (littleEndian n k) ≡ n
-length-littleEndian zero k = refl
-length-littleEndian (suc n) k = ap suc (length-littleEndian n (k / 256))
-
 -- bytes compared part by part
-and-assoc : (a b c : Bool) → (a && (b && c)) ≡ ((a && b) && c)
-and-assoc true b c = refl
-and-assoc false b c = refl
-
 pub same-append : (ps xs bs ys : List ℕ) → length ps ≡ length xs → sameBytes (ps ++ bs) (xs ++ ys) ≡ (sameBytes ps xs && sameBytes bs ys)
 same-append [] [] bs ys e = refl
 same-append [] (x ∷ xs) bs ys e = absurd (omega arith)
 same-append (a ∷ ps) [] bs ys e = absurd (omega arith)
 same-append (a ∷ ps) (x ∷ xs) bs ys e =
-    ap (λ (t : Bool). eqb a x && t) (same-append ps xs bs ys (omega arith)) ∙ and-assoc (eqb a x) (sameBytes ps xs) (sameBytes bs ys)
+    ap (λ (t : Bool). eqb a x && t) (same-append ps xs bs ys (omega arith)) ∙ sym (and-assoc (eqb a x) (sameBytes ps xs) (sameBytes bs ys))
 
 -- bytes of another length differ
 pub same-length : (xs ys : List ℕ) → (length xs ≡ length ys → ⊥) → sameBytes xs ys ≡ false

@@ -8,6 +8,7 @@ use native.Mathlib.Omega.{arith}
 use lib.Bits.{bitAnd}
 use lib.Dec.{T, eqb}
 use lib.ListN.{getD}
+use Rattle.model.proofs.BoolLaws.{beq→}
 use Rattle.model.specs.Base.{allOf, numbersFrom, bit}
 use Rattle.model.specs.Read.{inputBit, vectorBytes, spareZero}
 use Rattle.model.proofs.ListLaws.{allOf-at, length-numbersFrom, numbersFrom-at}
@@ -24,12 +25,6 @@ in-byte bs n (suc (suc m)) h =
     let q : suc n / 8 ≡ n / 8 = omega arith in
     let r : suc n % 8 ≡ suc (n % 8) = omega arith in
     ap (λ (t : Bool). not (inputBit bs n) && t) (in-byte bs (suc n) (suc m) (omega arith) ∙ rw (q, r))
-
-same-eq : (a b : Bool) → T (Bool·beq a b) → a ≡ b
-same-eq true true t = refl
-same-eq true false t = absurd t
-same-eq false true t = absurd t
-same-eq false false t = refl
 
 -- the mask of the bits from bit `k` on finds none set in the byte `b`
 masked : ℕ → ℕ → Bool
@@ -48,7 +43,7 @@ mask-clear b k hb hk =
     let r : (b * 8 + k) % 8 ≡ k = omega arith in
     let place : getD (numbersFrom 0 2048) (b * 8 + k) 0 ≡ b * 8 + k = omega (arith, numbersFrom-at 2048 0 (b * 8 + k) (omega arith)) in
     let all : T (agree (getD (numbersFrom 0 2048) (b * 8 + k) 0)) = allOf-at agree (numbersFrom 0 2048) 0 tt (b * 8 + k) (omega (arith, length-numbersFrom 0 2048)) in
-    same-eq (masked b k) (clear b k (8 - k)) (rw (place, q, r) at all)
+    beq→ (masked b k) (clear b k (8 - k)) (rw (place, q, r) at all)
 
 -- A vector of whole bytes has no spare bit
 pub spare-none : (bs : List ℕ) (n : ℕ) → n % 8 ≡ 0 → true ≡ spareZero n bs

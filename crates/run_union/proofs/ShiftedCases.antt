@@ -14,8 +14,9 @@ use Rattle.runs.specs.Runs.{RunWithin, Sound, addRun, addRuns, shiftRun, shiftR
 use Rattle.runs.specs.Answers.{Room, answer, Adds}
 use Rattle.runs.specs.declared.inner.Added.{Added}
 use Rattle.runs.specs.declared.inner.Added.the-variants.{Count, Full}
-use Rattle.runs.proofs.MemberLaws.{cases, sound-weaken}
 use Rattle.runs.proofs.RunWordLaws.{length-runs, runs-snoc, runs-next, sound-at}
+use Rattle.model.proofs.BoolLaws.{cases}
+use Rattle.model.proofs.RunLaws.{separated-weaken}
 use Rattle.run_union.specs.Unions.{withShifted, FitsWhere}
 use Rattle.run_union.proofs.AddRunLaws.{joined-two, addRuns-length}
 use Rattle.run_union.proofs.ShiftLaws.{shiftRuns-sound, length-shift}
@@ -162,7 +163,7 @@ module _ {ws : List ℕ} {from to start count cap : ℕ} (offset : ℕ) (lt : fr
       pub rest-sound : Sound (2 ^ 62) (runsInWords ws₁ (from + 1) (to - (from + 1)))
       rest-sound =
           subst (λ (s : List Run). Sound (2 ^ 62) s) (sym rest-runs)
-          (sound-weaken (runAt ws from .high + 2) 1 (2 ^ 62) (runsInWords ws (from + 1) (to - (from + 1))) (omega arith)
+          (separated-weaken (2 ^ 62) (runAt ws from .high + 2) 1 (runsInWords ws (from + 1) (to - (from + 1))) (omega arith)
           (subst (λ (s : List Run). Separated (2 ^ 62) 1 s) (runs-next ws from to lt) sound .3))
 
       pub all-added : {ws₂ : List ℕ} {r : Added} → Adds ws₁ ws₂ start cap (withShifted ws₁ (from + 1) to start n offset) r

@@ -10,7 +10,8 @@ use lib.Dec.{leb}
 use borrow.Author.Tests.{le-leb, lt-leb}
 use Rattle.model.specs.Runs.{Run, runsOf}
 use Rattle.runs.specs.Runs.{Sound, addRuns, inEither}
-use Rattle.runs.proofs.MemberLaws.{cases, inside, member, member-in, runsOf-unique}
+use Rattle.runs.proofs.MemberLaws.{inside, member, member-in, runsOf-unique}
+use Rattle.model.proofs.BoolLaws.{cases, or-around}
 use Rattle.run_union.specs.Unions.{leftFirst}
 use Rattle.run_union.proofs.AddRunLaws.{Asc, sound-asc, addRuns-sound, addRuns-member}
 
@@ -35,19 +36,13 @@ pub interleave-asc : (m n : ℕ) (xs ys : List Run) → Asc m n xs → Asc m n y
 interleave-asc m n [] ys a b = b
 interleave-asc m n (x ∷ xs) ys a b = mergeInto-asc m n x xs (λ zs. interleave xs zs) (λ k zs. interleave-asc k n xs zs) ys a b
 
-swap : (a b c : Bool) → (b || (a || c)) ≡ (a || (b || c))
-swap true true c = refl
-swap true false c = refl
-swap false true c = refl
-swap false false c = refl
-
 mergeInto-member : (t : ℕ) (x : Run) (xs : List Run) (f : List Run → List Run)
     → ((zs : List Run) → member t (f zs) ≡ member t xs || member t zs)
     → (ys : List Run) → member t (mergeInto x xs f ys) ≡ member t (x ∷ xs) || member t ys
 mergeInto-member t x xs f ih [] = sym (or-false (member t (x ∷ xs)))
 mergeInto-member t x xs f ih (y ∷ ys) = cases (x .low) (y .low)
     (λ h. rw (le-leb (x .low) (y .low) h, ih (y ∷ ys)) (sym (or-assoc (inside t x) (member t xs) (member t (y ∷ ys)))))
-    (λ h. rw (lt-leb (x .low) (y .low) h, mergeInto-member t x xs f ih ys) (swap (member t (x ∷ xs)) (inside t y) (member t ys)))
+    (λ h. rw (lt-leb (x .low) (y .low) h, mergeInto-member t x xs f ih ys) (or-around (member t (x ∷ xs)) (inside t y) (member t ys) ∙ or-assoc (member t (x ∷ xs)) (inside t y) (member t ys)))
 
 pub interleave-member : (t : ℕ) (xs ys : List Run) → member t (interleave xs ys) ≡ member t xs || member t ys
 interleave-member t [] ys = refl

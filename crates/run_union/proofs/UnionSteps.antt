@@ -12,8 +12,8 @@ use Rattle.runs.specs.Runs.{RunWithin, Sound, addRun, addRuns, runAt, runsInWor
 use Rattle.runs.specs.Answers.{Adds, Room}
 use Rattle.runs.specs.declared.inner.Added.{Added}
 use Rattle.runs.specs.declared.inner.Added.the-variants.{Count, Full}
-use Rattle.runs.proofs.MemberLaws.{cases}
 use Rattle.runs.proofs.RunWordLaws.{runs-next, sound-at}
+use Rattle.model.proofs.BoolLaws.{cases}
 use Rattle.run_union.specs.Unions.{leftFirst, Unites}
 use Rattle.run_union.proofs.UnionLaws.{interleave, interleave-left, interleave-right, addRuns-union}
 use Rattle.run_union.proofs.Adding.{Adding, as-rest, adding-start, adding-length, adding-done, adding-run, adding-runs, part-full, part-more}

@@ -3,19 +3,13 @@
 use Prim.Native.Nat.{ℕ, _+_, _-_, _≤_, _<_, zero-le}
 use mathlib.Core.Path.{_≡_, refl, sym, ap, _∙_, subst}
 use mathlib.Core.Bool.{Bool, true, false, _||_, _&&_, and-false}
-use mathlib.Core.Logic.{⊎-elim}
 use mathlib.Core.List.{List, [], _∷_}
 use native.Mathlib.Omega.{arith}
 use lib.Dec.{T, leb}
 use borrow.Author.Tests.{le-leb, lt-leb}
 use Rattle.model.specs.Runs.{Run, runsOf, inRun, inRuns, size, Separated}
-use Rattle.model.proofs.BoolLaws.{le-or-lt}
 use Rattle.model.proofs.RunLaws.{runs-test, runs-by, in→, →in, in-low, in-high}
 use Rattle.runs.specs.Runs.{Sound}
-
--- by cases on the order of two numbers
-pub cases : (a b : ℕ) {C : Type 0} → (a ≤ b → C) → (b < a → C) → C
-cases a b f g = ⊎-elim f g (le-or-lt a b)
 
 pub run-path : {r s : Run} → r .low ≡ s .low → r .high ≡ s .high → r ≡ s
 run-path p q = λ i. record { low = p i; high = q i }
@@ -61,10 +55,6 @@ above b n x (r ∷ rs) u h = rw (inside-gt x r (omega arith)) (above (r .high + 
 pub sound-mono : (b n k : ℕ) (rs : List Run) → n ≤ k → Separated n b rs → Separated k b rs
 sound-mono b n k [] h u = tt
 sound-mono b n k (r ∷ rs) h u = (u .0, u .1, omega arith, sound-mono (r .high + 2) n k rs h (u .3))
-
-pub sound-weaken : (b c n : ℕ) (rs : List Run) → c ≤ b → Separated n b rs → Separated n c rs
-sound-weaken b c n [] h u = tt
-sound-weaken b c n (r ∷ rs) h u = (omega arith, u .1, u .2, u .3)
 
 pub runsOf-member : (P : ℕ → Bool) (n x : ℕ) → 1 ≤ x → x ≤ n → member x (runsOf P n) ≡ P x
 runsOf-member P n x h k = member-in x (runsOf P n) ∙ runs-test P n x h k

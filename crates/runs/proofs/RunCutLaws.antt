@@ -6,8 +6,9 @@ use mathlib.Core.Bool.{true, false, _||_, or-false, or-assoc, or-true}
 use mathlib.Core.List.{List, [], _∷_, _++_}
 use native.Mathlib.Omega.{arith}
 use Rattle.model.specs.Runs.{Run, Separated}
+use Rattle.model.proofs.RunLaws.{separated-weaken}
 use Rattle.runs.specs.Runs.{runAt, runsInWords}
-use Rattle.runs.proofs.MemberLaws.{inside, member, inside-in, inside-lt, inside-gt, below, sound-weaken}
+use Rattle.runs.proofs.MemberLaws.{inside, member, inside-in, inside-lt, inside-gt, below}
 use Rattle.runs.proofs.RunWordLaws.{runs-next}
 
 member-append : (x : ℕ) (s t : List Run) → member x (s ++ t) ≡ member x s || member x t
@@ -25,10 +26,10 @@ sound-left b n (c ∷ s) t u = (u .0, u .1, u .2, sound-left (c .high + 2) n s t
 
 at-cut : (b n : ℕ) (s : List Run) (r : Run) (t : List Run) → Separated n b (s ++ r ∷ t) → Separated n b (r ∷ t)
 at-cut b n [] r t u = u
-at-cut b n (c ∷ s) r t u = sound-weaken (c .high + 2) b n (r ∷ t) (omega arith) (at-cut (c .high + 2) n s r t (u .3))
+at-cut b n (c ∷ s) r t u = separated-weaken n (c .high + 2) b (r ∷ t) (omega arith) (at-cut (c .high + 2) n s r t (u .3))
 
 pub sound-right : (b n : ℕ) (s : List Run) (r : Run) (t : List Run) → Separated n b (s ++ r ∷ t) → Separated n b t
-sound-right b n s r t u = let v = at-cut b n s r t u in sound-weaken (r .high + 2) b n t (omega arith) (v .3)
+sound-right b n s r t u = let v = at-cut b n s r t u in separated-weaken n (r .high + 2) b t (omega arith) (v .3)
 
 none-before : (b n x : ℕ) (s : List Run) (r : Run) (t : List Run) → Separated n b (s ++ r ∷ t) → r .low ≤ x → member x s ≡ false
 none-before b n x [] r t u h = refl

@@ -9,8 +9,9 @@ use lib.ListN.{length, drop, getD}
 use lib.Seq.{getD-drop}
 use Rattle.model.specs.Runs.{Run, Separated}
 use Rattle.model.specs.Store.{runsAt}
+use Rattle.model.proofs.BoolLaws.{cases}
 use Rattle.runs.specs.Runs.{run, RunWithin, Sound, runAt, runsInWords}
-use Rattle.runs.proofs.MemberLaws.{run-path, cases}
+use Rattle.runs.proofs.MemberLaws.{run-path}
 
 pub length-runs : (ws : List ℕ) (i k : ℕ) → length (runsInWords ws i k) ≡ k
 length-runs ws i zero = refl

@@ -1,7 +1,7 @@
 -- Steps of `zero_words` and `clear`: words that are zero so far, or are made so.
 -- Assumes nothing.
 use mathlib.Core.Path.{_≡_, refl, ap, sym, _∙_}
-use mathlib.Core.Bool.{Bool, true, false, _&&_}
+use mathlib.Core.Bool.{Bool, true, false, _&&_, and-true, and-assoc}
 use mathlib.Core.List.{List, [], _∷_, _++_, append-nil}
 use Prim.Native.Nat.{ℕ, zero, suc, _+_, _-_, _≤_, _<_}
 use native.Mathlib.Omega.{arith}
@@ -26,14 +26,6 @@ zeros-next ws at (suc n) h l =
 none-left : (ws : List ℕ) (at n : ℕ) → n ≤ 0 → zeros ws at n ≡ true
 none-left ws at zero h = refl
 none-left ws at (suc n) h = absurd (omega arith)
-
-and-true : (a : Bool) → (a && true) ≡ a
-and-true true = refl
-and-true false = refl
-
-and-assoc : (a b c : Bool) → ((a && b) && c) ≡ (a && (b && c))
-and-assoc true b c = refl
-and-assoc false b c = refl
 
 -- two words are zero where their union of bits is
 or-zero : (a b : ℕ) → eqb (bitOr a b) 0 ≡ (eqb a 0 && eqb b 0)

@@ -3,18 +3,18 @@
 use mathlib.Core.Path.{_≡_, refl}
 use Prim.Native.Nat.{ℕ, _≤_, _<_}
 use lib.Dec.{leb}
+use borrow.Author.Tests.{le-leb, lt-leb}
 use Rattle.model.specs.Read.{within}
-use Rattle.model.proofs.BoolLaws.{le-true, lt-false}
 use Rattle.model.proofs.known_class.Statement.{statement}
 use Rattle.model.proofs.known_class.Tie as tie
 use Rattle.model.proofs.known_class.Reads as reads
 use Rattle.model.proofs.known_class.Lts as lts
 
 one-or-more : (class : ℕ) → 1 ≤ class → leb class 2 ≡ within 1 2 class
-one-or-more class h = rw (le-true 1 class h) refl
+one-or-more class h = rw (le-leb 1 class h) refl
 
 none : (class : ℕ) → class < 1 → leb 1 class ≡ within 1 2 class
-none class h = rw (lt-false 1 class h) refl
+none class h = rw (lt-leb 1 class h) refl
 
 returns : tie.Need-returns
 returns c = one-or-more (c .before .args .class) (c .if1 .taken)

@@ -1,7 +1,7 @@
 -- `differences::inner::number_at` meets its contract: four fields of two bytes make one of eight.
 -- Assumes nothing.
 use borrow.Author.Needs.{needs}
-use Rattle.differences.proofs.NumberLaws.{eight}
+use Rattle.differences.proofs.EightByteLaws.{eight}
 use Rattle.differences.proofs.inner.number_at.Statement.{statement}
 use Rattle.differences.proofs.inner.number_at.Tie as tie
 
