@@ -1,23 +1,25 @@
 -- The netlist file of a circuit: its outputs by net, and its length.
 -- Assumes nothing.
-use Prim.Native.Nat.{ℕ, zero, suc, _+_, _*_, _≤_, _<_}
+use Prim.Native.Nat.{ℕ, suc, _+_, _*_, _≤_, _<_}
 use mathlib.Core.Path.{_≡_, refl, ap, sym, _∙_, subst}
-use mathlib.Core.Bool.{Bool, true, false, _&&_, true≢false}
+use mathlib.Core.Bool.{true, false}
 use mathlib.Core.Logic.{⊎-elim}
-use mathlib.Core.List.{List, [], _∷_, _++_, map}
+use mathlib.Core.List.{List, [], _∷_, _++_}
 use native.Mathlib.Omega.{arith}
 use lib.Dec.{T, ltb, leb, le→leb, lt→ltb, leb→le}
 use lib.ListN.{length, length-append, length-map}
-use Rattle.model.specs.Base.{allOf, littleEndian}
+use Rattle.model.specs.Base.{allOf}
 use Rattle.model.specs.Read.{pinsFit}
 use Rattle.model.specs.Encode.{headerBytes, netBytes, gateBytes, outputBytes}
 use Rattle.model.proofs.BoolLaws.{and-left, and-right, all3, and3, T→true, true→T, bool-cases}
 use Rattle.model.proofs.WellFormed.{ascendingNets}
 use Rattle.model.proofs.ReadLaws.{pins-fit}
-use Rattle.bench_text.specs.Text.{place, isIn}
-use Rattle.bench_text.specs.Circuit.{GateLine, Circuit, netNames, gateRecords, outputNets, outputRecords, netlistBytes, endRules}
-use Rattle.bench_text.proofs.PlaceLaws.{by-same, in-lt, lt-in, out-le, le-out, in-not, NotIn, Distinct, place-first, place-next}
-use Rattle.bench_text.proofs.CircuitLaws.{GatesFit, Legal}
+use Rattle.bench_lines.specs.Text.{place, isIn}
+use Rattle.bench_circuit.specs.Circuit.{GateLine, Circuit, netNames}
+use Rattle.bench_text.specs.NetlistFile.{pinNets, gateRecords, outputNets, outputRecords, netlistBytes}
+use Rattle.bench_lines.proofs.PlaceLaws.{by-same, in-lt, lt-in, out-le, le-out, in-not, NotIn, Distinct, place-first}
+use Rattle.bench_lines.proofs.PlaceLaws.{place-next}
+use Rattle.bench_circuit.proofs.CircuitLaws.{GatesFit, Legal}
 
 -- ---- outputs by net
 
@@ -30,14 +32,16 @@ module _ (net : ℕ) (x : List ℕ) (xs outs : List (List ℕ)) where
   unfolding outputNets
   out-no e = rw (e, outputNets) refl
 
-ascending-less : (bound least : ℕ) (ns : List ℕ) → T (ascendingNets bound (suc least) ns) → T (ascendingNets bound least ns)
+ascending-less : (bound least : ℕ) (ns : List ℕ) → T (ascendingNets bound (suc least) ns)
+    → T (ascendingNets bound least ns)
 unfolding ascendingNets
 ascending-less bound least [] t = tt
 ascending-less bound least (o ∷ os) t =
     let a = and3 (leb (suc least) o) (ltb o bound) (ascendingNets bound (suc o) os) t in
     all3 (leb least o) (ltb o bound) (ascendingNets bound (suc o) os) (le→leb least o (omega (arith, leb→le (suc least) o (a .0)))) (a .1) (a .2)
 
-pub outputs-ascend : (bound net : ℕ) (xs outs : List (List ℕ)) → net + length xs ≤ bound → T (ascendingNets bound net (outputNets net xs outs))
+pub outputs-ascend : (bound net : ℕ) (xs outs : List (List ℕ)) → net + length xs ≤ bound
+    → T (ascendingNets bound net (outputNets net xs outs))
 unfolding ascendingNets outputNets
 outputs-ascend bound net [] outs h = tt
 outputs-ascend bound net (x ∷ xs) outs h =
@@ -56,11 +60,11 @@ times x (y ∷ ys) = elim (Rattle.model.specs.Report.sameBytes y x) [ true ↦ 
 
 times-here : (x y : List ℕ) (ys : List (List ℕ)) → y ≡ x → times x (y ∷ ys) ≡ suc (times x ys)
 unfolding times
-times-here x y ys e = rw (Rattle.bench_text.proofs.PlaceLaws.same-yes y x e, times) refl
+times-here x y ys e = rw (Rattle.bench_lines.proofs.PlaceLaws.same-yes y x e, times) refl
 
 times-other : (x y : List ℕ) (ys : List (List ℕ)) → (y ≡ x → ⊥) → times x (y ∷ ys) ≡ times x ys
 unfolding times
-times-other x y ys d = rw (Rattle.bench_text.proofs.PlaceLaws.same-no y x d, times) refl
+times-other x y ys d = rw (Rattle.bench_lines.proofs.PlaceLaws.same-no y x d, times) refl
 
 times-none : (x : List ℕ) (ys : List (List ℕ)) → NotIn x ys → times x ys ≡ 0
 unfolding NotIn times
@@ -107,11 +111,13 @@ outputs-none net [] = refl
 outputs-none net (y ∷ ys) = out-no net y ys [] (in-not y [] tt) ∙ outputs-none (suc net) ys
 
 -- each output has one net
-pub outputs-count : (net : ℕ) (names outs : List (List ℕ)) → Distinct names → Distinct outs → T (allOf (λ x. isIn x names) outs) → length (outputNets net names outs) ≡ length outs
+pub outputs-count : (net : ℕ) (names outs : List (List ℕ)) → Distinct names → Distinct outs
+    → T (allOf (λ x. isIn x names) outs) → length (outputNets net names outs) ≡ length outs
 unfolding Distinct
 outputs-count net names [] d e t = ap length (outputs-none net names)
 outputs-count net names (x ∷ outs) d e t =
-    let a = times-one x names d (in-lt x names (T→true (isIn x names) (and-left (isIn x names) (allOf (λ y. isIn y names) outs) t))) in
+    let a =
+    times-one x names d (in-lt x names (T→true (isIn x names) (and-left (isIn x names) (allOf (λ y. isIn y names) outs) t))) in
     let ih = outputs-count net names outs d (e .1) (and-right (isIn x names) (allOf (λ y. isIn y names) outs) t) in
     omega (arith, outputs-more net x names outs (e .0))
 
@@ -134,15 +140,16 @@ length-outputs (n ∷ ns) = omega (arith, length-outputs ns)
 pub few-pins : (k n : ℕ) → pinsFit k n ≡ true → n ≤ 8
 few-pins k n e = leb→le n 8 (and-right (leb 1 n) (leb n 8) (pins-fit k n (true→T (pinsFit k n) e)))
 
-gates-short : (names : List (List ℕ)) (gs : List GateLine) → GatesFit gs → length (gateRecords names gs) ≤ 20 * length gs
+gates-short : (names : List (List ℕ)) (gs : List GateLine) → GatesFit gs
+    → length (gateRecords names gs) ≤ 20 * length gs
 unfolding gateRecords GatesFit
 gates-short names [] f = omega arith
 gates-short names (g ∷ gs) f =
-    let p : length (map (λ y. place y names) (g .pins)) ≡ length (g .pins) = length-map (g .pins) (λ y. place y names) in
+    let p : length (pinNets names g) ≡ length (g .pins) = length-map (g .pins) (λ y. place y names) in
     omega (
       arith,
-      length-append (gateBytes (g .kind) (map (λ y. place y names) (g .pins))) (gateRecords names gs),
-      length-gate (g .kind) (map (λ y. place y names) (g .pins)),
+      length-append (gateBytes (g .kind) (pinNets names g)) (gateRecords names gs),
+      length-gate (g .kind) (pinNets names g),
       p,
       few-pins
           (g .kind) (length (g .pins)) (f .0 .2),
@@ -150,7 +157,8 @@ gates-short names (g ∷ gs) f =
     )
 
 -- a circuit whose outputs are all defined fits the least buffer
-pub bytes-fit : (c : Circuit) → Legal c → T (allOf (λ x. isIn x (netNames c)) (c .outputs)) → length (netlistBytes c) ≤ 10484
+pub bytes-fit : (c : Circuit) → Legal c → T (allOf (λ x. isIn x (netNames c)) (c .outputs))
+    → length (netlistBytes c) ≤ 10484
 unfolding netlistBytes headerBytes
 bytes-fit c l t =
     let os = outputNets 0 (netNames c) (c .outputs) in

@@ -12,13 +12,18 @@ use Rattle.model.specs.Encode.{headerBytes, netBytes, gateBytes, outputBytes}
 use Rattle.model.proofs.BoolLaws.{and-left, and-right}
 use Rattle.model.proofs.ListLaws.{allOf-at}
 use Rattle.model.proofs.AnswerLaws.{same→}
-use Rattle.bench_text.specs.Text.{withoutReturn, lastLine, linesFrom, linesOf, nameByte, word, wordThen, signThen, tokensFrom}
-use Rattle.bench_text.specs.Text.{tokensOf, place, isIn, kindNames, ioNames, ending, pinsFrom, gateFrom, ioOf, ioFrom, statementOf}
-use Rattle.bench_text.specs.Circuit.{netNames, inputFits, gateFits, outputFits, gateNamed, lineRules, added, lineByLine, endRules, circuitOf}
-use Rattle.bench_text.specs.Circuit.{badFrom, outputDefined, undefinedFrom, endLine, lineIn, refusedLine}
-use Rattle.bench_text.specs.Circuit.{gateRecords, outputNets, outputRecords, netlistBytes, converted}
-use Rattle.bench_text.specs.Examples.{Row, row, table, inputLines, c17, lateInput, keywords, onePin, dffLine, emptyBrackets, noPins, smallKind, longName, afterStatement, tab, lastComma}
-use Rattle.bench_text.specs.Examples.{loneReturn, twice, unknown, itself, outputTwice, twoPinNot, lowest, ninePins, firstLine, neverDefined, emptyText, noOutput, manyInputs}
+use Rattle.bench_lines.specs.Text.{withoutReturn, lastLine, linesFrom, linesOf, nameByte, word, wordThen, signThen}
+use Rattle.bench_lines.specs.Text.{tokensFrom}
+use Rattle.bench_lines.specs.Text.{tokensOf, place, isIn, kindNames, ioNames, ending, pinsFrom, gateFrom, ioOf, ioFrom}
+use Rattle.bench_lines.specs.Text.{statementOf}
+use Rattle.bench_circuit.specs.Circuit.{netNames, inputFits, gateFits, outputFits, gateNamed, lineRules, added}
+use Rattle.bench_circuit.specs.Circuit.{lineByLine, endRules, circuitOf}
+use Rattle.bench_circuit.specs.Circuit.{badFrom, outputDefined, undefinedFrom, endLine, lineIn, refusedLine}
+use Rattle.bench_text.specs.NetlistFile.{gateRecords, outputNets, outputRecords, netlistBytes, converted}
+use Rattle.bench_text.specs.Examples.{Row, row, table, inputLines, c17, lateInput, keywords, onePin, dffLine}
+use Rattle.bench_text.specs.Examples.{emptyBrackets, noPins, smallKind, longName, afterStatement, tab, lastComma}
+use Rattle.bench_text.specs.Examples.{loneReturn, twice, unknown, itself, outputTwice, twoPinNot, lowest}
+use Rattle.bench_text.specs.Examples.{ninePins, firstLine, neverDefined, emptyText, noOutput, manyInputs}
 
 same : Answer (List ℕ) → Answer (List ℕ) → Bool
 same (refused m) (refused n) = eqb m n
@@ -59,7 +64,9 @@ module _ (i : ℕ) (h : i < length table) where
   both = allOf-at right table noRow all-right i h
 
   pub table-holds : converted (getD table i noRow .text) ≡ getD table i noRow .answer
-  table-holds = same-answer _ _ (and-left (same (converted (the .text)) (the .answer)) (eqb (refusedLine (the .text)) (the .line)) both)
+  table-holds =
+      same-answer _ _ (and-left (same (converted (the .text)) (the .answer)) (eqb (refusedLine (the .text)) (the .line)) both)
 
   pub lines-hold : refusedLine (getD table i noRow .text) ≡ getD table i noRow .line
-  lines-hold = eqb→eq _ _ (and-right (same (converted (the .text)) (the .answer)) (eqb (refusedLine (the .text)) (the .line)) both)
+  lines-hold =
+      eqb→eq _ _ (and-right (same (converted (the .text)) (the .answer)) (eqb (refusedLine (the .text)) (the .line)) both)

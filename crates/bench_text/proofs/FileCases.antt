@@ -1,42 +1,43 @@
 -- The netlist file put together from its parts: header, gates, outputs among the inputs, outputs among the gates.
 -- Assumes nothing.
-use Prim.Native.Nat.{ℕ, zero, suc, _+_, _*_, _≤_, _<_}
+use Prim.Native.Nat.{ℕ, _+_, _*_, _≤_}
 use mathlib.Core.Path.{_≡_, refl, ap, ap₂, sym, _∙_, subst}
-use mathlib.Core.Bool.{Bool, true, false, _&&_}
-use mathlib.Core.List.{List, [], _∷_, _++_, map, append-assoc}
+use mathlib.Core.List.{List, _++_, map, append-assoc}
 use native.Mathlib.Omega.{arith}
-use borrow.Author.Tests.{le-leb, lt-leb}
-use lib.Dec.{T, leb}
+use lib.Dec.{T}
 use lib.ListN.{length, drop, length-append, length-map}
 use lib.Seq.{sets, sets-eq, length-sets}
-use Rattle.model.specs.Base.{Answer, refused, value, _>>=_, _>>_, checks, after, allOf}
+use Rattle.model.specs.Base.{Answer, value, _>>=_, _>>_, after, allOf}
 use Rattle.model.specs.Encode.{headerBytes}
 use Rattle.model.proofs.BoolLaws.{T→true}
 use Rattle.records.proofs.ByteLaws.{sets-append}
-use Rattle.bench_text.specs.Text.{linesOf, isIn}
-use Rattle.bench_text.specs.Circuit.{GateLine, Circuit, emptyCircuit, netNames, lineByLine, badFrom, endRules, undefinedFrom, endLine, lineIn}
-use Rattle.bench_text.specs.Circuit.{refusedLine, circuitOf, gateRecords, outputNets, outputRecords, netlistBytes, converted}
-use Rattle.bench_text.specs.Calls.{bufferRule, convertCall, convertAnswer, convertLine, convertBuffer}
-use Rattle.bench_text.specs.Judging.{NamesRoom, Held, PinsNamed, HeldRoom, TextTaken, LineRefused, TextTrue}
+use Rattle.bench_lines.specs.Text.{linesOf, isIn}
+use Rattle.bench_circuit.specs.Circuit.{GateLine, Circuit, emptyCircuit, netNames, endRules, endLine}
+use Rattle.bench_circuit.specs.Circuit.{refusedLine, circuitOf}
+use Rattle.bench_text.specs.NetlistFile.{gateRecords, outputNets, outputRecords, netlistBytes, converted}
+use Rattle.bench_text.specs.Calls.{convertCall, convertAnswer, convertBuffer}
+use Rattle.bench_circuit.specs.Judging.{NamesRoom, PinsNamed, TextTaken}
 use Rattle.bench_text.specs.Writing.{linesBytes, AllFewPins, BytesPut, keyOutputs}
-use Rattle.bench_text.specs.Converting.{ConvertTrue, TextHeld, EndSound, TextSound, FileWritten}
-use Rattle.bench_text.specs.Ending.{pairsKnown, Knows, LineTold, RefusedAt, EndTrue}
+use Rattle.bench_text.specs.Converting.{FileWritten}
+use Rattle.bench_circuit.specs.Ending.{EndSound, TextSound}
 use Rattle.bench_text.specs.declared.BenchAnswer.the-variants as bench
-use Rattle.bench_text.specs.declared.judging.NameCounts.{NameCounts}
+use Rattle.bench_circuit.specs.declared.inner.judging.NameCounts.{NameCounts}
 use Rattle.model.proofs.AnswerLaws.{checks→}
-use Rattle.bench_text.proofs.CircuitLaws.{GatesFit, Legal, legal-empty, LinesLeave, lines-leave, gateOfLine, gatesOfLines}
+use Rattle.bench_circuit.proofs.CircuitLaws.{GatesFit, legal-empty, LinesLeave, lines-leave}
 use Rattle.bench_text.proofs.BytesLaws.{bytes-fit}
 use Rattle.bench_text.proofs.WholeLaws.{few-lines, lines-are, outs-are, outs-append}
-use Rattle.bench_text.proofs.EndCases.{at-end, at-line, call-is, line-is}
+use Rattle.bench_circuit.proofs.EndCases.{at-end, at-line}
+use Rattle.bench_text.proofs.CallCases.{call-is, line-is}
 
 module _ (text out : List ℕ) (big : 10484 ≤ length out) where
-  call-written : (bytes : List ℕ) (end : ℕ) (out′ : List ℕ) → converted text ≡ value bytes → 0 ≡ refusedLine text → end ≡ length bytes → length bytes ≤ length out
-      → out′ ≡ sets out 0 bytes → FileWritten end text out out′
+  call-written : (bytes : List ℕ) (end : ℕ) (out′ : List ℕ) → converted text ≡ value bytes → 0 ≡ refusedLine text
+      → end ≡ length bytes → length bytes ≤ length out → out′ ≡ sets out 0 bytes → FileWritten end text out out′
   unfolding convertAnswer convertBuffer
   call-written bytes end out′ e line l f q =
       let z : convertCall text out ≡ value bytes = call-is text out big ∙ e in
       let k : 0 + length bytes ≡ length bytes = omega arith in
-      let b : bytes ++ drop (length bytes) out ≡ convertBuffer text out = sym (ap (λ (x : Answer (List ℕ)). after x out (λ bs. bs ++ drop (length bs) out)) z) in
+      let b : bytes ++ drop (length bytes) out ≡ convertBuffer text out =
+      sym (ap (λ (x : Answer (List ℕ)). after x out (λ bs. bs ++ drop (length bs) out)) z) in
       record {
         answer = ap value l ∙ sym (ap (λ (x : Answer (List ℕ)). x >>= λ bs. value (length bs)) z);
         line = line ∙ sym (line-is text out big);
@@ -85,10 +86,13 @@ module _ (text out is gs os : List ℕ) (n : NameCounts) (big : 10484 ≤ length
 
   no-line : 0 ≡ refusedLine text
   unfolding endLine
-  no-line = sym (at-line text is gs os n t ∙ rw (T→true (allOf (λ x. isIn x (netNames c)) (c .outputs)) defined, endLine) refl)
+  no-line =
+      sym (at-line text is gs os n t ∙ rw (T→true (allOf (λ x. isIn x (netNames c)) (c .outputs)) defined, endLine) refl)
 
   lines : L ≡ gateRecords (netNames c) (c .gates)
-  lines = lines-are is gs os n c (t .held) (linesOf text) (subst PinsNamed (left .gates) (t .held .pins)) ∙ ap (gateRecords (netNames c)) (sym (left .gates))
+  lines =
+      lines-are (t .held) (linesOf text) (subst PinsNamed (left .gates) (t .held .pins))
+      ∙ ap (gateRecords (netNames c)) (sym (left .gates))
 
   outs : A ++ B ≡ outputRecords (outputNets 0 (netNames c) (c .outputs))
   unfolding netNames
@@ -98,9 +102,9 @@ module _ (text out is gs os : List ℕ) (n : NameCounts) (big : 10484 ≤ length
       let ha = h .inputs .holds in
       let hb = h .gates .holds in
       let a : A ≡ outputRecords (outputNets 0 (c .inputs) (c .outputs)) =
-      ap (λ (m : ℕ). keyOutputs os o is m 0 0) (h .inputs .count) ∙ outs-are is gs os n c h is (c .inputs) 0 0 (ha .rest) (ha .is) (h .inputs .named) in
+      ap (λ (m : ℕ). keyOutputs os o is m 0 0) (h .inputs .count) ∙ outs-are h is (c .inputs) 0 0 (ha .rest) (ha .is) (h .inputs .named) in
       let b : B ≡ outputRecords (outputNets i names (c .outputs)) =
-      ap (λ (m : ℕ). keyOutputs os o gs m 0 i) (h .gates .count) ∙ outs-are is gs os n c h gs names 0 i (hb .rest) (hb .is) (h .gates .named) in
+      ap (λ (m : ℕ). keyOutputs os o gs m 0 i) (h .gates .count) ∙ outs-are h gs names 0 i (hb .rest) (hb .is) (h .gates .named) in
       let k : i ≡ 0 + length (c .inputs) = omega (arith, h .inputs .count) in
       ap₂ (λ (u v : List ℕ). u ++ v) a (b ∙ ap (λ (m : ℕ). outputRecords (outputNets m names (c .outputs))) k) ∙ sym (outs-append 0 (c .inputs) names (c .outputs))
 
@@ -167,14 +171,22 @@ module _ (text out is gs os : List ℕ) (n : NameCounts) (big : 10484 ≤ length
         pub room-gates : b + length (keyOutputs os (n .outputs) gs (n .gates) 0 (n .inputs)) ≤ length o₃
         room-gates = omega (arith, sizes, fits, e₂ .next, e₃ .next, length₃)
 
-        pub file-written : (d : ℕ) (o₄ : List ℕ) → BytesPut d o₃ o₄ b (keyOutputs os (n .outputs) gs (n .gates) 0 (n .inputs)) → FileWritten d text out o₄
-        unfolding headerBytes
+        pub file-written : (d : ℕ) (o₄ : List ℕ)
+            → BytesPut d o₃ o₄ b (keyOutputs os (n .outputs) gs (n .gates) 0 (n .inputs)) → FileWritten d text out o₄
+        unfolding headerBytes converted
         file-written d o₄ e₄ =
-            let q₂ : o₂ ≡ sets out 0 (H ++ L) = e₂ .put ∙ ap (λ (x : List ℕ). sets x 8 L) e₁ ∙ sets-append H L out 0 8 (omega arith) in
+            let q₂ : o₂ ≡ sets out 0 (H ++ L) =
+            e₂ .put ∙ ap (λ (x : List ℕ). sets x 8 L) e₁ ∙ sets-append H L out 0 8 (omega arith) in
             let l₂ : length (H ++ L) ≡ a = omega (arith, e₂ .next, length-append H L) in
-            let q₃ : o₃ ≡ sets out 0 ((H ++ L) ++ A) = e₃ .put ∙ ap (λ (x : List ℕ). sets x a A) q₂ ∙ sets-append (H ++ L) A out 0 a (omega (arith, l₂)) in
+            let q₃ : o₃ ≡ sets out 0 ((H ++ L) ++ A) =
+            e₃ .put ∙ ap (λ (x : List ℕ). sets x a A) q₂ ∙ sets-append (H ++ L) A out 0 a (omega (arith, l₂)) in
             let l₃ : length ((H ++ L) ++ A) ≡ b = omega (arith, e₃ .next, l₂, length-append (H ++ L) A) in
-            let q₄ : o₄ ≡ sets out 0 (((H ++ L) ++ A) ++ B) = e₄ .put ∙ ap (λ (x : List ℕ). sets x b B) q₃ ∙ sets-append ((H ++ L) ++ A) B out 0 b (omega (arith, l₃)) in
-            let j : ((H ++ L) ++ A) ++ B ≡ netlistBytes c = append-assoc (H ++ L) A B ∙ append-assoc H L (A ++ B) ∙ sym whole in
-            let v : converted text ≡ value (netlistBytes c) = at-end text is gs os n t ∙ ap (λ (x : Answer (Unit {0})). x >> value (netlistBytes c)) (end .sound) in
-            call-written text out big (netlistBytes c) d o₄ v no-line (omega (arith, sizes, e₂ .next, e₃ .next, e₄ .next)) (omega (arith, fits)) (q₄ ∙ ap (sets out 0) j)
+            let q₄ : o₄ ≡ sets out 0 (((H ++ L) ++ A) ++ B) =
+            e₄ .put ∙ ap (λ (x : List ℕ). sets x b B) q₃ ∙ sets-append ((H ++ L) ++ A) B out 0 b (omega (arith, l₃)) in
+            let j : ((H ++ L) ++ A) ++ B ≡ netlistBytes c =
+            append-assoc (H ++ L) A B ∙ append-assoc H L (A ++ B) ∙ sym whole in
+            let v : circuitOf text ≡ value c =
+            at-end text is gs os n t ∙ ap (λ (x : Answer (Unit {0})). x >> value c) (end .sound) in
+            let w : converted text ≡ value (netlistBytes c) =
+            ap (λ (x : Answer Circuit). x >>= λ r. value (netlistBytes r)) v in
+            call-written text out big (netlistBytes c) d o₄ w no-line (omega (arith, sizes, e₂ .next, e₃ .next, e₄ .next)) (omega (arith, fits)) (q₄ ∙ ap (sets out 0) j)

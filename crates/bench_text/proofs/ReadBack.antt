@@ -1,30 +1,27 @@
 -- The gates of a netlist file as they are read back: each the circuit's, unless a count passes 2^62.
 -- Assumes nothing.
-use Prim.Native.Nat.{ℕ, zero, suc, _+_, _-_, _*_, _/_, _%_, _≤_, _<_}
+use Prim.Native.Nat.{ℕ, suc, _+_, _-_, _*_, _/_, _%_, _≤_, _<_}
 use mathlib.Core.Path.{_≡_, refl, ap, sym, _∙_, subst}
-use mathlib.Core.Bool.{Bool, true, false, _&&_}
+use mathlib.Core.Bool.{Bool, _&&_}
 use mathlib.Core.Logic.{_⊎_, inl, inr, ⊎-elim}
-use mathlib.Core.List.{List, [], _∷_, _++_, map, append-assoc, append-nil}
+use mathlib.Core.List.{List, [], _∷_, _++_, map, append-assoc}
 use native.Mathlib.Omega.{arith}
-use native.Mathlib.Numerals.{add-one}
-use borrow.Author.Tests.{ltb-true}
-use lib.Dec.{T, ltb, leb, eqb, le→leb, lt→ltb, leb→le, ltb→lt}
-use lib.ListN.{length, getD, take, drop, replicate, length-append, length-map, length-replicate}
+use lib.Dec.{T, ltb, leb, le→leb, lt→ltb}
+use lib.ListN.{length, getD, drop, length-append, length-map}
 use lib.Seq.{drop-drop}
-use Rattle.model.specs.Base.{Answer, refused, value, _>>=_, _>>_, check, Rule, checks, allOf, field, fromLittleEndian, littleEndian}
-use Rattle.model.specs.Netlist.{Netlist, Gate, netByNet, gateCount, maxCount, maxNets, outputCount}
-use Rattle.model.specs.Read.{marked, within, kindOf, pinsFit, netFields, gateIn, countIn, gateRules, readGates, outputRules, readOutputs, inputsIn}
-use Rattle.model.specs.Read.{gatesIn, outputsIn, headerRange, headerRules, inputCounts, readNetlist}
-use Rattle.model.specs.Encode.{headerBytes, netBytes, gateBytes, outputBytes}
-use Rattle.model.proofs.BoolLaws.{both, all4, and3, T→true, true→T, bool-cases, le-or-lt, and-left, and-right}
-use Rattle.model.proofs.AnswerLaws.{AllPass, →checks, checks→, checks-both, steps, then-first, then-second, value-inj}
-use Rattle.model.proofs.WellFormed.{ascendingNets}
-use Rattle.bench_text.specs.Text.{place, isIn, linesOf}
-use Rattle.bench_text.specs.Circuit.{GateLine, Circuit, emptyCircuit, netNames, lineByLine, endRules, circuitOf, gateRecords, outputNets, outputRecords, netlistBytes, converted}
-use Rattle.bench_text.specs.Taken.{gateFor, netlistOf, TakenUnlessOver}
-use Rattle.bench_text.proofs.PlaceLaws.{place-left, place-right, place-top}
-use Rattle.bench_text.proofs.CircuitLaws.{gateNames, PinsKnown, Earlier, GatesFit, Legal, legal-empty, lines-leave}
-use Rattle.bench_text.proofs.BytesLaws.{outputs-ascend, outputs-count, length-nets, length-gate, length-outputs}
+use Rattle.model.specs.Base.{Answer, refused, value, _>>=_, _>>_, check, Rule, checks, allOf}
+use Rattle.model.specs.Netlist.{Gate, maxCount}
+use Rattle.model.specs.Read.{marked, within, kindOf, pinsFit, netFields, gateIn, countIn, gateRules, readGates}
+use Rattle.model.specs.Encode.{netBytes, gateBytes}
+use Rattle.model.proofs.BoolLaws.{both, true→T, bool-cases, le-or-lt}
+use Rattle.model.proofs.AnswerLaws.{AllPass, →checks, checks-both}
+use Rattle.bench_lines.specs.Text.{place}
+use Rattle.bench_circuit.specs.Circuit.{GateLine}
+use Rattle.bench_text.specs.NetlistFile.{pinNets, gateRecords}
+use Rattle.bench_text.specs.Taken.{gateFor}
+use Rattle.bench_lines.proofs.PlaceLaws.{place-left, place-right}
+use Rattle.bench_circuit.proofs.CircuitLaws.{gateNames, PinsKnown, Earlier, GateFits, GatesFit}
+use Rattle.bench_text.proofs.BytesLaws.{length-gate}
 
 -- ---- fields as they were written
 
@@ -38,14 +35,17 @@ Below b (n ∷ ns) = (n < b) × Below b ns
 fields-back : (ns rest : List ℕ) → Below 65536 ns → netFields (length ns) (netBytes ns ++ rest) ≡ ns
 unfolding netBytes Below
 fields-back [] rest b = refl
-fields-back (n ∷ ns) rest b = ap (λ (m : ℕ). m ∷ netFields (length ns) (netBytes ns ++ rest)) (back n (b .0)) ∙ ap (λ (l : List ℕ). n ∷ l) (fields-back ns rest (b .1))
+fields-back (n ∷ ns) rest b =
+    ap (λ (m : ℕ). m ∷ netFields (length ns) (netBytes ns ++ rest)) (back n (b .0))
+    ∙ ap (λ (l : List ℕ). n ∷ l) (fields-back ns rest (b .1))
 
 nets-after : (ns rest : List ℕ) → drop (2 * length ns) (netBytes ns ++ rest) ≡ rest
 unfolding netBytes
 nets-after [] rest = refl
 nets-after (n ∷ ns) rest =
     let z : 2 * length (n ∷ ns) ≡ 2 + 2 * length ns = omega arith in
-    ap (λ (m : ℕ). drop m (netBytes (n ∷ ns) ++ rest)) z ∙ sym (drop-drop (2 * length ns) 2 (netBytes (n ∷ ns) ++ rest)) ∙ nets-after ns rest
+    ap (λ (m : ℕ). drop m (netBytes (n ∷ ns) ++ rest)) z ∙ sym (drop-drop (2 * length ns) 2 (netBytes (n ∷ ns) ++ rest))
+    ∙ nets-after ns rest
 
 -- all rules but the last pass
 pub but-last : (rs : List Rule) (n : ℕ) (b : Bool) → AllPass rs → checks (rs ++ ((n, b) ∷ [])) ≡ (check n b >> value tt)
@@ -55,12 +55,15 @@ but-last rs n b a = checks-both rs ((n, b) ∷ []) ∙ rw (→checks rs a) refl
 
 unfoldable pub LowerPins : List (List ℕ) → ℕ → List GateLine → Type 0
 LowerPins names net [] = Unit {0}
-LowerPins names net (g ∷ gs) = Below net (map (λ y. place y names) (g .pins)) × LowerPins names (suc net) gs
+LowerPins names net (g ∷ gs) = Below net (pinNets names g) × LowerPins names (suc net) gs
 
-known-below : (ins ns more ys : List (List ℕ)) → PinsKnown ins ns ys → Below (length ins + length ns) (map (λ y. place y (ins ++ (ns ++ more))) ys)
+known-below : (ins ns more ys : List (List ℕ)) → PinsKnown ins ns ys
+    → Below (length ins + length ns) (map (λ y. place y (ins ++ (ns ++ more))) ys)
 unfolding PinsKnown Below
 known-below ins ns more [] k = tt
-known-below ins ns more (y ∷ ys) k = (⊎-elim (λ h. first h) (λ h. ⊎-elim (λ l. second h l) (λ l. first l) (le-or-lt (length ins) (place y ins))) (k .0), known-below ins ns more ys (k .1))
+known-below ins ns more (y ∷ ys) k =
+    let here = ⊎-elim first (λ h. ⊎-elim (second h) first (le-or-lt (length ins) (place y ins))) (k .0) in
+    (here, known-below ins ns more ys (k .1))
   where
     first : place y ins < length ins → place y (ins ++ (ns ++ more)) < length ins + length ns
     first h = omega (arith, place-left y ins (ns ++ more) h)
@@ -68,14 +71,17 @@ known-below ins ns more (y ∷ ys) k = (⊎-elim (λ h. first h) (λ h. ⊎-elim
     second : place y ns < length ns → length ins ≤ place y ins → place y (ins ++ (ns ++ more)) < length ins + length ns
     second h l = omega (arith, place-right y ins (ns ++ more) l, place-left y ns more h)
 
-pub lower-pins : (ins ns : List (List ℕ)) (gs : List GateLine) (names : List (List ℕ)) → names ≡ ins ++ (ns ++ gateNames gs) → Earlier ins ns gs → LowerPins names (length ins + length ns) gs
+pub lower-pins : (ins ns : List (List ℕ)) (gs : List GateLine) (names : List (List ℕ))
+    → names ≡ ins ++ (ns ++ gateNames gs) → Earlier ins ns gs → LowerPins names (length ins + length ns) gs
 unfolding Earlier LowerPins
 lower-pins ins ns [] names e k = tt
 lower-pins ins ns (g ∷ gs) names e k =
-    let z : length ins + length (ns ++ (g .name ∷ [])) ≡ suc (length ins + length ns) = omega (arith, length-append ns (g .name ∷ [])) in (
-      subst (λ (l : List (List ℕ)). Below (length ins + length ns) (map (λ y. place y l) (g .pins))) (sym e) (known-below ins ns (gateNames (g ∷ gs)) (g .pins) (k .0)),
-      subst (λ (n : ℕ). LowerPins names n gs) z (lower-pins ins (ns ++ (g .name ∷ [])) gs names
-          (e ∙ ap (λ (l : List (List ℕ)). ins ++ l) (sym (append-assoc ns (g .name ∷ []) (gateNames gs)))) (k .1)),
+    let z : length ins + length (ns ++ (g .name ∷ [])) ≡ suc (length ins + length ns) =
+    omega (arith, length-append ns (g .name ∷ [])) in
+    let q = e ∙ ap (λ (l : List (List ℕ)). ins ++ l) (sym (append-assoc ns (g .name ∷ []) (gateNames gs))) in
+    let known = known-below ins ns (gateNames (g ∷ gs)) (g .pins) (k .0) in (
+      subst (λ (l : List (List ℕ)). Below (length ins + length ns) (pinNets l g)) (sym e) known,
+      subst (λ (n : ℕ). LowerPins names n gs) z (lower-pins ins (ns ++ (g .name ∷ [])) gs names q (k .1)),
     )
 
 below-all : (b : ℕ) (ns : List ℕ) → Below b ns → T (allOf (λ p. ltb p b) ns)
@@ -90,60 +96,53 @@ below-more b d (n ∷ ns) h t = (omega (arith, t .0), below-more b d ns h (t .1)
 
 -- ---- gates
 
-module _ (names : List (List ℕ)) (g : GateLine) (cs rest : List ℕ) (low : Below (length cs) (map (λ y. place y names) (g .pins)))
-    (few : length cs ≤ 512) (fit : (1 ≤ g .kind) × (g .kind ≤ 8) × (pinsFit (g .kind) (length (g .pins)) ≡ true)) where
+module _ (names : List (List ℕ)) (g : GateLine) (cs rest : List ℕ) (low : Below (length cs) (pinNets names g))
+    (few : length cs ≤ 512) (fit : GateFits g) where
   abbrev ns : List ℕ
-  ns = map (λ y. place y names) (g .pins)
+  ns = pinNets names g
 
   abbrev bs : List ℕ
-  bs = gateBytes (g .kind) (map (λ y. place y names) (g .pins)) ++ rest
+  bs = gateBytes (g .kind) ns ++ rest
 
-  gate-length : length (gateBytes (g .kind) (map (λ y. place y names) (g .pins)) ++ rest) ≡ 4 + 2 * length (map (λ y. place y names) (g .pins)) + length rest
-  gate-length = omega (arith, length-append (gateBytes (g .kind) (map (λ y. place y names) (g .pins))) rest, length-gate (g .kind) (map (λ y. place y names) (g .pins)))
+  gate-length : length bs ≡ 4 + 2 * length ns + length rest
+  gate-length = omega (arith, length-append (gateBytes (g .kind) ns) rest, length-gate (g .kind) ns)
 
-  gate-pins : gateIn (gateBytes (g .kind) (map (λ y. place y names) (g .pins)) ++ rest) .pins ≡ map (λ y. place y names) (g .pins)
+  gate-pins : gateIn bs .pins ≡ ns
   unfolding gateBytes
-  gate-pins = fields-back (map (λ y. place y names) (g .pins)) rest (below-more (length cs) 65536 (map (λ y. place y names) (g .pins)) (omega arith) low)
+  gate-pins = fields-back ns rest (below-more (length cs) 65536 ns (omega arith) low)
 
-  gate-is : gateIn (gateBytes (g .kind) (map (λ y. place y names) (g .pins)) ++ rest) ≡ gateFor names g
+  gate-is : gateIn bs ≡ gateFor names g
   unfolding gateBytes gateFor
   gate-is = ap (λ (p : List ℕ). record { kind = kindOf (g .kind); pins = p }) gate-pins
 
-  gate-after : drop (4 + 2 * getD (gateBytes (g .kind) (map (λ y. place y names) (g .pins)) ++ rest) 3 0) (gateBytes (g .kind) (map (λ y. place y names) (g .pins)) ++ rest) ≡ rest
+  gate-after : drop (4 + 2 * getD bs 3 0) bs ≡ rest
   unfolding gateBytes
-  gate-after = sym (drop-drop (2 * length (map (λ y. place y names) (g .pins))) 4 (gateBytes (g .kind) (map (λ y. place y names) (g .pins)) ++ rest))
-      ∙ nets-after (map (λ y. place y names) (g .pins)) rest
+  gate-after = sym (drop-drop (2 * length ns) 4 bs) ∙ nets-after ns rest
 
-  gate-rules : checks (gateRules (length cs) cs (gateBytes (g .kind) (map (λ y. place y names) (g .pins)) ++ rest))
-      ≡ (check 17 (leb (countIn cs (gateBytes (g .kind) (map (λ y. place y names) (g .pins)) ++ rest)) maxCount) >> value tt)
+  gate-rules : checks (gateRules (length cs) cs bs) ≡ (check 17 (leb (countIn cs bs) maxCount) >> value tt)
   unfolding gateBytes
   gate-rules =
-      let n : length (map (λ y. place y names) (g .pins)) ≡ length (g .pins) = length-map (g .pins) (λ y. place y names) in
-      let b = gateBytes (g .kind) (map (λ y. place y names) (g .pins)) ++ rest in
+      let n : length ns ≡ length (g .pins) = length-map (g .pins) (λ y. place y names) in
+      let b = bs in
+      let mark = both (leb 4 (length b)) (marked 0x47 0x54 b) (le→leb 4 (length b) (omega (arith, gate-length))) tt in
+      let kind = both (leb 1 (g .kind)) (leb (g .kind) 8) (le→leb 1 (g .kind) (fit .0)) (le→leb (g .kind) 8 (fit .1)) in
+      let pins = true→T (pinsFit (g .kind) (length ns)) (ap (λ (m : ℕ). pinsFit (g .kind) m) n ∙ fit .2) in
+      let whole = le→leb (4 + 2 * length ns) (length b) (omega (arith, gate-length)) in
+      let lower =
+      subst (λ (l : List ℕ). T (allOf (λ p. ltb p (length cs)) l)) (sym gate-pins) (below-all (length cs) ns low) in
       but-last
-      ((12, leb 4 (length b) && marked 0x47 0x54 b) ∷ (13, within 1 8 (getD b 2 0)) ∷ (14, pinsFit (getD b 2 0) (getD b 3 0)) ∷ (12, leb (4 + 2 * getD b 3 0) (length b)) ∷
-      (15, allOf (λ p. ltb p (length cs)) (gateIn b .pins)) ∷ [])
-      17 (leb (countIn cs b) maxCount) (
-        both (leb 4 (length b)) (marked 0x47 0x54 b) (le→leb 4 (length b) (omega (arith, gate-length))) tt,
-        (
-          both (leb 1 (g .kind)) (leb (g .kind) 8) (le→leb 1 (g .kind) (fit .0)) (le→leb (g .kind) 8 (fit .1)),
-          (
-            true→T (pinsFit (g .kind) (length (map (λ y. place y names) (g .pins)))) (ap (λ (m : ℕ). pinsFit (g .kind) m) n ∙ fit .2),
-            (
-              le→leb (4 + 2 * length (map (λ y. place y names) (g .pins))) (length b) (omega (arith, gate-length)),
-              (subst (λ (l : List ℕ). T (allOf (λ p. ltb p (length cs)) l)) (sym gate-pins) (below-all (length cs) (map (λ y. place y names) (g .pins)) low), tt),
-            ),
-          ),
-        ),
-      )
+      ((12, leb 4 (length b) && marked 0x47 0x54 b) ∷ (13, within 1 8 (getD b 2 0)) ∷ (14, pinsFit (getD b 2 0) (getD b 3 0))
+      ∷ (12, leb (4 + 2 * getD b 3 0) (length b)) ∷ (15, allOf (λ p. ltb p (length cs)) (gateIn b .pins)) ∷ [])
+      17 (leb (countIn cs b) maxCount) (mark, (kind, (pins, (whole, (lower, tt)))))
 
 -- one gate, as the reader goes on
-gate-refused : (n : ℕ) (cs bs : List ℕ) → checks (gateRules (length cs) cs bs) ≡ refused 17 → readGates (suc n) cs bs ≡ refused 17
+gate-refused : (n : ℕ) (cs bs : List ℕ) → checks (gateRules (length cs) cs bs) ≡ refused 17
+    → readGates (suc n) cs bs ≡ refused 17
 unfolding readGates
 gate-refused n cs bs e = rw (e, readGates) refl
 
-gate-taken : (n : ℕ) (cs bs : List ℕ) → checks (gateRules (length cs) cs bs) ≡ value tt
-    → readGates (suc n) cs bs ≡ (readGates n (cs ++ (countIn cs bs ∷ [])) (drop (4 + 2 * getD bs 3 0) bs) >>= λ r. value (gateIn bs ∷ r .0, r .1))
+gate-taken : (n : ℕ) (cs bs : List ℕ) → checks (gateRules (length cs) cs bs) ≡ value tt → readGates (suc n) cs bs
+    ≡ (readGates n (cs ++ (countIn cs bs ∷ [])) (drop (4 + 2 * getD bs 3 0) bs) >>= λ r. value (gateIn bs ∷ r .0, r .1))
 unfolding readGates
 gate-taken n cs bs e = rw (e, readGates) refl
 
@@ -154,33 +153,36 @@ unfoldable pub Read21 : {A : Type 0} → Answer A → A → Type 0
 Read21 x a = (x ≡ refused 21) ⊎ (x ≡ value a)
 
 -- the next gate in front of those that are read after it
-gates-join : (n : ℕ) (names : List (List ℕ)) (g : GateLine) (gs : List Gate) (cs tail rest : List ℕ) → Below (length cs) (map (λ y. place y names) (g .pins)) → length cs ≤ 512
-    → (1 ≤ g .kind) × (g .kind ≤ 8) × (pinsFit (g .kind) (length (g .pins)) ≡ true)
-    → ((k : ℕ) → Read17 (readGates n (cs ++ (k ∷ [])) tail) (gs, rest))
-    → Read17 (readGates (suc n) cs (gateBytes (g .kind) (map (λ y. place y names) (g .pins)) ++ tail)) (gateFor names g ∷ gs, rest)
+gates-join : (n : ℕ) (names : List (List ℕ)) (g : GateLine) (gs : List Gate) (cs tail rest : List ℕ)
+    → Below (length cs) (pinNets names g) → length cs ≤ 512
+    → GateFits g → ((k : ℕ) → Read17 (readGates n (cs ++ (k ∷ [])) tail) (gs, rest))
+    → Read17 (readGates (suc n) cs (gateBytes (g .kind) (pinNets names g) ++ tail)) (gateFor names g ∷ gs, rest)
 unfolding Read17
 gates-join n names g gs cs tail rest low few fit ih =
-    let bs = gateBytes (g .kind) (map (λ y. place y names) (g .pins)) ++ tail in
+    let bs = gateBytes (g .kind) (pinNets names g) ++ tail in
     let count = countIn cs bs in
     ⊎-elim
     (λ e.
     let t : checks (gateRules (length cs) cs bs) ≡ value tt = gate-rules names g cs tail low few fit ∙ rw e refl in
-    let u : readGates (suc n) cs bs ≡ (readGates n (cs ++ (count ∷ [])) tail >>= λ r. value (gateIn bs ∷ r .0, r .1)) =
-    gate-taken n cs bs t ∙ ap (λ (l : List ℕ). readGates n (cs ++ (count ∷ [])) l >>= λ r. value (gateIn bs ∷ r .0, r .1)) (gate-after names g cs tail low few fit) in
+    let go : List ℕ → Answer (List Gate × List ℕ) = λ l. readGates n (cs ++ (count ∷ [])) l >>= λ r. value (gateIn bs ∷ r .0, r .1) in
+    let u : readGates (suc n) cs bs ≡ go tail = gate-taken n cs bs t ∙ ap go (gate-after names g cs tail low few fit) in
     ⊎-elim
     (λ q. inl (u ∙ rw q refl))
     (λ q. inr (u ∙ rw q (ap (λ (x : Gate). value (x ∷ gs, rest)) (gate-is names g cs tail low few fit))))
     (ih count))
     (λ e. inl (gate-refused n cs bs (gate-rules names g cs tail low few fit ∙ rw e refl)))
-    (bool-cases (leb (countIn cs (gateBytes (g .kind) (map (λ y. place y names) (g .pins)) ++ tail)) maxCount))
+    (bool-cases (leb count maxCount))
 
-pub gates-read : (names : List (List ℕ)) (gs : List GateLine) (net : ℕ) (cs rest : List ℕ) → length cs ≡ net → net + length gs ≤ 512 → LowerPins names net gs → GatesFit gs
+pub gates-read : (names : List (List ℕ)) (gs : List GateLine) (net : ℕ) (cs rest : List ℕ) → length cs ≡ net
+    → net + length gs ≤ 512 → LowerPins names net gs → GatesFit gs
     → Read17 (readGates (length gs) cs (gateRecords names gs ++ rest)) (map (gateFor names) gs, rest)
 unfolding LowerPins GatesFit gateRecords readGates Read17
 gates-read names [] net cs rest e h l f = inr refl
 gates-read names (g ∷ gs) net cs rest e h l f =
-    let b = gateBytes (g .kind) (map (λ y. place y names) (g .pins)) in
-    subst (λ (z : List ℕ). Read17 (readGates (suc (length gs)) cs z) (gateFor names g ∷ map (gateFor names) gs, rest)) (sym (append-assoc b (gateRecords names gs) rest))
-    (gates-join (length gs) names g (map (gateFor names) gs) cs (gateRecords names gs ++ rest) rest (subst (λ (n : ℕ). Below n (map (λ y. place y names) (g .pins))) (sym e) (l .0))
-    (omega arith) (f .0)
+    let tail = gateRecords names gs ++ rest in
+    let read = map (gateFor names) gs in
+    let low = subst (λ (n : ℕ). Below n (pinNets names g)) (sym e) (l .0) in
+    let split = sym (append-assoc (gateBytes (g .kind) (pinNets names g)) (gateRecords names gs) rest) in
+    subst (λ (z : List ℕ). Read17 (readGates (suc (length gs)) cs z) (gateFor names g ∷ read, rest)) split
+    (gates-join (length gs) names g read cs tail rest low (omega arith) (f .0)
     (λ k. gates-read names gs (suc net) (cs ++ (k ∷ [])) rest (omega (arith, length-append cs (k ∷ []))) (omega arith) (l .1) (f .1)))

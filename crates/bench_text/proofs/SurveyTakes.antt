@@ -1,56 +1,59 @@
 -- The survey takes every result, unless its counts pass 2^62: the netlist read from it is the circuit's.
 -- Assumes nothing.
-use Prim.Native.Nat.{ℕ, zero, suc, _+_, _-_, _*_, _/_, _%_, _≤_, _<_}
-use mathlib.Core.Path.{_≡_, refl, ap, sym, _∙_, subst}
-use mathlib.Core.Bool.{Bool, true, false, _&&_}
+use Prim.Native.Nat.{ℕ, suc, _+_, _-_, _≤_, _<_}
+use mathlib.Core.Path.{_≡_, refl, ap, _∙_, subst}
+use mathlib.Core.Bool.{_&&_}
 use mathlib.Core.Logic.{_⊎_, inl, inr, ⊎-elim}
-use mathlib.Core.List.{List, [], _∷_, _++_, map, append-assoc, append-nil}
+use mathlib.Core.List.{List, [], _∷_, _++_, map}
 use native.Mathlib.Omega.{arith}
-use native.Mathlib.Numerals.{add-one}
-use borrow.Author.Tests.{ltb-true}
 use lib.Dec.{T, ltb, leb, eqb, le→leb, lt→ltb, leb→le, ltb→lt}
-use lib.ListN.{length, getD, take, drop, replicate, length-append, length-map, length-replicate}
-use lib.Seq.{drop-drop}
-use Rattle.model.specs.Base.{Answer, refused, value, _>>=_, _>>_, check, Rule, checks, allOf, field, fromLittleEndian, littleEndian}
+use lib.ListN.{length, drop, replicate, length-append, length-map, length-replicate}
+use Rattle.model.specs.Base.{Answer, refused, value, _>>=_, _>>_, check, checks, field}
 use Rattle.model.specs.Netlist.{Netlist, Gate, netByNet, gateCount, maxCount, maxNets, outputCount}
-use Rattle.model.specs.Read.{marked, within, kindOf, pinsFit, netFields, gateIn, countIn, gateRules, readGates, outputRules, readOutputs, inputsIn}
-use Rattle.model.specs.Read.{gatesIn, outputsIn, headerRange, headerRules, inputCounts, readNetlist}
-use Rattle.model.specs.Encode.{headerBytes, netBytes, gateBytes, outputBytes}
-use Rattle.model.proofs.BoolLaws.{both, all4, and3, T→true, true→T, bool-cases, le-or-lt, and-left, and-right}
-use Rattle.model.proofs.AnswerLaws.{AllPass, →checks, checks→, checks-both, steps, then-first, then-second, value-inj}
+use Rattle.model.specs.Read.{marked, within, readGates, outputRules, readOutputs, inputsIn}
+use Rattle.model.specs.Read.{gatesIn, outputsIn, headerRules, readNetlist}
+use Rattle.model.specs.Encode.{headerBytes, outputBytes}
+use Rattle.model.proofs.BoolLaws.{both, all4, and3, bool-cases, and-left, and-right}
+use Rattle.model.proofs.AnswerLaws.{AllPass, →checks, checks→, steps, then-first, then-second, value-inj}
 use Rattle.model.proofs.WellFormed.{ascendingNets}
-use Rattle.bench_text.specs.Text.{place, isIn, linesOf}
-use Rattle.bench_text.specs.Circuit.{GateLine, Circuit, emptyCircuit, netNames, lineByLine, endRules, circuitOf, gateRecords, outputNets, outputRecords, netlistBytes, converted}
+use Rattle.bench_lines.specs.Text.{linesOf}
+use Rattle.bench_circuit.specs.Circuit.{GateLine, Circuit, emptyCircuit, netNames, lineByLine, endRules, circuitOf}
+use Rattle.bench_text.specs.NetlistFile.{gateRecords, outputNets, outputRecords, netlistBytes, converted}
 use Rattle.bench_text.specs.Taken.{gateFor, netlistOf, TakenUnlessOver}
-use Rattle.bench_text.proofs.PlaceLaws.{place-left, place-right, place-top}
-use Rattle.bench_text.proofs.CircuitLaws.{gateNames, PinsKnown, Earlier, GatesFit, Legal, legal-empty, lines-leave}
-use Rattle.bench_text.proofs.BytesLaws.{outputs-ascend, outputs-count, length-nets, length-gate, length-outputs}
+use Rattle.bench_circuit.proofs.CircuitLaws.{gateNames, Legal, legal-empty, lines-leave}
+use Rattle.bench_text.proofs.BytesLaws.{outputs-ascend, outputs-count}
 use Rattle.bench_text.proofs.ReadBack.{Read21, Read17, LowerPins, lower-pins, but-last, back, gates-read}
 
 -- ---- outputs
 
-output-refused : (n ins nets : ℕ) (cs : List ℕ) (least s : ℕ) (bs : List ℕ) → checks (outputRules ins nets cs least s bs) ≡ refused 21 → readOutputs (suc n) ins nets cs least s bs ≡ refused 21
+output-refused : (n ins nets : ℕ) (cs : List ℕ) (least s : ℕ) (bs : List ℕ)
+    → checks (outputRules ins nets cs least s bs) ≡ refused 21 → readOutputs (suc n) ins nets cs least s bs ≡ refused 21
 unfolding readOutputs
 output-refused n ins nets cs least s bs e = rw (e, readOutputs) refl
 
-output-taken : (n ins nets : ℕ) (cs : List ℕ) (least s : ℕ) (bs : List ℕ) → checks (outputRules ins nets cs least s bs) ≡ value tt
-    → readOutputs (suc n) ins nets cs least s bs ≡ (readOutputs n ins nets cs (suc (field 2 2 bs)) (s + outputCount ins cs (field 2 2 bs)) (drop 4 bs) >>= λ r. value (field 2 2 bs ∷ r .0, r .1))
+output-taken : (n ins nets : ℕ) (cs : List ℕ) (least s : ℕ) (bs : List ℕ)
+    → checks (outputRules ins nets cs least s bs) ≡ value tt → readOutputs (suc n) ins nets cs least s bs
+    ≡ (readOutputs n ins nets cs (suc (field 2 2 bs)) (s + outputCount ins cs (field 2 2 bs)) (drop 4 bs)
+    >>= λ r. value (field 2 2 bs ∷ r .0, r .1))
 unfolding readOutputs
 output-taken n ins nets cs least s bs e = rw (e, readOutputs) refl
 
 output-rules : (o ins nets : ℕ) (cs : List ℕ) (least s : ℕ) (rest : List ℕ) → least ≤ o → o < nets → nets ≤ 512
-    → checks (outputRules ins nets cs least s (outputBytes o ++ rest)) ≡ (check 21 (leb (s + outputCount ins cs (field 2 2 (outputBytes o ++ rest))) maxCount) >> value tt)
+    → checks (outputRules ins nets cs least s (outputBytes o ++ rest))
+    ≡ (check 21 (leb (s + outputCount ins cs (field 2 2 (outputBytes o ++ rest))) maxCount) >> value tt)
 unfolding outputBytes
 output-rules o ins nets cs least s rest l h f =
     let b = outputBytes o ++ rest in
     let e : field 2 2 b ≡ o = back o (omega arith) in
-    but-last ((18, leb 4 (length b) && marked 0x4F 0x55 b) ∷ (19, ltb (field 2 2 b) nets && leb least (field 2 2 b)) ∷ []) 21 (leb (s + outputCount ins cs (field 2 2 b)) maxCount) (
-      both (leb 4 (length b)) (marked 0x4F 0x55 b) (le→leb 4 (length b) (omega arith)) tt,
-      (both (ltb (field 2 2 b) nets) (leb least (field 2 2 b)) (lt→ltb (field 2 2 b) nets (omega arith)) (le→leb least (field 2 2 b) (omega arith)), tt),
-    )
+    let n = field 2 2 b in
+    let mark = both (leb 4 (length b)) (marked 0x4F 0x55 b) (le→leb 4 (length b) (omega arith)) tt in
+    let order = both (ltb n nets) (leb least n) (lt→ltb n nets (omega arith)) (le→leb least n (omega arith)) in
+    but-last ((18, leb 4 (length b) && marked 0x4F 0x55 b) ∷ (19, ltb n nets && leb least n) ∷ [])
+    21 (leb (s + outputCount ins cs n) maxCount) (mark, (order, tt))
 
-output-join : (n o : ℕ) (os : List ℕ) (ins nets : ℕ) (cs : List ℕ) (least s : ℕ) (rest : List ℕ) → least ≤ o → o < nets → nets ≤ 512
-    → ((k : ℕ) → Read21 (readOutputs n ins nets cs (suc o) k rest) (os, [])) → Read21 (readOutputs (suc n) ins nets cs least s (outputBytes o ++ rest)) (o ∷ os, [])
+output-join : (n o : ℕ) (os : List ℕ) (ins nets : ℕ) (cs : List ℕ) (least s : ℕ) (rest : List ℕ) → least ≤ o → o < nets
+    → nets ≤ 512 → ((k : ℕ) → Read21 (readOutputs n ins nets cs (suc o) k rest) (os, []))
+    → Read21 (readOutputs (suc n) ins nets cs least s (outputBytes o ++ rest)) (o ∷ os, [])
 unfolding Read21 outputBytes
 output-join n o os ins nets cs least s rest l h f ih =
     let bs = outputBytes o ++ rest in
@@ -58,19 +61,22 @@ output-join n o os ins nets cs least s rest l h f ih =
     let sum = s + outputCount ins cs (field 2 2 bs) in
     ⊎-elim
     (λ q.
-    let t : checks (outputRules ins nets cs least s bs) ≡ value tt = output-rules o ins nets cs least s rest l h f ∙ rw q refl in
-    let u : readOutputs (suc n) ins nets cs least s bs ≡ (readOutputs n ins nets cs (suc o) sum rest >>= λ r. value (o ∷ r .0, r .1)) =
-    output-taken n ins nets cs least s bs t ∙ ap (λ (m : ℕ). readOutputs n ins nets cs (suc m) sum rest >>= λ r. value (m ∷ r .0, r .1)) e in
+    let t : checks (outputRules ins nets cs least s bs) ≡ value tt =
+    output-rules o ins nets cs least s rest l h f ∙ rw q refl in
+    let go : ℕ → Answer (List ℕ × List ℕ) = λ m. readOutputs n ins nets cs (suc m) sum rest >>= λ r. value (m ∷ r .0, r .1) in
+    let u : readOutputs (suc n) ins nets cs least s bs ≡ go o = output-taken n ins nets cs least s bs t ∙ ap go e in
     ⊎-elim (λ r. inl (u ∙ rw r refl)) (λ r. inr (u ∙ rw r refl)) (ih sum))
     (λ q. inl (output-refused n ins nets cs least s bs (output-rules o ins nets cs least s rest l h f ∙ rw q refl)))
     (bool-cases (leb (s + outputCount ins cs (field 2 2 (outputBytes o ++ rest))) maxCount))
 
-outputs-read : (os : List ℕ) (ins nets : ℕ) (cs : List ℕ) (least s : ℕ) → nets ≤ 512 → T (ascendingNets nets least os) → Read21 (readOutputs (length os) ins nets cs least s (outputRecords os)) (os, [])
+outputs-read : (os : List ℕ) (ins nets : ℕ) (cs : List ℕ) (least s : ℕ) → nets ≤ 512 → T (ascendingNets nets least os)
+    → Read21 (readOutputs (length os) ins nets cs least s (outputRecords os)) (os, [])
 unfolding ascendingNets outputRecords readOutputs Read21
 outputs-read [] ins nets cs least s h t = inr refl
 outputs-read (o ∷ os) ins nets cs least s h t =
     let a = and3 (leb least o) (ltb o nets) (ascendingNets nets (suc o) os) t in
-    output-join (length os) o os ins nets cs least s (outputRecords os) (leb→le least o (a .0)) (ltb→lt o nets (a .1)) h (λ k. outputs-read os ins nets cs (suc o) k h (a .2))
+    output-join (length os) o os ins nets cs least s (outputRecords os) (leb→le least o (a .0)) (ltb→lt o nets (a .1)) h
+    (λ k. outputs-read os ins nets cs (suc o) k h (a .2))
 
 -- ---- the file
 
@@ -81,7 +87,11 @@ body h i g u rest =
     >>= λ o. checks ((20, eqb (length (o .1)) 0) ∷ [])
     >> value (record { inputs = i; gates = gs .0; outputs = o .0 })
 
-module _ (i g u : ℕ) (rest : List ℕ) (i1 : 1 ≤ i) (i64 : i ≤ 64) (g511 : g ≤ 511) (n512 : i + g ≤ 512) (u1 : 1 ≤ u) (u64 : u ≤ 64) where
+one-to-64 : (n : ℕ) → 1 ≤ n → n ≤ 64 → T (within 1 64 n)
+one-to-64 n low high = both (leb 1 n) (leb n 64) (le→leb 1 n low) (le→leb n 64 high)
+
+module _ (i g u : ℕ) (rest : List ℕ) (i1 : 1 ≤ i) (i64 : i ≤ 64) (g511 : g ≤ 511) (n512 : i + g ≤ 512) (u1 : 1 ≤ u)
+    (u64 : u ≤ 64) where
   header-pass : checks (headerRules (headerBytes i g u ++ rest)) ≡ value tt
   unfolding headerBytes
   header-pass =
@@ -89,17 +99,11 @@ module _ (i g u : ℕ) (rest : List ℕ) (i1 : 1 ≤ i) (i64 : i ≤ 64) (g511 :
       let a : inputsIn b ≡ i = back i (omega arith) in
       let c : gatesIn b ≡ g = back g (omega arith) in
       let d : outputsIn b ≡ u = back u (omega arith) in
-      →checks (headerRules b) (
-        both (leb 8 (length b)) (marked 0x4E 0x4C b) (le→leb 8 (length b) (omega arith)) tt,
-        (
-          all4 (within 1 64 (inputsIn b)) (leb (gatesIn b) 511) (leb (inputsIn b + gatesIn b) maxNets) (within 1 64 (outputsIn b))
-              (both (leb 1 (inputsIn b)) (leb (inputsIn b) 64) (le→leb 1 (inputsIn b) (omega arith)) (le→leb (inputsIn b) 64 (omega arith)))
-              (le→leb (gatesIn b) 511 (omega arith))
-              (le→leb (inputsIn b + gatesIn b) maxNets (omega arith))
-              (both (leb 1 (outputsIn b)) (leb (outputsIn b) 64) (le→leb 1 (outputsIn b) (omega arith)) (le→leb (outputsIn b) 64 (omega arith))),
-          tt,
-        ),
-      )
+      let mark = both (leb 8 (length b)) (marked 0x4E 0x4C b) (le→leb 8 (length b) (omega arith)) tt in
+      let numbers = all4 (within 1 64 (inputsIn b)) (leb (gatesIn b) 511) (leb (inputsIn b + gatesIn b) maxNets) (within 1 64 (outputsIn b))
+      (one-to-64 (inputsIn b) (omega arith) (omega arith)) (le→leb (gatesIn b) 511 (omega arith))
+      (le→leb (inputsIn b + gatesIn b) maxNets (omega arith)) (one-to-64 (outputsIn b) (omega arith) (omega arith)) in
+      →checks (headerRules b) (mark, (numbers, tt))
 
   header-read : readNetlist (headerBytes i g u ++ rest) ≡ body (value tt) i g u rest
   unfolding readNetlist headerBytes body
@@ -116,24 +120,28 @@ module _ (i g u : ℕ) (rest : List ℕ) where
   body-gates e = rw e refl
 
   module _ (gs : List Gate) (rest′ : List ℕ) (e : readGates g (replicate i 1) rest ≡ value (gs, rest′)) where
-    body-outputs : readOutputs u i (i + g) (netByNet gateCount 0 (replicate i 1) gs) 0 0 rest′ ≡ refused 21 → body (value tt) i g u rest ≡ refused 21
+    body-outputs : readOutputs u i (i + g) (netByNet gateCount 0 (replicate i 1) gs) 0 0 rest′ ≡ refused 21
+        → body (value tt) i g u rest ≡ refused 21
     unfolding body
     body-outputs q = rw (e, q) refl
 
-    body-whole : (os : List ℕ) → readOutputs u i (i + g) (netByNet gateCount 0 (replicate i 1) gs) 0 0 rest′ ≡ value (os, [])
+    body-whole : (os : List ℕ)
+        → readOutputs u i (i + g) (netByNet gateCount 0 (replicate i 1) gs) 0 0 rest′ ≡ value (os, [])
         → body (value tt) i g u rest ≡ value (record { inputs = i; gates = gs; outputs = os })
     unfolding body
     body-whole os q = rw (e, q) refl
 
 names-fit : (c : Circuit) → 0 + length (netNames c) ≤ length (c .inputs) + length (c .gates)
 unfolding netNames
-names-fit c = omega (arith, length-append (c .inputs) (gateNames (c .gates)), length-map (c .gates) (λ (g : GateLine). g .name))
+names-fit c =
+    omega (arith, length-append (c .inputs) (gateNames (c .gates)), length-map (c .gates) (λ (g : GateLine). g .name))
 
 lower : (c : Circuit) → Legal c → LowerPins (netNames c) (length (c .inputs)) (c .gates)
 unfolding netNames
 lower c l =
     let z : length (c .inputs) + 0 ≡ length (c .inputs) = omega arith in
-    subst (λ (n : ℕ). LowerPins (netNames c) n (c .gates)) z (lower-pins (c .inputs) [] (c .gates) (netNames c) refl (l .earlier))
+    subst (λ (n : ℕ). LowerPins (netNames c) n (c .gates)) z
+    (lower-pins (c .inputs) [] (c .gates) (netNames c) refl (l .earlier))
 
 -- a circuit that passes the rules at the end
 pub circuit-taken : (c : Circuit) → Legal c → AllPass (endRules c) → TakenUnlessOver (netlistBytes c) c
@@ -145,10 +153,14 @@ circuit-taken c l a =
     let names = netNames c in
     let os = outputNets 0 (netNames c) (c .outputs) in
     let gs = map (gateFor (netNames c)) (c .gates) in
-    let rest = gateRecords (netNames c) (c .gates) ++ outputRecords (outputNets 0 (netNames c) (c .outputs)) in
-    let i1 : 1 ≤ length (c .inputs) = leb→le 1 (length (c .inputs)) (and-left (leb 1 (length (c .inputs))) (leb 1 (length (c .outputs))) (a .1 .0)) in
-    let u1 : 1 ≤ length (c .outputs) = leb→le 1 (length (c .outputs)) (and-right (leb 1 (length (c .inputs))) (leb 1 (length (c .outputs))) (a .1 .0)) in
-    let h : readNetlist (netlistBytes c) ≡ body (value tt) I G U rest = header-read I G U rest i1 (l .fewInputs) (l .fewGates) (l .fewNets) u1 (l .fewOutputs) in
+    let cs = netByNet gateCount 0 (replicate I 1) gs in
+    let rest = gateRecords (netNames c) (c .gates) ++ outputRecords os in
+    let i1 : 1 ≤ length (c .inputs) =
+    leb→le 1 (length (c .inputs)) (and-left (leb 1 (length (c .inputs))) (leb 1 (length (c .outputs))) (a .1 .0)) in
+    let u1 : 1 ≤ length (c .outputs) =
+    leb→le 1 (length (c .outputs)) (and-right (leb 1 (length (c .inputs))) (leb 1 (length (c .outputs))) (a .1 .0)) in
+    let h : readNetlist (netlistBytes c) ≡ body (value tt) I G U rest =
+    header-read I G U rest i1 (l .fewInputs) (l .fewGates) (l .fewNets) u1 (l .fewOutputs) in
     let ones : length {A = ℕ} (replicate I 1) ≡ I = length-replicate {A = ℕ} I 1 in
     let count : length os ≡ U = outputs-count 0 (netNames c) (c .outputs) (l .distinct) (l .distinctOutputs) (a .0) in
     ⊎-elim
@@ -157,16 +169,18 @@ circuit-taken c l a =
     ⊎-elim
     (λ r. inr (inr (h ∙ body-outputs I G U rest gs (outputRecords os) q r)))
     (λ r. inl (h ∙ body-whole I G U rest gs (outputRecords os) q os r))
-    (subst (λ (n : ℕ). Read21 (readOutputs n I (I + G) (netByNet gateCount 0 (replicate I 1) gs) 0 0 (outputRecords os)) (os, [])) count
-    (outputs-read os I (I + G) (netByNet gateCount 0 (replicate I 1) gs) 0 0 (l .fewNets) (outputs-ascend (I + G) 0 (netNames c) (c .outputs) (names-fit c)))))
+    (subst (λ (n : ℕ). Read21 (readOutputs n I (I + G) cs 0 0 (outputRecords os)) (os, [])) count
+    (outputs-read os I (I + G) cs 0 0 (l .fewNets) (outputs-ascend (I + G) 0 (netNames c) (c .outputs) (names-fit c)))))
     (gates-read (netNames c) (c .gates) I (replicate I 1) (outputRecords os) ones (l .fewNets) (lower c l) (l .fits))
 
 -- The survey takes every result, unless its counts pass 2^62
-pub survey-takes : (text : List ℕ) (c : Circuit) → circuitOf text ≡ value c → (converted text ≡ value (netlistBytes c)) × TakenUnlessOver (netlistBytes c) c
+pub survey-takes : (text : List ℕ) (c : Circuit) → circuitOf text ≡ value c
+    → (converted text ≡ value (netlistBytes c)) × TakenUnlessOver (netlistBytes c) c
 unfolding converted circuitOf
 survey-takes text c e =
     let s = steps (lineByLine emptyCircuit (linesOf text)) (λ r. checks (endRules r) >> value r) e in
     let p = then-first (checks (endRules (s .got))) (value (s .got)) (s .second) in
     let q : s .got ≡ c = value-inj (then-second (checks (endRules (s .got))) (value (s .got)) (s .second)) in
     let l = lines-leave (linesOf text) emptyCircuit (s .got) legal-empty (s .first) in
-    (rw e refl, subst (λ (r : Circuit). TakenUnlessOver (netlistBytes r) r) q (circuit-taken (s .got) (l .legal) (checks→ (endRules (s .got)) p)))
+    let taken = circuit-taken (s .got) (l .legal) (checks→ (endRules (s .got)) p) in
+    (rw e refl, subst (λ (r : Circuit). TakenUnlessOver (netlistBytes r) r) q taken)

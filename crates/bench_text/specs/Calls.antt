@@ -6,7 +6,8 @@ use lib.Dec.{leb}
 use lib.ListN.{length, drop}
 use Rattle.model.specs.Base.{Answer, refused, value, _>>=_, _>>_, Rule, checks, after}
 use Rattle.model.specs.Refusals.{refusalNumber}
-use Rattle.bench_text.specs.Circuit.{converted, refusedLine}
+use Rattle.bench_circuit.specs.Circuit.{refusedLine}
+use Rattle.bench_text.specs.NetlistFile.{converted}
 use Rattle.bench_text.specs.declared.BenchAnswer.{BenchAnswer}
 use Rattle.bench_text.specs.declared.BenchAnswer.the-variants as bench
 

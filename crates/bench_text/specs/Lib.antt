@@ -1,13 +1,7 @@
--- Document 02's ticket 2 as definitions: ISCAS .bench text and the netlist file that it becomes. Read them in this order.
-pub mod Text
-pub mod Circuit
+-- Document 02's ticket 2: the netlist file that .bench text becomes, after bench_lines' Text and bench_circuit's Circuit. Read them in this order.
+pub mod NetlistFile
 pub mod Taken
 pub mod Calls
 pub mod Examples
-pub mod Reading
-pub mod Keys
-pub mod Stating
-pub mod Judging
 pub mod Writing
 pub mod Converting
-pub mod Ending

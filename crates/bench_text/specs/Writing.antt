@@ -1,24 +1,26 @@
 -- What the writing functions leave in the output buffer, by the keys in lent words.
 -- Assumes nothing.
-use Prim.Native.Nat.{ℕ, zero, suc, _+_, _*_, _≤_}
+use Prim.Native.Nat.{ℕ, zero, suc, _+_, _≤_}
 use mathlib.Core.Path.{_≡_}
-use mathlib.Core.Bool.{Bool, true, false, _&&_}
+use mathlib.Core.Bool.{Bool, true, false}
 use mathlib.Core.List.{List, [], _∷_, _++_, map}
 use lib.Dec.{ltb}
-use lib.ListN.{length, getD, drop}
+use lib.ListN.{length, getD}
 use lib.Seq.{sets}
 use Rattle.model.specs.Encode.{netBytes, gateBytes, outputBytes}
-use Rattle.bench_text.specs.Text.{Statement, blank, input, output, gate, other, tokensFrom, tokensOf, statementOf, pinsFrom}
-use Rattle.bench_text.specs.Keys.{keyPlace}
-use Rattle.bench_text.specs.Judging.{keyNet}
-use Rattle.bench_text.specs.declared.statements.GateParts.{GateParts}
+use Rattle.bench_lines.specs.Text.{Statement, blank, input, output, gate, other, tokensOf, statementOf, linesOf}
+use Rattle.bench_lines.specs.Text.{pinsFrom}
+use Rattle.bench_lines.specs.Reading.{restAt}
+use Rattle.bench_lines.specs.Keys.{keyPlace}
+use Rattle.bench_circuit.specs.Judging.{keyNet}
+use Rattle.bench_lines.specs.declared.inner.statements.GateParts.{GateParts}
 
 -- the pins that are read from a position on, of a gate with so many
 pub record PinsFound (line : List ℕ) (at pins : ℕ) : Type 0 where
   pub x : List ℕ
   pub k : ℕ
   pub ys : List (List ℕ)
-  pub reads : pinsFrom x k [] (tokensFrom [] (drop at line)) ≡ gate x k ys
+  pub reads : pinsFrom x k [] (restAt at line) ≡ gate x k ys
   pub count : length ys ≡ pins
   pub inside : at ≤ length line
 
@@ -26,11 +28,11 @@ unfoldable pub PinsThere : List ℕ → ℕ → ℕ → Type 0
 PinsThere line at pins = PinsFound line at pins
 
 pub record PinsPut (out out′ : List ℕ) (p : ℕ) (line : List ℕ) (at : ℕ) (is : List ℕ) (i : ℕ) (gs : List ℕ) (g : ℕ) : Type 0 where
-  pub put : (x : List ℕ) (k : ℕ) (ys : List (List ℕ)) → pinsFrom x k [] (tokensFrom [] (drop at line)) ≡ gate x k ys
+  pub put : (x : List ℕ) (k : ℕ) (ys : List (List ℕ)) → pinsFrom x k [] (restAt at line) ≡ gate x k ys
       → out′ ≡ sets out p (netBytes (map (keyNet is i gs g) ys))
 
 pub record GatePut (out out′ : List ℕ) (p : ℕ) (line : List ℕ) (parts : GateParts) (is : List ℕ) (i : ℕ) (gs : List ℕ) (g : ℕ) : Type 0 where
-  pub put : (x : List ℕ) (k : ℕ) (ys : List (List ℕ)) → pinsFrom x k [] (tokensFrom [] (drop (parts .at) line)) ≡ gate x k ys
+  pub put : (x : List ℕ) (k : ℕ) (ys : List (List ℕ)) → pinsFrom x k [] (restAt (parts .at) line) ≡ gate x k ys
       → length ys ≡ parts .pins → out′ ≡ sets out p (gateBytes (parts .kind) (map (keyNet is i gs g) ys))
 
 -- the record of a line's gate
@@ -45,6 +47,13 @@ unfoldable pub linesBytes : List ℕ → ℕ → List ℕ → ℕ → List (List
 linesBytes is i gs g [] = []
 linesBytes is i gs g (l ∷ ls) = lineBytes is i gs g (statementOf (tokensOf l)) ++ linesBytes is i gs g ls
 
+-- the gate records of a line's bytes, and of a text's
+abbrev pub bytesOfLine : List ℕ → ℕ → List ℕ → ℕ → List ℕ → List ℕ
+bytesOfLine is i gs g line = lineBytes is i gs g (statementOf (tokensOf line))
+
+abbrev pub bytesOfText : List ℕ → ℕ → List ℕ → ℕ → List ℕ → List ℕ
+bytesOfText is i gs g text = linesBytes is i gs g (linesOf text)
+
 -- a gate has at most 8 pins
 unfoldable pub FewPins : Statement → Type 0
 FewPins blank = Unit {0}
@@ -56,6 +65,10 @@ FewPins (gate x k ys) = length ys ≤ 8
 unfoldable pub AllFewPins : List (List ℕ) → Type 0
 AllFewPins [] = Unit {0}
 AllFewPins (l ∷ ls) = FewPins (statementOf (tokensOf l)) × AllFewPins ls
+
+-- bytes fit into a buffer from a place on
+abbrev pub RoomFor : ℕ → List ℕ → List ℕ → Type 0
+RoomFor p bytes out = p + length bytes ≤ length out
 
 -- bytes written at a place, and the place after them
 pub record BytesPut (r : ℕ) (out out′ : List ℕ) (p : ℕ) (bytes : List ℕ) : Type 0 where
@@ -70,4 +83,5 @@ oneOutput false net = []
 -- the records of the outputs among `n` keys, the first at word `at` with net `net`
 unfoldable pub keyOutputs : List ℕ → ℕ → List ℕ → ℕ → ℕ → ℕ → List ℕ
 keyOutputs os o ws zero at net = []
-keyOutputs os o ws (suc n) at net = oneOutput (ltb (keyPlace (getD ws at 0) (getD ws (at + 1) 0) o 0 os) o) net ++ keyOutputs os o ws n (at + 2) (net + 1)
+keyOutputs os o ws (suc n) at net =
+    oneOutput (ltb (keyPlace (getD ws at 0) (getD ws (at + 1) 0) o 0 os) o) net ++ keyOutputs os o ws n (at + 2) (net + 1)

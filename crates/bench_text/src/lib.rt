@@ -1,22 +1,17 @@
 // The converter from ISCAS .bench text to a netlist file.
-mod ending;
-mod judging;
-mod keys;
-mod lines;
-mod statements;
-mod tokens;
 mod writing;
 
 ghost use Prim.Native.Nat.{_≤_};
 ghost use lib.ListN.{length};
-ghost use Rattle.bench_text.specs.Judging.{WordsRoom};
-ghost use Rattle.bench_text.specs.Converting.{TextHeld, ConvertTrue};
-use crate::ending::EndAnswer;
-use crate::ending::check_end;
-use crate::judging::NameCounts;
-use crate::judging::TextAnswer;
-use crate::judging::judge_text;
+ghost use Rattle.bench_circuit.specs.Judging.{WordsRoom};
+ghost use Rattle.bench_circuit.specs.Ending.{TextHeld};
+ghost use Rattle.bench_text.specs.Converting.{ConvertTrue};
 use crate::writing::put_netlist;
+use bench_circuit::inner::ending::EndAnswer;
+use bench_circuit::inner::ending::check_end;
+use bench_circuit::inner::judging::NameCounts;
+use bench_circuit::inner::judging::TextAnswer;
+use bench_circuit::inner::judging::judge_text;
 use model::Refusal;
 
 // The least bytes of a buffer for a netlist file: a header, 511 gates of 8 pins and 64 outputs.

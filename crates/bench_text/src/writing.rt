@@ -5,19 +5,21 @@ ghost use Prim.Native.Nat.{_+_, _*_, _≤_};
 ghost use lib.ListN.{length};
 ghost use lib.Seq.{sets};
 ghost use Rattle.model.specs.Encode.{headerBytes};
-ghost use Rattle.bench_text.specs.Text.{tokensOf, statementOf, linesOf};
-ghost use Rattle.bench_text.specs.Judging.{NamesRoom};
-ghost use Rattle.bench_text.specs.Converting.{TextSound, FileWritten};
-ghost use Rattle.bench_text.specs.Writing.{PinsThere, PinsPut, GatePut, lineBytes, linesBytes, FewPins, AllFewPins, BytesPut, oneOutput, keyOutputs};
-use crate::judging::NameCounts;
-use crate::keys::find_key;
-use crate::keys::net_at;
-use crate::lines::next_line;
-use crate::statements::GateParts;
-use crate::statements::LineStatement;
-use crate::statements::PinRead;
-use crate::statements::read_pin;
-use crate::statements::read_statement;
+ghost use Rattle.bench_lines.specs.Text.{tokensOf, statementOf, linesOf};
+ghost use Rattle.bench_circuit.specs.Judging.{NamesRoom};
+ghost use Rattle.bench_circuit.specs.Ending.{TextSound};
+ghost use Rattle.bench_text.specs.Converting.{FileWritten};
+ghost use Rattle.bench_text.specs.Writing.{PinsThere, PinsPut, GatePut, FewPins, AllFewPins, bytesOfLine};
+ghost use Rattle.bench_text.specs.Writing.{bytesOfText, RoomFor, BytesPut, oneOutput, keyOutputs};
+use bench_circuit::inner::judging::NameCounts;
+use bench_circuit::inner::names::net_at;
+use bench_lines::inner::keys::find_key;
+use bench_lines::inner::lines::next_line;
+use bench_lines::inner::statements::GateParts;
+use bench_lines::inner::statements::LineStatement;
+use bench_lines::inner::statements::PinRead;
+use bench_lines::inner::statements::read_pin;
+use bench_lines::inner::statements::read_statement;
 use records::inner::put;
 
 // Writes the nets of a gate's pins, which begin at a position of its line.
@@ -34,7 +36,8 @@ fn put_pins(
     requires { ⌜ NamesRoom (now inputs) «input_count» (now gates) «gate_count» ⌝ }
     requires { ⌜ PinsThere (now line) (gate .at) (gate .pins) ⌝ }
     requires { ⌜ «to_place» + 2 * gate .pins ≤ length (now out) ⌝ }
-    ensures { λ _. ⌜ PinsPut (now (out .entry)) (now (out .exit)) «to_place» (now (line .entry)) (gate .at) (now (inputs .entry)) «input_count» (now (gates .entry)) «gate_count» ⌝ }
+    ensures { λ _. ⌜ PinsPut (now (out .entry)) (now (out .exit)) «to_place» (now (line .entry)) (gate .at)
+        (now (inputs .entry)) «input_count» (now (gates .entry)) «gate_count» ⌝ }
 {
     let mut write = to_place;
     let mut place = gate.at;
@@ -75,7 +78,8 @@ fn put_gate(
     requires { ⌜ NamesRoom (now inputs) «input_count» (now gates) «gate_count» ⌝ }
     requires { ⌜ PinsThere (now line) (gate .at) (gate .pins) ⌝ }
     requires { ⌜ («to_place» + 4 + 2 * gate .pins ≤ length (now out)) × (gate .kind ≤ 8) × (gate .pins ≤ 8) ⌝ }
-    ensures { λ _. ⌜ GatePut (now (out .entry)) (now (out .exit)) «to_place» (now (line .entry)) gate (now (inputs .entry)) «input_count» (now (gates .entry)) «gate_count» ⌝ }
+    ensures { λ _. ⌜ GatePut (now (out .entry)) (now (out .exit)) «to_place» (now (line .entry)) gate
+        (now (inputs .entry)) «input_count» (now (gates .entry)) «gate_count» ⌝ }
 {
     put(out, to_place, 2, 0x5447);
     put(out, to_place + 2, 1, gate.kind as u64);
@@ -104,8 +108,10 @@ fn put_line(
 ) -> usize
     requires { ⌜ NamesRoom (now inputs) «input_count» (now gates) «gate_count» ⌝ }
     requires { ⌜ FewPins (statementOf (tokensOf (now line))) ⌝ }
-    requires { ⌜ «to_place» + length (lineBytes (now inputs) «input_count» (now gates) «gate_count» (statementOf (tokensOf (now line)))) ≤ length (now out) ⌝ }
-    ensures { λ r. ⌜ BytesPut r (now (out .entry)) (now (out .exit)) «to_place» (lineBytes (now (inputs .entry)) «input_count» (now (gates .entry)) «gate_count» (statementOf (tokensOf (now (line .entry))))) ⌝ }
+    requires { ⌜ RoomFor «to_place»
+        (bytesOfLine (now inputs) «input_count» (now gates) «gate_count» (now line)) (now out) ⌝ }
+    ensures { λ r. ⌜ BytesPut r (now (out .entry)) (now (out .exit)) «to_place»
+        (bytesOfLine (now (inputs .entry)) «input_count» (now (gates .entry)) «gate_count» (now (line .entry))) ⌝ }
 {
     let statement = read_statement(line);
     match statement {
@@ -141,8 +147,10 @@ pub(crate) fn put_lines(
 ) -> usize
     requires { ⌜ NamesRoom (now inputs) «input_count» (now gates) «gate_count» ⌝ }
     requires { ⌜ AllFewPins (linesOf (now text)) ⌝ }
-    requires { ⌜ «to_place» + length (linesBytes (now inputs) «input_count» (now gates) «gate_count» (linesOf (now text))) ≤ length (now out) ⌝ }
-    ensures { λ r. ⌜ BytesPut r (now (out .entry)) (now (out .exit)) «to_place» (linesBytes (now (inputs .entry)) «input_count» (now (gates .entry)) «gate_count» (linesOf (now (text .entry)))) ⌝ }
+    requires { ⌜ RoomFor «to_place»
+        (bytesOfText (now inputs) «input_count» (now gates) «gate_count» (now text)) (now out) ⌝ }
+    ensures { λ r. ⌜ BytesPut r (now (out .entry)) (now (out .exit)) «to_place»
+        (bytesOfText (now (inputs .entry)) «input_count» (now (gates .entry)) «gate_count» (now (text .entry))) ⌝ }
 {
     let mut write = to_place;
     let mut at = 0;
@@ -158,7 +166,7 @@ pub(crate) fn put_lines(
 
 // Writes an output's record, if it is one; the place after it.
 fn put_output(out: &mut [u8], to_place: usize, net: usize, listed: bool) -> usize
-    requires { ⌜ «to_place» + length (oneOutput listed net) ≤ length (now out) ⌝ }
+    requires { ⌜ RoomFor «to_place» (oneOutput listed net) (now out) ⌝ }
     ensures { λ r. ⌜ BytesPut r (now (out .entry)) (now (out .exit)) «to_place» (oneOutput listed net) ⌝ }
 {
     if listed {
@@ -180,8 +188,9 @@ pub(crate) fn put_outputs(
     output_count: usize,
 ) -> usize
     requires { ⌜ (2 * n ≤ length (now words)) × (2 * «output_count» ≤ length (now outputs)) × (first + n ≤ 1024) ⌝ }
-    requires { ⌜ «to_place» + length (keyOutputs (now outputs) «output_count» (now words) n 0 first) ≤ length (now out) ⌝ }
-    ensures { λ r. ⌜ BytesPut r (now (out .entry)) (now (out .exit)) «to_place» (keyOutputs (now (outputs .entry)) «output_count» (now (words .entry)) n 0 first) ⌝ }
+    requires { ⌜ RoomFor «to_place» (keyOutputs (now outputs) «output_count» (now words) n 0 first) (now out) ⌝ }
+    ensures { λ r. ⌜ BytesPut r (now (out .entry)) (now (out .exit)) «to_place»
+        (keyOutputs (now (outputs .entry)) «output_count» (now (words .entry)) n 0 first) ⌝ }
 {
     let mut write = to_place;
     let mut left = n;
@@ -202,7 +211,8 @@ pub(crate) fn put_outputs(
 // Writes the header.
 pub(crate) fn put_header(out: &mut [u8], counts: NameCounts)
     requires { ⌜ 8 ≤ length (now out) ⌝ }
-    ensures { λ _. ⌜ now (out .exit) ≡ sets (now (out .entry)) 0 (headerBytes (counts .inputs) (counts .gates) (counts .outputs)) ⌝ }
+    ensures { λ _. ⌜ now (out .exit) ≡ sets (now (out .entry)) 0
+        (headerBytes (counts .inputs) (counts .gates) (counts .outputs)) ⌝ }
 {
     put(out, 0, 2, 0x4C4E);
     put(out, 2, 2, counts.inputs as u64);

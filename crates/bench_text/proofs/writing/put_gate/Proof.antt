@@ -2,7 +2,7 @@
 -- Assumes nothing.
 use native.Mathlib.Omega.{arith}
 use borrow.Author.Needs.{needs}
-use Rattle.bench_text.proofs.WriteLaws.{gate-put}
+use Rattle.bench_text.proofs.GateLaws.{gate-put}
 use Rattle.bench_text.proofs.writing.put_gate.Statement.{statement}
 use Rattle.bench_text.proofs.writing.put_gate.Tie as tie
 
@@ -26,11 +26,12 @@ add-put-pins c = search needs
 
 put-pins-requires : tie.Need-put-pins-requires
 put-pins-requires c κs =
-    let s = c .before .before .before .before .before .before .before .before .before .before .before .before .before .before .before .before .before in
-    let first = c .before .before .before .before .before .before .before .before .before .before .out .given in
-    let second = c .before .before .before .before .before .before .out2 .given in
-    let third = c .before .before .out3 .given in
-    (s .pre .0, (s .pre .1 .0, omega (arith, third, second, first, s .pre .1 .1 .0)))
+    let third = c .before .before in
+    let second = third .before .before .before .before in
+    let first = second .before .before .before .before in
+    let made = first .before .before .before .before .before in
+    let pre = made .before .before .pre in
+    (pre .0, (pre .1 .0, omega (arith, third .out3 .given, second .out2 .given, first .out .given, pre .1 .1 .0)))
 
 same-length : tie.Need-same-length
 same-length c = search needs

@@ -1,7 +1,9 @@
 -- `bench_text::writing::put_line` meets its contract: by its statement.
 -- Assumes nothing.
 use borrow.Author.Needs.{needs}
-use Rattle.bench_text.proofs.WriteLaws.{line-put-blank, line-put-other, line-put-input, line-put-output, line-pins-there, line-kind, line-few, line-room, line-twice, line-fits, line-put-gate}
+use Rattle.bench_text.proofs.WriteLaws.{line-put-blank, line-put-other, line-put-input, line-put-output}
+use Rattle.bench_text.proofs.WriteLaws.{line-pins-there, line-kind, line-few, line-room, line-twice, line-fits}
+use Rattle.bench_text.proofs.WriteLaws.{line-put-gate}
 use Rattle.bench_text.proofs.writing.put_line.Statement.{statement}
 use Rattle.bench_text.proofs.writing.put_line.Tie as tie
 
@@ -36,22 +38,22 @@ add-result-2 : tie.Need-add-result-2
 add-result-2 c = search (line-fits, needs)
 
 returns : tie.Need-returns
-returns c = search (line-put-blank, line-put-other, line-put-input, line-put-output, line-put-gate, needs)
+returns c = search (line-put-blank, line-put-other, line-put-input, line-put-output, needs)
 
 returns-2 : tie.Need-returns-2
-returns-2 c = search (line-put-blank, line-put-other, line-put-input, line-put-output, line-put-gate, needs)
+returns-2 c = search (line-put-blank, line-put-other, line-put-input, line-put-output, needs)
 
 returns-3 : tie.Need-returns-3
-returns-3 c = search (line-put-blank, line-put-other, line-put-input, line-put-output, line-put-gate, needs)
+returns-3 c = search (line-put-blank, line-put-other, line-put-input, line-put-output, needs)
 
 returns-4 : tie.Need-returns-4
-returns-4 c = search (line-put-blank, line-put-other, line-put-input, line-put-output, line-put-gate, needs)
+returns-4 c = search (line-put-blank, line-put-other, line-put-input, line-put-output, needs)
 
 same-length : tie.Need-same-length
 same-length c = search needs
 
 returns-5 : tie.Need-returns-5
-returns-5 c = search (line-put-blank, line-put-other, line-put-input, line-put-output, line-put-gate, needs)
+returns-5 c = search (line-put-gate, needs)
 
 pub put-line-spec : {M : Type 1} → statement M
 put-line-spec =

@@ -1,7 +1,8 @@
 -- `bench_text::writing::put_netlist` meets its contract: part by part.
 -- Assumes nothing.
 use borrow.Author.Needs.{needs}
-use Rattle.bench_text.proofs.FileCases.{file-room, file-inputs, file-gates, file-outputs, file-first, file-second, file-few, room-lines, room-inputs, room-gates, file-written}
+use Rattle.bench_text.proofs.FileCases.{file-room, file-inputs, file-gates, file-outputs, file-first}
+use Rattle.bench_text.proofs.FileCases.{file-second, file-few, room-lines, room-inputs, room-gates, file-written}
 use Rattle.bench_text.proofs.writing.put_netlist.Statement.{statement}
 use Rattle.bench_text.proofs.writing.put_netlist.Tie as tie
 
@@ -16,14 +17,18 @@ put-outputs-requires c κs = search (file-inputs, file-outputs, file-first, room
 
 put-outputs-requires-2 : tie.Need-put-outputs-requires-2
 put-outputs-requires-2 c κs =
-    let entry = c .before .before .before .before .before .before .before .before .before .before .before .before .before .before .before .before .before .before in
+    let third = c .before .before .before in
+    let second = third .before .before .before .before in
+    let first = second .before .before .before .before in
+    let made = first .before .before .before .before .before in
+    let entry = made .before .before in
     let a = entry .args in
-    let header = c .before .before .before .before .before .before .before .before .before .before .before .put-header in
-    let lines = c .before .before .before .before .before .before .before .put-lines in
-    let inputs = c .before .before .before .put-outputs in
-    let room = room-gates (a .text .now) (a .netlist .now) (a .inputs .now) (a .gates .now) (a .outputs .now) (a .counts) (entry .pre .0) (entry .pre .1)
-    (header .last .0) (header .ensures) (lines .result) (lines .last .0) (lines .ensures) (inputs .result) (inputs .last .0) (inputs .ensures) in
-    ((search (file-gates, needs), search (file-outputs, needs), search (file-second, needs)), room)
+    let header = first .put-header in
+    let lines = second .put-lines in
+    let inputs = third .put-outputs in
+    let after-lines = room-gates (a .text .now) (a .netlist .now) (a .inputs .now) (a .gates .now) (a .outputs .now) (a .counts)
+    (entry .pre .0) (entry .pre .1) (header .last .0) (header .ensures) (lines .result) (lines .last .0) (lines .ensures) in
+    ((search (file-gates, needs), search (file-outputs, needs), search (file-second, needs)), after-lines (inputs .result) (inputs .last .0) (inputs .ensures))
 
 same-length : tie.Need-same-length
 same-length c = search needs

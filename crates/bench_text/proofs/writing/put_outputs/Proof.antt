@@ -1,12 +1,14 @@
 -- `bench_text::writing::put_outputs` meets its contract: the names that are left, written from here on, give the whole.
 -- Assumes nothing.
 use borrow.Author.Needs.{needs}
-use Rattle.bench_text.proofs.OutputLaws.{OutputsLeft, outputs-start, outputs-words, outputs-same, outputs-nets, outputs-at, outputs-end, outputs-room, outputs-again}
+use Rattle.bench_text.proofs.OutputLaws.{OutputsLeft, outputs-start, outputs-same, outputs-end, outputs-room}
+use Rattle.bench_text.proofs.OutputLaws.{outputs-again}
 use Rattle.bench_text.proofs.writing.put_outputs.Statement.{statement}
 use Rattle.bench_text.proofs.writing.put_outputs.Tie as tie
 
 abbrev Inv-loop : tie.InvT-loop
-Inv-loop out₀ to-place words n first outputs output-count write₀ left₀ at₀ net₀ out write left at net = OutputsLeft out₀ to-place words n first outputs output-count out write left at net
+Inv-loop out₀ to-place words n first outputs output-count write₀ left₀ at₀ net₀ out write left at net =
+    OutputsLeft out₀ to-place words n first outputs output-count out write left at net
 
 abbrev μ-loop : tie.MeasureT-loop
 μ-loop out₀ to-place words n first outputs output-count write₀ left₀ at₀ net₀ out write left at net = left
@@ -49,13 +51,14 @@ loop-less c = search needs
 
 loop-again : tie.Need-loop-again Inv-loop μ-loop
 loop-again c =
-    let l = c .before .before .before .before .before .before .before .before .loop in
-    let a = c .before .before .before .before .before .before .before .before .before .before .before .before .args in
-    let found = c .before .before .before .before .find-key in
-    let put = c .before .before .put-output in
+    let put = c .before .before in
+    let found = put .before .before in
+    let test = found .before .before .before in
+    let l = test .before .loop in
+    let a = test .before .before .before .before .before .args in
     let step = outputs-again (a .out .now) (a .to-place) (a .words .now) (a .n) (a .first) (a .outputs .now) (a .output-count) in
-    step (l .out) (l .write) (l .left) (l .at) (l .net) (l .inv) (c .before .before .before .before .before .before .before .loop-test .taken)
-    (found .result) (found .ensures) (put .result) (put .last .0) (put .ensures)
+    step (l .out) (l .write) (l .left) (l .at) (l .net) (l .inv) (test .loop-test .taken) (found .find-key .result)
+    (found .find-key .ensures) (put .put-output .result) (put .put-output .last .0) (put .put-output .ensures)
 
 same-length : tie.Need-same-length Inv-loop μ-loop
 same-length c = search (outputs-same, needs)

@@ -3,7 +3,8 @@
 use borrow.Author.Needs.{needs}
 use Prim.Native.Nat.{_-_}
 use lib.ListN.{length}
-use Rattle.bench_text.proofs.WriteLaws.{PutSoFar, put-start, put-inside, put-length, put-end, put-room, put-fits, put-stop, put-name, put-less, put-again}
+use Rattle.bench_text.proofs.GateLaws.{PutSoFar, put-start, put-inside, put-length, put-end, put-room, put-fits}
+use Rattle.bench_text.proofs.GateLaws.{put-stop, put-name, put-less, put-again}
 use Rattle.bench_text.proofs.writing.put_pins.Statement.{statement}
 use Rattle.bench_text.proofs.writing.put_pins.Tie as tie
 
@@ -12,7 +13,8 @@ Inv-loop out₀ to-place line inputs input-count gates gate-count write₀ place
     PutSoFar out₀ to-place line place₀ inputs input-count gates gate-count out write place more
 
 abbrev μ-loop : tie.MeasureT-loop
-μ-loop out₀ to-place line inputs input-count gates gate-count write₀ place₀ more₀ out write place more = length line - place
+μ-loop out₀ to-place line inputs input-count gates gate-count write₀ place₀ more₀ out write place more =
+    length line - place
 
 loop-holds : tie.Need-loop-holds Inv-loop μ-loop
 loop-holds c = search (put-start, needs)

@@ -1,0 +1,5 @@
+// Each caller proves what a function requires.
+pub mod keys;
+pub mod lines;
+pub mod statements;
+mod tokens;
