@@ -7,7 +7,7 @@ use Prim.Native.Nat.{ℕ, _≤_}
 use Rattle.differences.specs.Differences.{only}
 use Rattle.claim_text.specs.declared.Kind.{Kind}
 use Rattle.claim_text.specs.declared.Kind.the-variants as kind
-use Rattle.audit_report.specs.declared.explaining.Claim.{Claim}
+use Rattle.audit_report.specs.declared.claims.Claim.{Claim}
 
 -- a claim that is false in class 1, too
 abbrev pub isFalse : Kind → Bool

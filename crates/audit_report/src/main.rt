@@ -2,9 +2,11 @@
 // the current folder; a missing file counts as empty, a missing class file as class 1. Prints the audit's answer, the class that it judged by, its
 // reason as a sentence, and what is false in a report that is refused for its length or its bytes. Where a file can't be read whole it gives no
 // verdict.
+mod claims;
 mod explaining;
 
 use crate::explaining::explain;
+use audit::AuditAnswer;
 use command::close_file;
 use command::file_name;
 use command::is_argument;
@@ -29,7 +31,6 @@ use model::Refusal;
 use model::STORE_WORDS;
 use model::WORK_WORDS;
 use model::known_class;
-use report::AuditAnswer;
 use report::layout::HEAD_BYTES;
 use test_file::Judged;
 use test_file::audit_stream;
@@ -167,21 +168,24 @@ fn needs_plain(answer: AuditAnswer, class: u32) -> bool {
     }
 }
 
-// The true report in class 1 of the same test file, read again, at the start of `plain`, where a report is refused for its claims in class 2. Its
-// length is 0 where there is none: the file can't be read whole again, has another length now, or is not taken whole in class 1.
-fn plain_report(
-    name: &[u8],
-    bytes: u64,
-    netlist: &[u8],
-    plain: &mut [u8],
-    space: &mut [u8],
-    store: &mut [u64],
-    work: &mut [u64],
-) -> usize
+// The true report in class 1 of the same test file, read again, at the start of `plain`. Its length is 0 where there is none: the file can't be read
+// whole again, has another length now, or is not taken whole in class 1.
+fn plain_report(name: &[u8], bytes: u64, netlist: &[u8], plain: &mut [u8]) -> usize
     ensures { λ r. ⌜ Counts r (now (plain .exit)) ⌝ }
 {
+    let mut space = io::large_buffer();
+    let mut store = [0u64; STORE_WORDS];
+    let mut work = [0u64; WORK_WORDS];
     let opened = open_file(name);
-    let reported = report_stream(opened.fd, netlist, NON_ROBUST, plain, space, store, work);
+    let reported = report_stream(
+        opened.fd,
+        netlist,
+        NON_ROBUST,
+        plain,
+        &mut space,
+        &mut store,
+        &mut work,
+    );
     let whole = close_file(name, opened, reported.whole);
     if !whole {
         return 0;
@@ -190,6 +194,26 @@ fn plain_report(
         return 0;
     }
     reported.length
+}
+
+// Prints what an audit found, with the true report in class 1 where a report is refused for its claims in class 2.
+fn print_found(
+    name: &[u8],
+    judged: Judged,
+    all: bool,
+    class: u32,
+    netlist: &[u8],
+    report: &[u8],
+    truth: &[u8],
+) {
+    let answer = judged.answer;
+    if !needs_plain(answer, class) {
+        print_judged(judged, all, class, netlist, report, truth, b"");
+        return;
+    }
+    let mut plain = [0u8; REPORT_BYTES];
+    let n = plain_report(name, judged.bytes, netlist, &mut plain);
+    print_judged(judged, all, class, netlist, report, truth, &plain[..n]);
 }
 
 // The audit, in a class, with the tests of the file that an argument names.
@@ -212,33 +236,17 @@ fn audit_tests(place: usize, all: bool, class: u32, netlist: &[u8], report: &[u8
         &mut work,
     );
     let length = judged.length;
-    let answer = judged.answer;
-    let mut plain = [0u8; REPORT_BYTES];
-    if !close_file(&name[..n], opened, judged.whole) {
-        return;
+    if close_file(&name[..n], opened, judged.whole) {
+        print_found(
+            &name[..n],
+            judged,
+            all,
+            class,
+            netlist,
+            report,
+            &written[..length],
+        );
     }
-    if !needs_plain(answer, class) {
-        print_judged(judged, all, class, netlist, report, &written[..length], b"");
-        return;
-    }
-    let m = plain_report(
-        &name[..n],
-        judged.bytes,
-        netlist,
-        &mut plain,
-        &mut space,
-        &mut store,
-        &mut work,
-    );
-    print_judged(
-        judged,
-        all,
-        class,
-        netlist,
-        report,
-        &written[..length],
-        &plain[..m],
-    );
 }
 
 // The audit, in a class, of the report that an argument names; the test file's is the argument before.

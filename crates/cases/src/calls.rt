@@ -1,12 +1,5 @@
 // The public calls, each with its answer as numbers.
-use crate::answers::Answer;
-use crate::answers::accepted;
-use crate::answers::four;
-use crate::answers::one;
-use crate::answers::refused_by;
-use crate::answers::two;
-use crate::answers::unknown;
-use crate::cells;
+use audit::AuditAnswer;
 use bench_text::BenchAnswer;
 use bench_text::bench_to_netlist;
 use coverage::TestAnswer;
@@ -19,8 +12,15 @@ use load::LoadAnswer;
 use netlist::SurveyAnswer;
 use paths::NumberAnswer;
 use paths::PathAnswer;
-use report::AuditAnswer;
 use report::WriteAnswer;
+use script::inner::answers::Answer;
+use script::inner::answers::accepted;
+use script::inner::answers::four;
+use script::inner::answers::one;
+use script::inner::answers::refused_by;
+use script::inner::answers::two;
+use script::inner::answers::unknown;
+use script::inner::cells;
 use store::EmptyAnswer;
 use store::HeldAnswer;
 use store::TotalsAnswer;
@@ -164,7 +164,7 @@ pub(crate) fn audit(
     store: &mut [u64],
     work: &mut [u64],
 ) -> Answer {
-    let answer = report::audit(netlist, tests, report, class, store, work);
+    let answer = audit::audit(netlist, tests, report, class, store, work);
     match answer {
         AuditAnswer::Accepted => accepted(),
         AuditAnswer::Refused(why) => refused_by(why),

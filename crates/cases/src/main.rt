@@ -1,21 +1,21 @@
 // Makes the calls that the lines of cases.txt name and compares each answer with the one that its line states. Writes each line whose answer is
 // another, or that is not understood, with its number; the last line has the number of comparisons and of wrong lines. The head of cases.txt says
 // how its lines are written.
-mod answers;
+mod buffers;
 mod calls;
-mod cells;
-mod converting;
 mod lines;
 mod names;
-mod netlists;
-mod numbers;
-mod pages;
+mod reading;
+mod storing;
 mod verbs;
-mod words;
+mod writing;
 
 ghost use mathlib.Core.Path.{_≡_};
 ghost use lib.ListN.{length};
-use crate::answers::Tally;
+use crate::buffers::cells_buffer;
+use crate::buffers::words_buffer;
+use script::inner::answers;
+use script::inner::answers::Tally;
 
 // The bytes of the longest script, and one more.
 const SCRIPT_BYTES: usize = 131072;
@@ -29,9 +29,9 @@ fn script_buffer() -> [u8; SCRIPT_BYTES]
 
 // Makes the calls of a script, line by line, on memory that is kept from line to line.
 fn run_script(script: &[u8]) -> Tally {
-    let mut cells = [0u64; 65536];
-    let mut store = [0u64; 16384];
-    let mut work = [0u64; 16384];
+    let mut cells = cells_buffer();
+    let mut store = words_buffer();
+    let mut work = words_buffer();
     lines::run_lines(script, &mut cells, &mut store, &mut work)
 }
 

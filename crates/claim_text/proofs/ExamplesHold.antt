@@ -2,7 +2,6 @@
 -- Assumes nothing.
 use mathlib.Core.Path.{_≡_, refl}
 use mathlib.Core.Bool.{true, false}
-use Prim.Native.Nat.{ℕ}
 use Rattle.faults.specs.declared.Edge.the-variants as edge
 use Rattle.text.specs.Decimal.{digitsOf, decimalText}
 use Rattle.claim_text.specs.declared.Kind.the-variants as kind

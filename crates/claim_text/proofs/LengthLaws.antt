@@ -1,10 +1,9 @@
 -- No line on a refused report is longer than 128 bytes.
 -- Assumes nothing.
-use mathlib.Core.Path.{_≡_, refl, ap, sym, _∙_}
-use mathlib.Core.Bool.{Bool, true, false, _&&_}
-use mathlib.Core.List.{List, [], _∷_, _++_}
+use mathlib.Core.Path.{_≡_}
+use mathlib.Core.Bool.{true, false, _&&_}
 use mathlib.Core.Logic.{⊎-elim}
-use Prim.Native.Nat.{ℕ, zero, suc, _+_, _*_, _/_, _%_, _^_, _≤_, _<_}
+use Prim.Native.Nat.{ℕ, zero, suc, _*_, _/_, _%_, _^_, _≤_, _<_}
 use native.Mathlib.Nat.{div-lt-iff-lt-mul, pow-suc, mod-lt}
 use native.Mathlib.Omega.{arith}
 use borrow.Author.Tests.{lt-ltb, le-ltb}
@@ -54,7 +53,8 @@ field-short field.FallingRuns = omega arith
 
 plural-short : (k : Kind) (count : ℕ) → length (pluralText k count) ≤ 22
 unfolding pluralText
-plural-short kind.FalseClaim count = ⊎-elim (λ (e : eqb count 1 ≡ true). rw (e, pluralText) (omega arith)) (λ (e : eqb count 1 ≡ false). rw (e, pluralText) (omega arith)) (bool-cases (eqb count 1))
+plural-short kind.FalseClaim count =
+    ⊎-elim (λ (e : eqb count 1 ≡ true). rw (e, pluralText) (omega arith)) (λ (e : eqb count 1 ≡ false). rw (e, pluralText) (omega arith)) (bool-cases (eqb count 1))
 plural-short kind.NotRobust count = omega arith
 plural-short kind.Missed count = omega arith
 
@@ -74,11 +74,13 @@ more-short k count = simp length-append (omega (arith, at-most-20 count, plural-
 
 pub field-line-short : (f : Field) (claimed truth : ℕ) → length (fieldText f claimed truth) ≤ 128
 unfolding fieldText
-field-line-short f claimed truth = simp length-append (omega (arith, field-short f, at-most-20 claimed, at-most-20 truth))
+field-line-short f claimed truth =
+    simp length-append (omega (arith, field-short f, at-most-20 claimed, at-most-20 truth))
 
 pub order-short : (e : Edge) (number low high : ℕ) → length (orderText e number low high) ≤ 128
 unfolding orderText
-order-short e number low high = simp length-append (omega (arith, edge-short e, at-most-20 number, at-most-20 low, at-most-20 high))
+order-short e number low high =
+    simp length-append (omega (arith, edge-short e, at-most-20 number, at-most-20 low, at-most-20 high))
 
 -- numbers of few digits
 digits-few : (k most n : ℕ) → n < 10 ^ suc k → length (digitsOf most n) ≤ suc k
@@ -98,9 +100,11 @@ few k n h = digits-few k 20 n h
 percent-short : (part whole : ℕ) → 0 < whole → part ≤ whole → length (percentText part whole) ≤ 7
 unfolding percentText
 percent-short part whole h l =
-    let share : part * 1000 / whole < 1001 = div-lt-iff-lt-mul {k = whole} {x = part * 1000} {y = 1001} h .1 (omega arith) in
+    let share : part * 1000 / whole < 1001 =
+    div-lt-iff-lt-mul {k = whole} {x = part * 1000} {y = 1001} h .1 (omega arith) in
     let high : length (decimalText (part * 1000 / whole / 10)) ≤ 3 = few 2 (part * 1000 / whole / 10) (omega arith) in
-    let low : length (decimalText (part * 1000 / whole % 10)) ≤ 1 = few 0 (part * 1000 / whole % 10) (mod-lt (part * 1000 / whole) (omega arith)) in
+    let low : length (decimalText (part * 1000 / whole % 10)) ≤ 1 =
+    few 0 (part * 1000 / whole % 10) (mod-lt (part * 1000 / whole) (omega arith)) in
     simp length-append (omega (arith, high, low))
 
 count-short : (paths : ℕ) → length (countText paths) ≤ 26

@@ -1,20 +1,21 @@
 -- Lines put together from parts: one part more, a whole line, and the cases of each part.
 -- Assumes nothing.
 use mathlib.Core.Path.{_≡_, refl, ap, sym, _∙_}
-use mathlib.Core.Bool.{Bool, true, false, _&&_, true≢false}
-use mathlib.Core.List.{List, [], _∷_, _++_}
+use mathlib.Core.Bool.{Bool, true, false, _&&_}
+use mathlib.Core.List.{List, [], _++_}
 use Prim.Native.Nat.{ℕ, _-_, _*_, _/_, _%_, _≤_, _<_, min}
 use native.Mathlib.Nat.{min-eq-left, min-eq-right}
 use native.Mathlib.Omega.{arith}
 use borrow.Author.Tests.{le-ltb, lt-ltb, eq-eqb, ne-eqb}
 use lib.Dec.{ltb, leb, ltb→lt, leb→le}
-use lib.ListN.{length, take}
+use lib.ListN.{length}
 use lib.Seq.{take-all}
 use Rattle.model.proofs.BoolLaws.{and-left, and-right, true→T}
 use Rattle.text.specs.Decimal.{decimalText}
 use Rattle.text.specs.Lines.{onLine}
 use Rattle.text.proofs.LineLaws.{onLine-twice}
-use Rattle.claim_text.specs.Claims.{ascii, pathsText, pluralText, countText, percentText, claimedShare, trueShare, roomBeside, shownOf}
+use Rattle.claim_text.specs.Claims.{ascii, pathsText, pluralText, countText, percentText, claimedShare, trueShare}
+use Rattle.claim_text.specs.Claims.{roomBeside, shownOf}
 use Rattle.claim_text.specs.declared.Kind.{Kind}
 use Rattle.claim_text.specs.declared.Kind.the-variants as kind
 
@@ -40,7 +41,8 @@ pub one-path : (low high : ℕ) → low ≡ high → ascii "path " ++ decimalTex
 unfolding pathsText
 one-path low high h = sym (rw (eq-eqb low high h, pathsText) refl)
 
-pub some-paths : (low high : ℕ) → (low ≡ high → ⊥) → ascii "paths " ++ decimalText low ++ ascii " to " ++ decimalText high ≡ pathsText low high
+pub some-paths : (low high : ℕ) → (low ≡ high → ⊥)
+    → ascii "paths " ++ decimalText low ++ ascii " to " ++ decimalText high ≡ pathsText low high
 unfolding pathsText
 some-paths low high h = sym (rw (ne-eqb low high h, pathsText) refl)
 
@@ -55,14 +57,16 @@ count-more paths h = sym (rw (ne-eqb paths 1 h, countText) refl)
 pub percent-parts : (share part whole : ℕ) → share ≡ part * 1000 / whole
     → decimalText (share / 10) ++ ascii "." ++ decimalText (share % 10) ++ ascii " %" ≡ percentText part whole
 unfolding percentText
-percent-parts share part whole e = ap (λ (n : ℕ). decimalText (n / 10) ++ ascii "." ++ decimalText (n % 10) ++ ascii " %") e
+percent-parts share part whole e =
+    ap (λ (n : ℕ). decimalText (n / 10) ++ ascii "." ++ decimalText (n % 10) ++ ascii " %") e
 
 -- Kinds
 pub plural-missed : (k : Kind) (count : ℕ) → k ≡ kind.Missed → ascii "missed" ≡ pluralText k count
 unfolding pluralText
 plural-missed k count e = sym (ap (λ (z : Kind). pluralText z count) e)
 
-pub plural-not-robust : (k : Kind) (count : ℕ) → k ≡ kind.NotRobust → ascii "detected, not robustly" ≡ pluralText k count
+pub plural-not-robust : (k : Kind) (count : ℕ) → k ≡ kind.NotRobust
+    → ascii "detected, not robustly" ≡ pluralText k count
 unfolding pluralText
 plural-not-robust k count e = sym (ap (λ (z : Kind). pluralText z count) e)
 
@@ -70,7 +74,8 @@ pub plural-one : (k : Kind) (count : ℕ) → k ≡ kind.FalseClaim → count �
 unfolding pluralText
 plural-one k count e h = sym (ap (λ (z : Kind). pluralText z count) e ∙ rw (eq-eqb count 1 h, pluralText) refl)
 
-pub plural-more : (k : Kind) (count : ℕ) → k ≡ kind.FalseClaim → (count ≡ 1 → ⊥) → ascii "false claims" ≡ pluralText k count
+pub plural-more : (k : Kind) (count : ℕ) → k ≡ kind.FalseClaim → (count ≡ 1 → ⊥)
+    → ascii "false claims" ≡ pluralText k count
 unfolding pluralText
 plural-more k count e h = sym (ap (λ (z : Kind). pluralText z count) e ∙ rw (ne-eqb count 1 h, pluralText) refl)
 
@@ -84,12 +89,15 @@ module _ (part paths : ℕ) where
 
   module _ (b : Bool) (e : b ≡ (ltb 0 paths && leb part paths)) where
     pub some-paths-there : b ≡ true → 0 < paths
-    some-paths-there h = ltb→lt 0 paths (and-left (ltb 0 paths) (leb part paths) (true→T (ltb 0 paths && leb part paths) (sym e ∙ h)))
+    some-paths-there h =
+        ltb→lt 0 paths (and-left (ltb 0 paths) (leb part paths) (true→T (ltb 0 paths && leb part paths) (sym e ∙ h)))
 
     pub part-there : b ≡ true → part ≤ paths
-    part-there h = leb→le part paths (and-right (ltb 0 paths) (leb part paths) (true→T (ltb 0 paths && leb part paths) (sym e ∙ h)))
+    part-there h =
+        leb→le part paths (and-right (ltb 0 paths) (leb part paths) (true→T (ltb 0 paths && leb part paths) (sym e ∙ h)))
 
-    pub claimed-part : b ≡ true → ascii " (" ++ percentText part paths ++ ascii " of " ++ countText paths ++ ascii ")" ≡ claimedShare part paths
+    pub claimed-part : b ≡ true
+        → ascii " (" ++ percentText part paths ++ ascii " of " ++ countText paths ++ ascii ")" ≡ claimedShare part paths
     unfolding claimedShare
     claimed-part h = let t : (ltb 0 paths && leb part paths) ≡ true = sym e ∙ h in sym (rw (t, claimedShare) refl)
 

@@ -59,7 +59,8 @@ fieldName field.FallingRuns = ascii "falling runs"
 
 -- `tests: claimed 4, true 3`
 unfoldable pub fieldText : Field → ℕ → ℕ → List ℕ
-fieldText f claimed truth = fieldName f ++ ascii ": claimed " ++ decimalText claimed ++ ascii ", true " ++ decimalText truth
+fieldText f claimed truth =
+    fieldName f ++ ascii ": claimed " ++ decimalText claimed ++ ascii ", true " ++ decimalText truth
 
 -- a number of paths
 unfoldable pub countText : ℕ → List ℕ

@@ -2,7 +2,7 @@
 use crate::print;
 use model::Refusal;
 
-// Writes the condition of a refusal as a sentence, with its line end.
+// Writes the condition of a refusal as a sentence, with its line end. A group writes nothing for a refusal that is not of its own.
 pub fn print_condition(fd: i32, why: Refusal) {
     match why {
         Refusal::StoreLength
@@ -42,7 +42,8 @@ fn print_memory(fd: i32, why: Refusal) {
         Refusal::WorkLength => print(fd, b"The working memory has under 8,192 words.\n"),
         Refusal::PathBufferLength => print(fd, b"The path buffer has under 513 words.\n"),
         Refusal::ReportBufferLength => print(fd, b"The report buffer has under 32,802 bytes.\n"),
-        _ => print(fd, b"The netlist buffer has under 10,484 bytes.\n"),
+        Refusal::NetlistBufferLength => print(fd, b"The netlist buffer has under 10,484 bytes.\n"),
+        _ => return,
     }
 }
 
@@ -70,7 +71,8 @@ fn print_header_and_gates(fd: i32, why: Refusal) {
             fd,
             b"A pin of the netlist names a net that is not lower than its gate's.\n",
         ),
-        _ => print(fd, b"A net of the netlist has over 2^62 paths.\n"),
+        Refusal::CountOverLimit => print(fd, b"A net of the netlist has over 2^62 paths.\n"),
+        _ => return,
     }
 }
 
@@ -86,7 +88,8 @@ fn print_outputs(fd: i32, why: Refusal) {
             b"An output of the netlist names no net, or none higher than the output before.\n",
         ),
         Refusal::BytesLeftOver => print(fd, b"The netlist has bytes after its last output.\n"),
-        _ => print(fd, b"The netlist has over 2^62 paths.\n"),
+        Refusal::TotalOverLimit => print(fd, b"The netlist has over 2^62 paths.\n"),
+        _ => return,
     }
 }
 
@@ -96,10 +99,11 @@ fn print_tests(fd: i32, why: Refusal) {
         Refusal::RecordLength => print(fd, b"A test record has the wrong length.\n"),
         Refusal::RecordMark => print(fd, b"A test record does not begin with its mark.\n"),
         Refusal::SpareBit => print(fd, b"A test record has a spare bit set.\n"),
-        _ => print(
+        Refusal::TestFileLength => print(
             fd,
             b"The test file is no whole number of records, or has over 4,294,967,295 of them.\n",
         ),
+        _ => return,
     }
 }
 
@@ -113,10 +117,11 @@ fn print_store_and_work(fd: i32, why: Refusal) {
             b"The store has a word past its last run that is not zero.\n",
         ),
         Refusal::WorkingRuns => print(fd, b"A test makes over 1,024 working runs of an edge.\n"),
-        _ => print(
+        Refusal::StoreRuns => print(
             fd,
             b"With a test the store would have over 1,024 runs of an edge.\n",
         ),
+        _ => return,
     }
 }
 
@@ -124,7 +129,8 @@ fn print_store_and_work(fd: i32, why: Refusal) {
 fn print_questions(fd: i32, why: Refusal) {
     match why {
         Refusal::NoSuchNumber => print(fd, b"The circuit has no path or fault of that number.\n"),
-        _ => print(fd, b"The words are not exactly a path.\n"),
+        Refusal::NotAPath => print(fd, b"The words are not exactly a path.\n"),
+        _ => return,
     }
 }
 
@@ -139,7 +145,8 @@ fn print_report(fd: i32, why: Refusal) {
             fd,
             b"The report's length is not that of the runs that it states.\n",
         ),
-        _ => print(fd, b"The report is not the true report of these tests.\n"),
+        Refusal::ReportBytes => print(fd, b"The report is not the true report of these tests.\n"),
+        _ => return,
     }
 }
 
@@ -154,9 +161,10 @@ fn print_bench(fd: i32, why: Refusal) {
             fd,
             b"A name is not defined on an earlier line or is defined twice, or an output is twice named or never defined.\n",
         ),
-        _ => print(
+        Refusal::BenchCount => print(
             fd,
             b"A number of pins, inputs (1 to 64), gates (to 511), both (to 512) or outputs (1 to 64) is out of range.\n",
         ),
+        _ => return,
     }
 }

@@ -1,55 +1,59 @@
 -- Both edges: the rising runs stay while the falling ones are made.
 -- Assumes nothing.
-use Prim.Native.Nat.{ℕ, zero, suc, _+_, _-_, _*_, _≤_, _<_}
+use Prim.Native.Nat.{ℕ, _*_, _≤_}
 use mathlib.Core.Path.{_≡_, refl, sym, ap, ap₂, _∙_}
-use mathlib.Core.Bool.{Bool, true, false, _&&_}
+use mathlib.Core.Bool.{Bool, true, false, _&&_, true≢false}
 use mathlib.Core.List.{List, [], _∷_}
 use native.Mathlib.Omega.{arith}
 use lib.Dec.{leb}
-use lib.ListN.{length, drop}
+use lib.ListN.{length}
 use borrow.Author.Tests.{leb-true}
-use Rattle.model.specs.Base.{Answer, refused, value, checks}
-use Rattle.model.specs.Store.{maxRuns}
+use Rattle.model.specs.Base.{value, checks}
+use Rattle.model.specs.Netlist.{Netlist}
+use Rattle.model.specs.Path.{rising, falling}
+use Rattle.model.specs.Detect.{Test}
+use Rattle.model.specs.Runs.{Run, workingRuns}
+use Rattle.model.specs.Store.{maxRuns, storeRuns, runsByEdge}
+use Rattle.model.specs.Calls.{runsThen}
 use Rattle.model.proofs.AnswerLaws.{not-refused}
-use Rattle.model.specs.Runs.{Run}
-use Rattle.coverage.specs.Scene.{Case}
-use Rattle.coverage.specs.Edges.{EdgeAt, working}
-use Rattle.coverage.specs.Covers.{thenRuns, edgeOf, EdgeRuns, Covers}
-use Rattle.coverage.specs.Both.{joined, bothOf, CoversBoth}
+use Rattle.model.proofs.RefusalLaws.{refused-inj}
+use Rattle.runs.proofs.RunWordLaws.{length-runs}
+use Rattle.store.specs.Writing.{changed}
+use Rattle.store.specs.declared.inner.writing.Change.{Change}
+use Rattle.store.specs.declared.inner.writing.Change.the-variants.{Kept, Made}
+use Rattle.intervals.specs.Edges.{Case, working}
+use Rattle.coverage.specs.Covers.{thenRuns, edgeOf, Covers}
+use Rattle.coverage.specs.Both.{caseOf, joined, bothOf, CoversBoth}
 use Rattle.coverage.specs.declared.edges.EdgeAnswer.{EdgeAnswer}
 use Rattle.coverage.specs.declared.edges.EdgeAnswer.the-variants.{Covered, OverWork, OverStore}
-use Rattle.coverage.proofs.CoverLaws.{true-not-false}
 use Rattle.coverage.specs.declared.edges.BothAnswer.{BothAnswer}
-use Rattle.coverage.specs.declared.edges.BothAnswer.the-variants.{Fits, WorkOver, StoreOver}
-
-refused-inj : {A : Type 0} {m n : ℕ} → _≡_ {A = Answer A} (refused m) (refused n) → m ≡ n
-refused-inj e = cc
+use Rattle.coverage.specs.declared.edges.BothAnswer.the-variants.{Fits}
 
 -- an edge's answer by its two tests
 workFits : EdgeAnswer → Bool
-workFits (Covered n x) = true
+workFits (Covered d) = true
 workFits OverWork = false
 workFits OverStore = true
 
 storeFits : EdgeAnswer → Bool
-storeFits (Covered n x) = true
+storeFits (Covered d) = true
 storeFits OverWork = true
 storeFits OverStore = false
 
 join-tests : (a b : EdgeAnswer) → bothOf (joined a b) ≡ checks ((50, workFits a && workFits b) ∷ (51, storeFits a && storeFits b) ∷ [])
 unfolding workFits storeFits
-join-tests (Covered n x) (Covered m y) = refl
-join-tests (Covered n x) OverWork = refl
-join-tests (Covered n x) OverStore = refl
+join-tests (Covered d) (Covered d′) = refl
+join-tests (Covered d) OverWork = refl
+join-tests (Covered d) OverStore = refl
 join-tests OverWork b = refl
-join-tests OverStore (Covered m y) = refl
+join-tests OverStore (Covered d′) = refl
 join-tests OverStore OverWork = refl
 join-tests OverStore OverStore = refl
 
 work-test : (a : EdgeAnswer) (p c : Bool) → edgeOf a ≡ checks ((50, p) ∷ (51, c) ∷ []) → workFits a ≡ p
 unfolding workFits
-work-test (Covered n x) true c e = refl
-work-test (Covered n x) false c e = absurd (not-refused (sym e))
+work-test (Covered d) true c e = refl
+work-test (Covered d) false c e = absurd (not-refused (sym e))
 work-test OverWork true true e = absurd (not-refused e)
 work-test OverWork true false e = let z : _≡_ {A = ℕ} 50 51 = refused-inj e in absurd (omega arith)
 work-test OverWork false c e = refl
@@ -58,12 +62,12 @@ work-test OverStore false c e = let z : _≡_ {A = ℕ} 51 50 = refused-inj e in
 
 store-test : (a : EdgeAnswer) (p c : Bool) → edgeOf a ≡ checks ((50, p) ∷ (51, c) ∷ []) → p ≡ true → storeFits a ≡ c
 unfolding storeFits
-store-test (Covered n x) true true e h = refl
-store-test (Covered n x) true false e h = absurd (not-refused (sym e))
-store-test (Covered n x) false c e h = absurd (not-refused (sym e))
+store-test (Covered d) true true e h = refl
+store-test (Covered d) true false e h = absurd (not-refused (sym e))
+store-test (Covered d) false c e h = absurd (not-refused (sym e))
 store-test OverWork true true e h = absurd (not-refused e)
 store-test OverWork true false e h = let z : _≡_ {A = ℕ} 50 51 = refused-inj e in absurd (omega arith)
-store-test OverWork false c e h = absurd (true-not-false (sym h))
+store-test OverWork false c e h = absurd (true≢false (sym h))
 store-test OverStore true true e h = absurd (not-refused e)
 store-test OverStore true false e h = refl
 store-test OverStore false c e h = let z : _≡_ {A = ℕ} 51 50 = refused-inj e in absurd (omega arith)
@@ -81,49 +85,42 @@ join-is a b p q c d x y =
     ∙ ap₂ (λ (u v : Bool). checks ((50, u && v) ∷ (51, storeFits a && storeFits b) ∷ [])) (work-test a p c x) (work-test b q d y)
     ∙ both-tests p q c d (storeFits a) (storeFits b) (store-test a p c x) (store-test b q d y)
 
-pub fits-parts : (a b : EdgeAnswer) (n : ℕ) (x : Bool) (m : ℕ) (y : Bool) → joined a b ≡ Fits n x m y → (a ≡ Covered n x) × (b ≡ Covered m y)
-fits-parts (Covered i u) (Covered j v) n x m y e =
-    let p : i ≡ n = cc in
-    let q : u ≡ x = cc in
-    let r : j ≡ m = cc in
-    let s : v ≡ y = cc in
-    (ap₂ Covered p q, ap₂ Covered r s)
-fits-parts (Covered i u) OverWork n x m y e = let z : _≡_ {A = ℕ} 0 1 = cc in absurd (omega arith)
-fits-parts (Covered i u) OverStore n x m y e = let z : _≡_ {A = ℕ} 0 1 = cc in absurd (omega arith)
-fits-parts OverWork b n x m y e = let z : _≡_ {A = ℕ} 0 1 = cc in absurd (omega arith)
-fits-parts OverStore (Covered j v) n x m y e = let z : _≡_ {A = ℕ} 0 1 = cc in absurd (omega arith)
-fits-parts OverStore OverWork n x m y e = let z : _≡_ {A = ℕ} 0 1 = cc in absurd (omega arith)
-fits-parts OverStore OverStore n x m y e = let z : _≡_ {A = ℕ} 0 1 = cc in absurd (omega arith)
+pub fits-parts : (a b : EdgeAnswer) (r f : Change) → joined a b ≡ Fits r f → (a ≡ Covered r) × (b ≡ Covered f)
+fits-parts (Covered d) (Covered d′) r f e = let p : d ≡ r = cc in let q : d′ ≡ f = cc in (ap Covered p, ap Covered q)
+fits-parts (Covered d) OverWork r f e = let z : _≡_ {A = ℕ} 0 1 = cc in absurd (omega arith)
+fits-parts (Covered d) OverStore r f e = let z : _≡_ {A = ℕ} 0 1 = cc in absurd (omega arith)
+fits-parts OverWork b r f e = let z : _≡_ {A = ℕ} 0 1 = cc in absurd (omega arith)
+fits-parts OverStore (Covered d) r f e = let z : _≡_ {A = ℕ} 0 1 = cc in absurd (omega arith)
+fits-parts OverStore OverWork r f e = let z : _≡_ {A = ℕ} 0 1 = cc in absurd (omega arith)
+fits-parts OverStore OverStore r f e = let z : _≡_ {A = ℕ} 0 1 = cc in absurd (omega arith)
 
 -- an edge whose runs fit has few of them
-pub few-fit : (p c : Bool) (l : ℕ) → leb l maxRuns ≡ c → value tt ≡ checks ((50, p) ∷ (51, c) ∷ []) → l ≤ maxRuns
+few-fit : (p c : Bool) (l : ℕ) → leb l maxRuns ≡ c → value tt ≡ checks ((50, p) ∷ (51, c) ∷ []) → l ≤ maxRuns
 few-fit true true l h e = leb-true l maxRuns h
 few-fit true false l h e = absurd (not-refused (sym e))
 few-fit false c l h e = absurd (not-refused (sym e))
 
--- the tables say nothing of the words but their room
-pub edge-again : (K : Case) (file positions pathCounts masks : List ℕ) (edges inputs netCount at outputs : ℕ) (ws ws′ : List ℕ) → length ws′ ≡ length ws
-    → EdgeAt K file positions pathCounts masks edges inputs netCount at outputs ws → EdgeAt K file positions pathCounts masks edges inputs netCount at outputs ws′
-edge-again K file positions pathCounts masks edges inputs netCount at outputs ws ws′ e a =
-    record { scene = a .scene; netsAre = a .netsAre; outputsAt = a .outputsAt; room = omega (arith, a .room) }
+-- what was made of an edge in the third quarter is not touched by what is made in the last
+still-made : {K F : Case} {s f : List Run} {ws₀ ws₁ ws₂ : List ℕ} {a b : EdgeAnswer} → Covers K s ws₀ ws₁ (2 * maxRuns) a → Covers F f ws₁ ws₂ (3 * maxRuns) b
+    → (d : Change) → a ≡ Covered d → changed d ws₂ (2 * maxRuns) s ≡ thenRuns K s
+still-made x y Kept e = x .runsAre Kept e
+still-made {K = K} {s = s} {ws₁ = ws₁} x y (Made n) e =
+    let made = x .runsAre (Made n) e in
+    let few : length (thenRuns K s) ≤ maxRuns =
+    few-fit (leb (working K) maxRuns) (leb (length (thenRuns K s)) maxRuns) (length (thenRuns K s)) refl (ap edgeOf (sym e) ∙ x .answers) in
+    let count : n ≡ length (thenRuns K s) = sym (length-runs ws₁ (2 * maxRuns) n) ∙ ap (length {A = Run}) made in
+    y .between (2 * maxRuns) n (omega arith) (omega arith) ∙ made
 
-pub covers-both : (R F : Case) (r f : List Run) (ws₀ ws₁ ws₂ : List ℕ) (a b : EdgeAnswer) (q : BothAnswer)
-    → Covers R r ws₀ ws₁ (2 * maxRuns) a → Covers F f ws₁ ws₂ (3 * maxRuns) b → q ≡ joined a b → CoversBoth R F r f ws₀ ws₂ q
-covers-both R F r f ws₀ ws₁ ws₂ a b q x y e = record {
+pub covers-both : {N : Netlist} {t : Test} {ws ws₀ ws₁ ws₂ : List ℕ} {a b : EdgeAnswer} {q : BothAnswer}
+    → Covers (caseOf N t rising) (storeRuns ws rising) ws₀ ws₁ (2 * maxRuns) a → Covers (caseOf N t falling) (storeRuns ws falling) ws₁ ws₂ (3 * maxRuns) b
+    → q ≡ joined a b → CoversBoth N t ws ws₀ ws₂ q
+unfolding thenRuns
+covers-both {N = N} {t = t} {ws = ws} {a = a} {b = b} x y e = record {
   answers =
       ap bothOf e
-      ∙ join-is a b (leb (working R) maxRuns) (leb (working F) maxRuns) (leb (length (thenRuns R r)) maxRuns) (leb (length (thenRuns F f)) maxRuns)
-      (x .answers) (y .answers);
-  risingRuns = λ n u m v p.
-      let c = fits-parts a b n u m v (sym e ∙ p) in
-      let i = x .runsAre n u (c .0) in
-      let h : length (thenRuns R r) ≤ maxRuns =
-      few-fit (leb (working R) maxRuns) (leb (length (thenRuns R r)) maxRuns) (length (thenRuns R r)) refl (ap edgeOf (sym (c .0)) ∙ x .answers) in
-      record {
-        areMade = λ t. y .between (2 * maxRuns) n (omega arith) (omega (arith, i .number)) ∙ i .areMade t;
-        areHeld = i .areHeld;
-        number = i .number;
-      };
-  fallingRuns = λ n u m v p. y .runsAre m v (fits-parts a b n u m v (sym e ∙ p) .1);
+      ∙ join-is a b (leb (workingRuns N t rising) maxRuns) (leb (workingRuns N t falling) maxRuns)
+      (leb (length (runsThen N (runsByEdge ws) t rising)) maxRuns) (leb (length (runsThen N (runsByEdge ws) t falling)) maxRuns) (x .answers) (y .answers);
+  risingRuns = λ r f p. still-made x y r (fits-parts a b r f (sym e ∙ p) .0);
+  fallingRuns = λ r f p. y .runsAre f (fits-parts a b r f (sym e ∙ p) .1);
   kept = λ k h. y .kept k (omega arith) ∙ x .kept k (omega arith);
 }

@@ -1,76 +1,61 @@
 -- The test call: what refuses it before the test stage is reached, the class among that, and the stage as the call.
 -- Assumes nothing.
-use mathlib.Core.Path.{_≡_, refl, ap, sym, _∙_, subst}
-use mathlib.Core.Bool.{Bool, true, false, not, true≢false}
+use mathlib.Core.Path.{_≡_, refl, ap, sym, _∙_}
+use mathlib.Core.Bool.{Bool, true, false, not}
 use mathlib.Core.List.{List, [], _∷_}
-use Prim.Native.Nat.{ℕ, _+_, _≤_, _<_}
+use Prim.Native.Nat.{ℕ, _≤_, _<_}
 use native.Mathlib.Omega.{arith}
 use borrow.Author.Tests.{eq-eqb, ne-eqb}
 use lib.Dec.{eqb, leb}
 use lib.ListN.{length}
 use Rattle.model.specs.Base.{Answer, refused, value, _>>=_, _>>_, checks}
-use Rattle.model.specs.Netlist.{Netlist}
-use Rattle.model.specs.Read.{within, classOf, classRule}
+use Rattle.model.specs.Netlist.{Netlist, pathTotal}
+use Rattle.model.specs.Read.{within, readNetlist, classOf, classRule}
 use Rattle.model.specs.Store.{storeWords}
-use Rattle.model.specs.Calls.{workWords, storeRule, workRule, beforeTest, Tested, testStage, testCall, testAnswer, testStore}
+use Rattle.model.specs.Calls.{workWords, storeRule, workRule, beforeTest, testStage, testCall, testAnswer, testStore}
 use Rattle.model.specs.Refusals.{refusalNumber}
 use Rattle.model.specs.declared.Refusal.{Refusal}
 use Rattle.model.specs.declared.Refusal.the-variants as why
 use Rattle.model.proofs.BoolLaws.{le-true, lt-false}
-use Rattle.model.proofs.AnswerLaws.{not-refused}
+use Rattle.model.proofs.AnswerLaws.{AllPass, not-refused, checks→, →checks, pass-first, pass-second, checks-both}
 use Rattle.model.proofs.ReadLaws.{limits}
-use Rattle.netlist.specs.Answers.{LoadTrue}
-use Rattle.netlist.specs.Places.{positionsOf}
-use Rattle.netlist.specs.declared.SurveyAnswer.the-variants as survey
-use Rattle.netlist.specs.declared.inner.Loaded.{Loaded}
-use Rattle.netlist.proofs.LoadLaws.{LegalSurvey, loaded-legal, loaded-refused}
-use Rattle.coverage.specs.Stage.{CircuitTables, storeAfter}
-use Rattle.coverage.specs.TestCall.{CheckedReady, returnedBy, TestedIs, classStage, ClassTested, TestTrue}
+use Rattle.model.proofs.RefusalLaws.{refused-inj}
+use Rattle.netlist.specs.Answers.{LegalLoad, LoadTrue}
+use Rattle.netlist.specs.Tables.{CircuitTables}
+use Rattle.netlist.specs.declared.inner.LoadAnswer.{LoadAnswer}
+use Rattle.netlist.specs.declared.inner.LoadAnswer.the-variants as load
+use Rattle.netlist.specs.declared.inner.Shape.{Shape}
+use Rattle.coverage.specs.Stage.{KnownIs, CheckReady, LegalReady, placeRules, checkedOf, storeAfter}
+use Rattle.coverage.specs.TestCall.{returnedBy, TestedIs, TestTrue}
 use Rattle.coverage.specs.declared.TestAnswer.{TestAnswer}
 use Rattle.coverage.specs.declared.TestAnswer.the-variants.{Refused}
+use Rattle.coverage.specs.declared.inner.StoreKnown.the-variants as known
+use Rattle.coverage.specs.declared.inner.Checked.{Checked}
+use Rattle.coverage.specs.declared.inner.Checked.the-variants as checked
+use Rattle.coverage.proofs.StageLaws.{stage-refused, passes-test, passes-store}
 
--- The class before the test stage
-after-class : {A : Type 0} (x : Answer (Unit {0})) (N : Netlist) (f : Netlist → Answer A) → (x >> value N >>= f) ≡ (x >> f N)
-after-class (refused n) N f = refl
-after-class (value u) N f = refl
+-- ---- the class, before the places Test and Store
 
-class-refused : (class n : ℕ) (N : Netlist) → (checks (classRule class ∷ []) >> value N) ≡ refused n → within 1 2 class ≡ false
-class-refused class n N = go (within 1 2 class)
-  where
-    go : (b : Bool) → (checks ((83, b) ∷ []) >> value N) ≡ refused n → b ≡ false
-    go true e = absurd (not-refused (sym e))
-    go false e = refl
+is-false : (k : Bool) → not k ≡ true → k ≡ false
+is-false true h = sym h
+is-false false h = refl
 
-module _ (N : Netlist) (class : ℕ) (rec ws work : List ℕ) where
-  pub class-unknown : (k : Bool) → k ≡ within 1 2 class → not k ≡ true → ClassTested N class rec ws ws work work (Refused why.UnknownClass)
-  unfolding classStage returnedBy storeAfter
-  class-unknown k e h =
-      let q : within 1 2 class ≡ false = sym e ∙ is-false k h in
-      record {
-        made = record { answer = rw q refl; store = rw q refl; sameLength = refl; pastWork = refl };
-        unknown = λ p. refl;
-      }
-    where
-      is-false : (k : Bool) → not k ≡ true → k ≡ false
-      is-false true h = sym h
-      is-false false h = refl
+is-true : (k : Bool) → not k ≡ false → k ≡ true
+is-true true h = refl
+is-true false h = sym h
 
-  pub class-known : (k : Bool) → k ≡ within 1 2 class → not k ≡ false → (ws′ work′ : List ℕ) (r : TestAnswer)
-      → TestedIs (testStage N (classOf class) rec ws) ws ws′ work work′ r → ClassTested N class rec ws ws′ work work′ r
-  unfolding classStage
-  class-known k e h ws′ work′ r s =
-      let q : within 1 2 class ≡ true = sym e ∙ is-true k h in
-      let c : (checks (classRule class ∷ []) >> testStage N (classOf class) rec ws) ≡ testStage N (classOf class) rec ws = rw q refl in
-      record {
-        made = subst (λ (x : Answer Tested). TestedIs x ws ws′ work work′ r) (sym c) s;
-        unknown = λ p. absurd (true≢false (sym q ∙ p));
-      }
-    where
-      is-true : (k : Bool) → not k ≡ false → k ≡ true
-      is-true true h = refl
-      is-true false h = sym h
+module _ (class inputs paths : ℕ) (rec ws : List ℕ) (k : Bool) (e : k ≡ within 1 2 class) where
+  pub class-unknown : not k ≡ true → (N : Netlist) → inputs ≡ N .inputs → paths ≡ pathTotal N
+      → refused (refusalNumber why.UnknownClass) ≡ checks (classRule class ∷ placeRules N rec ws)
+  class-unknown h N i p = let q : within 1 2 class ≡ false = sym e ∙ is-false k h in rw q refl
 
--- The test stage was not reached
+  pub class-known : not k ≡ false → (c : Checked)
+      → ((N : Netlist) → inputs ≡ N .inputs → KnownIs (known.Unchecked paths) (pathTotal N) ws → checkedOf c ≡ checks (placeRules N rec ws))
+      → (N : Netlist) → inputs ≡ N .inputs → paths ≡ pathTotal N → checkedOf c ≡ checks (classRule class ∷ placeRules N rec ws)
+  class-known h c made N i p = let q : within 1 2 class ≡ true = sym e ∙ is-true k h in made N i p ∙ rw q refl
+
+-- ---- the test stage was not reached
+
 module _ (netlist : List ℕ) (class : ℕ) (rec ws work : List ℕ) where
   not-reached : (w : Refusal) → beforeTest netlist class ws work ≡ refused (refusalNumber w) → TestTrue (Refused w) netlist class rec ws ws work work
   unfolding testAnswer testStore testCall
@@ -98,45 +83,88 @@ module _ (netlist : List ℕ) (class : ℕ) (rec ws work : List ℕ) where
       lent : checks (storeRule ws ∷ workRule work ∷ []) ≡ value tt
       lent = let e : leb workWords (length work) ≡ true = le-true workWords (length work) k in rw (long, e) refl
 
-      module _ (r : Loaded) (t : LoadTrue r netlist) where
-        pub no-netlist : (w : Refusal) → r .answer ≡ survey.Refused w → TestTrue (Refused w) netlist class rec ws ws work work
-        no-netlist w e = not-reached w (rw (lent, loaded-refused r netlist t w e) refl)
+      module _ (counts positions : List ℕ) (a : LoadAnswer) (t : LoadTrue a netlist counts positions) where
+        pub no-netlist : {w : Refusal} → a ≡ load.Refused w → TestTrue (Refused w) netlist class rec ws ws work work
+        no-netlist {w = w} e = let r : readNetlist netlist ≡ refused (refusalNumber w) = rw e at t in not-reached w (rw (lent, r) refl)
 
-        module _ (e : r .answer ≡ survey.Legal) where
-          here : LegalSurvey netlist (r .survey)
-          here = loaded-legal r netlist t e
+        module _ {shape : Shape} {total : ℕ} (e : a ≡ load.Legal shape total) where
+          here : LegalLoad netlist counts positions shape total
+          here = rw e at t
 
-          pub nets-fit : r .survey .inputs + r .survey .gates ≤ 512
-          nets-fit = omega (arith, here .inputsAre, here .gatesAre, limits netlist (here .netlist) (here .isRead) .fewNets)
-
-          tables-of : CircuitTables (here .netlist) netlist (r .positions) (r .survey .counts) (r .survey .inputs) (r .survey .inputs + r .survey .gates) (r .survey .outputs)
-          unfolding here
-          tables-of = record {
-            legal = here .isRead;
-            positionsAre = t .positions ∙ ap (positionsOf netlist) (here .isRead);
-            countsAre = here .countsAre;
-            inputsAre = here .inputsAre;
-            netsAre = omega (arith, here .inputsAre, here .gatesAre);
-            outputsAre = here .outputsAre;
-          }
-
-          pub call-ready : CheckedReady netlist (r .positions) (r .survey .counts) (r .survey .inputs) (r .survey .inputs + r .survey .gates) (r .survey .outputs) (r .survey .total) ws work
-          call-ready = record { circuit = here .netlist; tables = tables-of; total = here .totalIs; storeLength = l; workLength = k }
-
-          pub call-true : (ws′ work′ : List ℕ) (a : TestAnswer)
-              → ((N : Netlist) → CircuitTables N netlist (r .positions) (r .survey .counts) (r .survey .inputs) (r .survey .inputs + r .survey .gates) (r .survey .outputs)
-              → ClassTested N class rec ws ws′ work work′ a) → TestTrue a netlist class rec ws ws′ work work′
-          unfolding testAnswer testStore testCall returnedBy storeAfter classStage
-          call-true ws′ work′ a made =
-              let s = made (here .netlist) tables-of in
-              let b : beforeTest netlist class ws work ≡ (checks (classRule class ∷ []) >> value (here .netlist)) = rw (lent, here .isRead) refl in
-              let d = after-class (checks (classRule class ∷ [])) (here .netlist) (λ N. testStage N (classOf class) rec ws) in
+          pub call-checks : CheckReady (shape .inputs) ws (known.Unchecked total)
+          call-checks =
+              let m = limits netlist (here .circuit) (here .tables .legal) in
               record {
-                answer = s .made .answer ∙ rw (b, d) refl;
-                store = s .made .store ∙ rw (b, d) refl;
-                memory = record {
-                  sameLength = s .made .sameLength;
-                  pastWork = s .made .pastWork;
-                  notReached = λ n q. s .unknown (class-refused class n (here .netlist) (sym b ∙ q));
-                };
+                someInput = omega (arith, here .tables .inputsAre, m .someInput);
+                fewInputs = omega (arith, here .tables .inputsAre, m .fewInputs);
+                long = l;
+                fewPaths = λ n d. (let q : total ≡ n = cc in omega (arith, q, here .totalIs, m .totalFits));
               }
+
+          before-is : beforeTest netlist class ws work ≡ (checks (classRule class ∷ []) >> value (here .circuit))
+          before-is = rw (lent, here .tables .legal) refl
+
+          call-is : (x : Answer (Unit {0})) → checks (classRule class ∷ []) ≡ x
+              → testCall netlist class rec ws work ≡ (x >> testStage (here .circuit) (classOf class) rec ws)
+          unfolding testCall
+          call-is x q = rw (before-is, q) (go x)
+            where
+              go : (y : Answer (Unit {0})) → (y >> value (here .circuit) >>= λ N. testStage N (classOf class) rec ws) ≡ (y >> testStage (here .circuit) (classOf class) rec ws)
+              go (refused n) = refl
+              go (value u) = refl
+
+          module _ (c : Checked)
+              (made : (N : Netlist) → shape .inputs ≡ N .inputs → total ≡ pathTotal N → checkedOf c ≡ checks (classRule class ∷ placeRules N rec ws)) where
+            rules-are : checkedOf c ≡ checks (classRule class ∷ placeRules (here .circuit) rec ws)
+            rules-are = made (here .circuit) (here .tables .inputsAre) (here .totalIs)
+
+            pub call-refused : {w : Refusal} → c ≡ checked.Refused w → TestTrue (Refused w) netlist class rec ws ws work work
+            unfolding testAnswer testStore
+            call-refused {w = w} d =
+                let q : testCall netlist class rec ws work ≡ refused (refusalNumber w) =
+                call-is (checks (classRule class ∷ [])) refl
+                ∙ go (checks (classRule class ∷ [])) (sym (ap checkedOf d) ∙ rules-are ∙ checks-both (classRule class ∷ []) (placeRules (here .circuit) rec ws)) in
+                record { answer = rw q refl; store = rw q refl; memory = record { sameLength = refl; pastWork = refl; notReached = λ n p. refl } }
+              where
+                go : (x : Answer (Unit {0})) → refused (refusalNumber w) ≡ (x >> checks (placeRules (here .circuit) rec ws))
+                    → (x >> testStage (here .circuit) (classOf class) rec ws) ≡ refused (refusalNumber w)
+                go (refused n) p = ap (λ k. refused k) (sym (refused-inj p))
+                go (value u) p = stage-refused (here .circuit) (classOf class) rec ws (refusalNumber w) p
+
+            module _ (d : c ≡ checked.Passed) where
+              all-pass : AllPass (classRule class ∷ placeRules (here .circuit) rec ws)
+              all-pass = checks→ (classRule class ∷ placeRules (here .circuit) rec ws) (record { got = tt; is = sym (sym (ap checkedOf d) ∙ rules-are) })
+
+              class-passes : checks (classRule class ∷ []) ≡ value tt
+              class-passes = →checks (classRule class ∷ []) (pass-first (classRule class ∷ []) (placeRules (here .circuit) rec ws) all-pass)
+
+              places-pass : value tt ≡ checks (placeRules (here .circuit) rec ws)
+              places-pass = sym (→checks (placeRules (here .circuit) rec ws) (pass-second (classRule class ∷ []) (placeRules (here .circuit) rec ws) all-pass))
+
+              pub call-legal : LegalReady netlist positions counts shape rec ws work
+              call-legal = record {
+                stage = record {
+                  circuit = here .circuit;
+                  tables = here .tables;
+                  memory = record { storeLength = l; sound = passes-store (here .circuit) rec ws places-pass; workLength = k };
+                };
+                legalRecord = passes-test (here .circuit) rec ws places-pass;
+              }
+
+              pub call-true : {ws′ work′ : List ℕ} {a : TestAnswer}
+                  → ((N : Netlist) → CircuitTables N netlist positions counts shape → TestedIs (testStage N (classOf class) rec ws) ws ws′ work work′ a)
+                  → TestTrue a netlist class rec ws ws′ work work′
+              unfolding testAnswer testStore returnedBy storeAfter
+              call-true tested =
+                  let s = tested (here .circuit) (here .tables) in
+                  let q : testCall netlist class rec ws work ≡ testStage (here .circuit) (classOf class) rec ws = call-is (value tt) class-passes in
+                  let b : beforeTest netlist class ws work ≡ value (here .circuit) = before-is ∙ rw class-passes refl in
+                  record {
+                    answer = s .answer ∙ rw q refl;
+                    store = s .store ∙ rw q refl;
+                    memory = record {
+                      sameLength = s .sameLength;
+                      pastWork = s .pastWork;
+                      notReached = λ n p. absurd (not-refused (sym p ∙ b));
+                    };
+                  }

@@ -1,8 +1,5 @@
-pub mod Parts
-pub mod Scene
-pub mod Edges
+-- One test on a store: one edge, both edges, one record, the call.
 pub mod Covers
 pub mod Both
-pub mod Stores
 pub mod Stage
 pub mod TestCall

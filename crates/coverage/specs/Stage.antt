@@ -1,36 +1,33 @@
 -- The places Test, Store and Work for one record, as inner functions meet them: what they are handed, and what they answer and leave.
 -- Assumes nothing.
 use mathlib.Core.Path.{_≡_}
-use mathlib.Core.List.{List}
-use Prim.Native.Nat.{ℕ, _≤_, _<_}
-use lib.ListN.{length, getD, drop}
-use Rattle.model.specs.Base.{Answer, refused, value, _>>_, checks, passes, after, bit}
+use mathlib.Core.List.{List, _++_}
+use Prim.Native.Nat.{ℕ, _≤_, _<_, _^_}
+use lib.ListN.{length, drop}
+use Rattle.model.specs.Base.{Answer, refused, value, _>>_, Rule, checks, passes, after, bit}
 use Rattle.model.specs.Netlist.{Netlist, pathTotal}
-use Rattle.model.specs.Netlist as model
 use Rattle.model.specs.Path.{rising, falling}
-use Rattle.model.specs.Detect.{Class, Test, hasEdge, openPin}
-use Rattle.model.specs.Read.{readNetlist, testRules}
+use Rattle.model.specs.Detect.{Class, Test, hasEdge}
+use Rattle.model.specs.Read.{testRules}
 use Rattle.model.specs.Store.{storeWords, storeRules, runsByEdge}
-use Rattle.model.specs.Calls.{padded, workWords, workRules, Tested, storeLeft, tested, testStage}
+use Rattle.model.specs.Calls.{workWords, workRules, Tested, storeLeft, tested, testStage}
 use Rattle.model.specs.Refusals.{refusalNumber}
-use Rattle.netlist.specs.Places as places
+use Rattle.netlist.specs.Tables.{CircuitTables}
+use Rattle.netlist.specs.declared.inner.Shape.{Shape}
+use Rattle.simulation.specs.Circuit.{OpenMasks}
+use Rattle.simulation.specs.declared.inner.test_record.InputEdges.{InputEdges}
+use Rattle.coverage.specs.declared.inner.StoreKnown.{StoreKnown}
+use Rattle.coverage.specs.declared.inner.StoreKnown.the-variants as known
+use Rattle.coverage.specs.declared.inner.Checked.{Checked}
+use Rattle.coverage.specs.declared.inner.Checked.the-variants as checked
 use Rattle.coverage.specs.declared.inner.StageAnswer.{StageAnswer}
 use Rattle.coverage.specs.declared.inner.StageAnswer.the-variants as stage
 
--- a legal netlist, the positions of its gates' records, its counts, and its numbers of inputs, nets and outputs
-pub record CircuitTables (N : Netlist) (netlist positions counts : List ℕ) (inputs nets outputs : ℕ) : Type 0 where
-  pub legal : readNetlist netlist ≡ value N
-  pub positionsAre : positions ≡ places.positions netlist N
-  pub countsAre : counts ≡ padded (model.counts N)
-  pub inputsAre : inputs ≡ N .inputs
-  pub netsAre : nets ≡ model.nets N
-  pub outputsAre : outputs ≡ length (N .outputs)
-
 -- the open pins of each gate and the edges of the inputs, a bit for each, are those of a test
-pub record PinsOf (N : Netlist) (t : Test) (masks : List ℕ) (rises falls : ℕ) : Type 0 where
-  pub opens : (net p : ℕ) → N .inputs ≤ net → net < model.nets N → p < length (model.pinsOf N net) → bit (getD masks net 0) p ≡ openPin N t net p
-  pub rise : (j : ℕ) → j < N .inputs → bit rises j ≡ hasEdge t rising j
-  pub fall : (j : ℕ) → j < N .inputs → bit falls j ≡ hasEdge t falling j
+pub record PinsOf (N : Netlist) (t : Test) (masks : List ℕ) (edges : InputEdges) : Type 0 where
+  pub openPins : OpenMasks N t masks
+  pub rise : (j : ℕ) → j < N .inputs → bit (edges .rises) j ≡ hasEdge t rising j
+  pub fall : (j : ℕ) → j < N .inputs → bit (edges .falls) j ≡ hasEdge t falling j
 
 -- a store that no rule refuses, and working memory long enough
 pub record MemoryReady (N : Netlist) (store work : List ℕ) : Type 0 where
@@ -38,24 +35,43 @@ pub record MemoryReady (N : Netlist) (store work : List ℕ) : Type 0 where
   pub sound : checks (storeRules (pathTotal N) store) ≡ value tt
   pub workLength : workWords ≤ length work
 
-pub record StageReady (netlist positions counts : List ℕ) (inputs nets outputs : ℕ) (store work : List ℕ) : Type 0 where
+pub record StageReady (netlist positions counts : List ℕ) (shape : Shape) (store work : List ℕ) : Type 0 where
   pub circuit : Netlist
-  pub tables : CircuitTables circuit netlist positions counts inputs nets outputs
+  pub tables : CircuitTables circuit netlist positions counts shape
   pub memory : MemoryReady circuit store work
 
--- besides, a record of the right length
-pub record LegalReady (netlist positions counts : List ℕ) (inputs nets outputs : ℕ) (rec store work : List ℕ) : Type 0 where
-  pub stage : StageReady netlist positions counts inputs nets outputs store work
+-- besides, a record that no rule of the place Test refuses
+pub record LegalReady (netlist positions counts : List ℕ) (shape : Shape) (rec store work : List ℕ) : Type 0 where
+  pub stage : StageReady netlist positions counts shape store work
   pub legalRecord : checks (testRules (stage .circuit) rec) ≡ value tt
 
-pub record WorkReady (netlist positions counts masks : List ℕ) (rises falls inputs nets outputs : ℕ) (store work : List ℕ) : Type 0 where
-  pub circuit : Netlist
+-- its open pins and edges instead of the record
+pub record WorkReady (netlist positions counts masks : List ℕ) (edges : InputEdges) (shape : Shape) (store work : List ℕ) : Type 0 where
+  pub stage : StageReady netlist positions counts shape store work
   pub test : Test
-  pub tables : CircuitTables circuit netlist positions counts inputs nets outputs
-  pub pins : PinsOf circuit test masks rises falls
-  pub memory : MemoryReady circuit store work
+  pub pins : PinsOf (stage .circuit) test masks edges
+
+-- what is known of a store before its place: that it is sound, or the number of paths to check it for
+abbrev pub KnownIs : StoreKnown → ℕ → List ℕ → Type 0
+KnownIs known.Sound paths ws = checks (storeRules paths ws) ≡ value tt
+KnownIs (known.Unchecked n) paths ws = n ≡ paths
+
+-- numbers and a store of the right length that the places Test and Store are handed
+pub record CheckReady (inputs : ℕ) (ws : List ℕ) (state : StoreKnown) : Type 0 where
+  pub someInput : 1 ≤ inputs
+  pub fewInputs : inputs ≤ 64
+  pub long : length ws ≡ storeWords
+  pub fewPaths : (n : ℕ) → state ≡ known.Unchecked n → n ≤ 2 ^ 62
+
+-- the rules of the places Test and Store
+abbrev pub placeRules : Netlist → List ℕ → List ℕ → List Rule
+placeRules N rec ws = testRules N rec ++ storeRules (pathTotal N) ws
 
 -- document 01's number for each case
+abbrev pub checkedOf : Checked → Answer (Unit {0})
+checkedOf checked.Passed = value tt
+checkedOf (checked.Refused why) = refused (refusalNumber why)
+
 abbrev pub stageOf : StageAnswer → Answer (Unit {0})
 stageOf stage.Taken = value tt
 stageOf (stage.Refused why) = refused (refusalNumber why)

@@ -1,26 +1,32 @@
 // One test on a store: the test call.
 mod edges;
 pub mod inner;
-mod net_runs;
-mod store_write;
 
-ghost use Rattle.model.specs.Netlist.{Netlist};
-ghost use Rattle.model.specs.Calls.{testStage};
-ghost use Rattle.model.specs.Read.{classOf};
-ghost use Rattle.coverage.specs.Stage.{CircuitTables, LegalReady};
-ghost use Rattle.coverage.specs.TestCall.{CheckedReady, TestedIs, ClassTested, TestTrue};
+ghost use mathlib.Core.Path.{_≡_};
+ghost use mathlib.Core.List.{_∷_};
+ghost use Prim.Native.Nat.{_≤_};
+ghost use lib.ListN.{length};
+ghost use Rattle.model.specs.Base.{checks};
+ghost use Rattle.model.specs.Netlist.{Netlist, pathTotal};
+ghost use Rattle.model.specs.Read.{classOf, classRule};
+ghost use Rattle.model.specs.Store.{storeWords};
+ghost use Rattle.model.specs.Calls.{testStage, workWords};
+ghost use Rattle.netlist.specs.Tables.{CircuitTables};
+ghost use Rattle.coverage.specs.Stage.{LegalReady, CheckReady, placeRules, checkedOf};
+ghost use Rattle.coverage.specs.declared.inner.StoreKnown.the-variants.{Unchecked};
+ghost use Rattle.coverage.specs.TestCall.{TestedIs, TestTrue};
+use crate::inner::Checked;
 use crate::inner::StageAnswer;
-use crate::inner::take_legal;
+use crate::inner::StoreKnown;
+use crate::inner::apply_legal;
+use crate::inner::check_places;
 use model::Refusal;
 use model::STORE_WORDS;
 use model::WORK_WORDS;
 use model::known_class;
-use netlist::SurveyAnswer;
+use netlist::inner::LoadAnswer;
+use netlist::inner::Shape;
 use netlist::inner::load;
-use simulation::inner::test_record::RecordAnswer;
-use simulation::inner::test_record::check_record;
-use store::inner::StoreCheck;
-use store::inner::check_words;
 use store::inner::totals_of;
 
 // What a test answers: for each edge the faults new to the store and those then held.
@@ -39,31 +45,19 @@ pub(crate) fn count_new(
     netlist: &[u8],
     positions: &[u16; 512],
     counts: &[u64; 512],
-    inputs: usize,
-    nets: usize,
-    outputs: usize,
+    shape: Shape,
     test: &[u8],
     class: u32,
     store: &mut [u64],
     work: &mut [u64],
 ) -> TestAnswer
-    requires { ⌜ LegalReady (now netlist) (now positions) (now counts) inputs nets outputs (now test) (now store) (now work) ⌝ }
-    ensures { λ r. ⌜ ((N : Netlist) → CircuitTables N (now (netlist .entry)) (now (positions .entry)) (now (counts .entry)) inputs nets outputs → TestedIs (testStage N (classOf class) (now (test .entry)) (now (store .entry))) (now (store .entry)) (now (store .exit)) (now (work .entry)) (now (work .exit)) r) ⌝ }
+    requires { ⌜ LegalReady (now netlist) (now positions) (now counts) shape (now test) (now store) (now work) ⌝ }
+    ensures { λ r. ⌜ ((N : Netlist) → CircuitTables N (now (netlist .entry)) (now (positions .entry)) (now (counts .entry)) shape
+        → TestedIs (testStage N (classOf class) (now (test .entry)) (now (store .entry)))
+        (now (store .entry)) (now (store .exit)) (now (work .entry)) (now (work .exit)) r) ⌝ }
 {
     let before = totals_of(store);
-    let stage = take_legal(
-        netlist,
-        positions,
-        counts,
-        inputs,
-        nets,
-        outputs,
-        test,
-        class,
-        store,
-        work,
-    );
-    match stage {
+    match apply_legal(netlist, positions, counts, shape, test, class, store, work) {
         StageAnswer::Refused(why) => TestAnswer::Refused(why),
         StageAnswer::Taken => {
             let after = totals_of(store);
@@ -77,81 +71,53 @@ pub(crate) fn count_new(
     }
 }
 
-// The places Test, Store and Work for one record, on a netlist whose tables are at hand and a store that is not checked yet.
-fn test_on(
+// The class, then the places Test and Store for one record, on a store that is not checked yet.
+fn check_call(test: &[u8], class: u32, inputs: usize, store: &[u64], paths: u64) -> Checked
+    requires { ⌜ CheckReady inputs (now store) (Unchecked paths) ⌝ }
+    ensures { λ r. ⌜ ((N : Netlist) → inputs ≡ N .inputs → paths ≡ pathTotal N
+        → checkedOf r ≡ checks (classRule class ∷ placeRules N (now (test .entry)) (now (store .entry)))) ⌝ }
+{
+    if !known_class(class) {
+        return Checked::Refused(Refusal::UnknownClass);
+    }
+    check_places(test, inputs, store, StoreKnown::Unchecked(paths))
+}
+
+// The test call on a store and working memory of the right lengths.
+fn test_netlist(
     netlist: &[u8],
-    positions: &[u16; 512],
-    counts: &[u64; 512],
-    inputs: usize,
-    nets: usize,
-    outputs: usize,
-    paths: u64,
     test: &[u8],
     class: u32,
     store: &mut [u64],
     work: &mut [u64],
 ) -> TestAnswer
-    requires { ⌜ CheckedReady (now netlist) (now positions) (now counts) inputs nets outputs paths (now store) (now work) ⌝ }
-    ensures { λ r. ⌜ ((N : Netlist) → CircuitTables N (now (netlist .entry)) (now (positions .entry)) (now (counts .entry)) inputs nets outputs → TestedIs (testStage N (classOf class) (now (test .entry)) (now (store .entry))) (now (store .entry)) (now (store .exit)) (now (work .entry)) (now (work .exit)) r) ⌝ }
+    requires { ⌜ (length (now store) ≡ storeWords) × (workWords ≤ length (now work)) ⌝ }
+    ensures { λ r. ⌜ TestTrue r (now (netlist .entry)) class (now (test .entry)) (now (store .entry)) (now (store .exit)) (now (work .entry)) (now (work .exit)) ⌝ }
 {
-    let legal = check_record(test, inputs);
-    match legal {
-        RecordAnswer::Refused(why) => TestAnswer::Refused(why),
-        RecordAnswer::Legal => {
-            let sound = check_words(store, paths);
-            match sound {
-                StoreCheck::Refused(why) => TestAnswer::Refused(why),
-                StoreCheck::Sound => count_new(
-                    netlist,
-                    positions,
-                    counts,
-                    inputs,
-                    nets,
-                    outputs,
-                    test,
-                    class,
-                    store,
-                    work,
-                ),
+    let mut counts = [0u64; 512];
+    let mut positions = [0u16; 512];
+    let loaded = load(netlist, &mut counts, &mut positions);
+    match loaded {
+        LoadAnswer::Refused(why) => TestAnswer::Refused(why),
+        LoadAnswer::Legal { shape, total } => {
+            let checked = check_call(test, class, shape.inputs, store, total);
+            match checked {
+                Checked::Refused(why) => TestAnswer::Refused(why),
+                Checked::Passed => {
+                    count_new(
+                        netlist,
+                        &positions,
+                        &counts,
+                        shape,
+                        test,
+                        class,
+                        store,
+                        work,
+                    )
+                }
             }
         }
     }
-}
-
-// The class, then the places Test, Store and Work.
-fn test_in_class(
-    netlist: &[u8],
-    positions: &[u16; 512],
-    counts: &[u64; 512],
-    inputs: usize,
-    nets: usize,
-    outputs: usize,
-    paths: u64,
-    test: &[u8],
-    class: u32,
-    store: &mut [u64],
-    work: &mut [u64],
-) -> TestAnswer
-    requires { ⌜ CheckedReady (now netlist) (now positions) (now counts) inputs nets outputs paths (now store) (now work) ⌝ }
-    ensures { λ r. ⌜ ((N : Netlist) → CircuitTables N (now (netlist .entry)) (now (positions .entry)) (now (counts .entry)) inputs nets outputs → ClassTested N class (now (test .entry)) (now (store .entry)) (now (store .exit)) (now (work .entry)) (now (work .exit)) r) ⌝ }
-{
-    let known = known_class(class);
-    if !known {
-        return TestAnswer::Refused(Refusal::UnknownClass);
-    }
-    test_on(
-        netlist,
-        positions,
-        counts,
-        inputs,
-        nets,
-        outputs,
-        paths,
-        test,
-        class,
-        store,
-        work,
-    )
 }
 
 // The test call, judged in class 1 (non-robust) or 2 (robust): for each edge the number of faults new to the store and the number then held.
@@ -170,24 +136,5 @@ pub fn apply_test(
     if work.len() < WORK_WORDS {
         return TestAnswer::Refused(Refusal::WorkLength);
     }
-    let loaded = load(netlist);
-    let answer = loaded.answer;
-    let survey = loaded.survey;
-    let positions = loaded.positions;
-    match answer {
-        SurveyAnswer::Refused(why) => TestAnswer::Refused(why),
-        SurveyAnswer::Legal => test_in_class(
-            netlist,
-            &positions,
-            &survey.counts,
-            survey.inputs,
-            survey.inputs + survey.gates,
-            survey.outputs,
-            survey.total,
-            test,
-            test_class,
-            store,
-            work,
-        ),
-    }
+    test_netlist(netlist, test, test_class, store, work)
 }

@@ -6,7 +6,7 @@ use Prim.Native.Nat.{ℕ, zero, suc, _+_, _-_, _*_, _/_, _≤_, _<_, min}
 use native.Mathlib.Omega.{arith}
 use native.Mathlib.Nat.{min-eq-left, suc-add, zero-add}
 use lib.ListN.{length, take, drop, length-drop}
-use lib.Seq.{length-take-le, take-take, take-nil, drop-nil}
+use lib.Seq.{length-take-le, take-take, take-nil}
 use Rattle.model.specs.Base.{field, fromLittleEndian}
 use Rattle.model.specs.Path.{rising, falling}
 use Rattle.model.specs.Runs.{Run}
@@ -48,14 +48,15 @@ whole-runs n xs h =
     ap (runsIn (take (16 * n) xs)) e ∙ runs-taken n xs
 
 -- as many runs as are stated from `at` on, where they lie within the report
-part-runs : (report bs : List ℕ) (at n : ℕ) → at + 16 * n ≤ length report → bs ≡ take (16 * min n ((length report - at) / 16)) (drop at report)
-    → runsOfBytes bs ≡ runsIn (drop at report) n
+part-runs : (report bs : List ℕ) (at n : ℕ) → at + 16 * n ≤ length report
+    → bs ≡ take (16 * min n ((length report - at) / 16)) (drop at report) → runsOfBytes bs ≡ runsIn (drop at report) n
 part-runs report bs at n h e =
     let m : min n ((length report - at) / 16) ≡ n = min-eq-left (omega arith) in
     let l : 16 * n ≤ length (drop at report) = simp length-drop (omega arith) in
     ap runsOfBytes (e ∙ ap (λ (k : ℕ). take (16 * k) (drop at report)) m) ∙ whole-runs n (drop at report) l
 
-pub rising-part : (report bs : List ℕ) (n : ℕ) → n ≡ field 14 2 report → bs ≡ take (16 * min n ((length report - 34) / 16)) (drop 34 report)
+pub rising-part : (report bs : List ℕ) (n : ℕ) → n ≡ field 14 2 report
+    → bs ≡ take (16 * min n ((length report - 34) / 16)) (drop 34 report)
     → StatedLength report → runsOfBytes bs ≡ namedRuns report rising
 unfolding namedRuns
 rising-part report bs n e f s = part-runs report bs 34 n (omega arith) f ∙ ap (runsIn (drop 34 report)) e

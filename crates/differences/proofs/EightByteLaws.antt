@@ -21,8 +21,8 @@ field-more : (bs : List ℕ) (at n : ℕ) → field at (suc (suc n)) bs ≡ fiel
 field-more bs at n =
     two-more n (drop at bs) ∙ ap (λ (z : List ℕ). field at 2 bs + 65536 * fromLittleEndian (take n z)) (drop-drop 2 at bs)
 
-pub eight : (bs : List ℕ) (at a b c d : ℕ) → a ≡ field at 2 bs → b ≡ field (at + 2) 2 bs → c ≡ field (at + 4) 2 bs → d ≡ field (at + 6) 2 bs
-    → a + 65536 * b + 4294967296 * c + 281474976710656 * d ≡ field at 8 bs
+pub eight : (bs : List ℕ) (at a b c d : ℕ) → a ≡ field at 2 bs → b ≡ field (at + 2) 2 bs → c ≡ field (at + 4) 2 bs
+    → d ≡ field (at + 6) 2 bs → a + 65536 * b + 4294967296 * c + 281474976710656 * d ≡ field at 8 bs
 eight bs at a b c d p q r s =
     let i : at + 2 + 2 ≡ at + 4 = omega arith in
     let j : at + 4 + 2 ≡ at + 6 = omega arith in

@@ -8,7 +8,7 @@ use Prim.Native.Nat.{ℕ, _+_, _*_, _/_, _≤_, _<_}
 use native.Mathlib.Omega.{arith}
 use borrow.Author.Tests.{le-leb, lt-leb, le-ltb, lt-ltb, eq-eqb, ne-eqb, not-true, not-false}
 use lib.Dec.{leb, ltb, leb→le}
-use lib.ListN.{length, take, drop}
+use lib.ListN.{length, take}
 use lib.Seq.{take-all}
 use Rattle.model.specs.Base.{field}
 use Rattle.model.specs.Runs.{Run}
@@ -26,11 +26,13 @@ least-with : (least : ℕ) (rs : List Run) (r : Run) → leastAfter least (rs ++
 least-with least [] r = refl
 least-with least (q ∷ rs) r = least-with (q .high + 1) rs r
 
-ascends-with : (least : ℕ) (rs : List Run) (r : Run) → Ascends least rs → leastAfter least rs ≤ r .low → r .low ≤ r .high → Ascends least (rs ++ (r ∷ []))
+ascends-with : (least : ℕ) (rs : List Run) (r : Run) → Ascends least rs → leastAfter least rs ≤ r .low
+    → r .low ≤ r .high → Ascends least (rs ++ (r ∷ []))
 ascends-with least [] r h a b = (a, b, tt)
 ascends-with least (q ∷ rs) r h a b = (h .0, h .1, ascends-with (q .high + 1) rs r (h .2) a b)
 
-ascends-last : (least : ℕ) (rs : List Run) (r : Run) → Ascends least (rs ++ (r ∷ [])) → (leastAfter least rs ≤ r .low) × (r .low ≤ r .high)
+ascends-last : (least : ℕ) (rs : List Run) (r : Run) → Ascends least (rs ++ (r ∷ []))
+    → (leastAfter least rs ≤ r .low) × (r .low ≤ r .high)
 ascends-last least [] r h = (h .0, h .1)
 ascends-last least (q ∷ rs) r h = ascends-last (q .high + 1) rs r (h .2)
 
@@ -60,15 +62,18 @@ module _ (at last low high : ℕ) where
       not-over a = rw (least-later at last l, le-ltb last low a, lt-leb (last + 1) low (omega arith)) refl
 
       over : last < low → ltb last low ≡ (leb (leastAt at last) low && leb low high)
-      over a = rw (least-later at last l, lt-ltb last low a, le-leb (last + 1) low (omega arith), le-leb low high h) refl
+      over a =
+          rw (least-later at last l, lt-ltb last low a, le-leb (last + 1) low (omega arith), le-leb low high h) refl
 
 -- Runs of which those before place `at` ascend
 module _ (bs : List ℕ) (at last : ℕ) (up : Ascends 0 (take at (runsOfBytes bs))) (least : leastAfter 0 (take at (runsOfBytes bs)) ≡ leastAt at last)
     (h : at < length bs / 16) (low high : ℕ) (e : low ≡ field (16 * at) 8 bs) (f : high ≡ field (16 * at + 8) 8 bs) where
-  pub one-more : (b : Bool) → b ≡ (leb (leastAt at last) low && leb low high) → not b ≡ false → Ascends 0 (take (at + 1) (runsOfBytes bs))
+  pub one-more : (b : Bool) → b ≡ (leb (leastAt at last) low && leb low high) → not b ≡ false
+      → Ascends 0 (take (at + 1) (runsOfBytes bs))
   one-more b g s =
       let t : (leb (leastAt at last) low && leb low high) ≡ true = sym g ∙ not-false b s in
-      let above : leastAt at last ≤ low = leb→le (leastAt at last) low (and-left (leb (leastAt at last) low) (leb low high) (true→T _ t)) in
+      let above : leastAt at last ≤ low =
+      leb→le (leastAt at last) low (and-left (leb (leastAt at last) low) (leb low high) (true→T _ t)) in
       let ordered : low ≤ high = leb→le low high (and-right (leb (leastAt at last) low) (leb low high) (true→T _ t)) in
       subst (λ (rs : List Run). Ascends 0 rs) (sym (run-taken bs at h))
       (ascends-with 0 (take at (runsOfBytes bs)) (runAt bs at) up (omega (arith, e, least)) (omega (arith, e, f)))
@@ -79,18 +84,23 @@ module _ (bs : List ℕ) (at last : ℕ) (up : Ascends 0 (take at (runsOfBytes b
       ∙ least-with 0 (take at (runsOfBytes bs)) (runAt bs at)
       ∙ omega (arith, f, least-later (at + 1) high (omega arith))
 
-  pub out-of-order : (b : Bool) → b ≡ (leb (leastAt at last) low && leb low high) → not b ≡ true → Ordered (order.OutOfOrder at) (runsOfBytes bs)
+  pub out-of-order : (b : Bool) → b ≡ (leb (leastAt at last) low && leb low high) → not b ≡ true
+      → Ordered (order.OutOfOrder at) (runsOfBytes bs)
   out-of-order b g s =
       let t : (leb (leastAt at last) low && leb low high) ≡ false = sym g ∙ not-true b s in (
         omega (arith, run-count bs),
         up,
         λ a.
-            let l = ascends-last 0 (take at (runsOfBytes bs)) (runAt bs at) (subst (λ (rs : List Run). Ascends 0 rs) (run-taken bs at h) a) in
+            let l =
+            ascends-last 0 (take at (runsOfBytes bs)) (runAt bs at) (subst (λ (rs : List Run). Ascends 0 rs) (run-taken bs at h) a) in
             let above : leastAt at last ≤ low = omega (arith, e, least, l .0) in
             let ordered : low ≤ high = omega (arith, e, f, l .1) in
-            let clash : true ≡ false = sym (rw (le-leb (leastAt at last) low above, le-leb low high ordered) refl) ∙ t in
+            let clash : true ≡ false =
+            sym (rw (le-leb (leastAt at last) low above, le-leb low high ordered) refl) ∙ t in
             true≢false clash,
       )
 
-pub all-ascend : (bs : List ℕ) (at : ℕ) → length bs / 16 ≤ at → Ascends 0 (take at (runsOfBytes bs)) → Ascends 0 (runsOfBytes bs)
-all-ascend bs at h up = subst (λ (rs : List Run). Ascends 0 rs) (take-all at (runsOfBytes bs) (omega (arith, run-count bs))) up
+pub all-ascend : (bs : List ℕ) (at : ℕ) → length bs / 16 ≤ at → Ascends 0 (take at (runsOfBytes bs))
+    → Ascends 0 (runsOfBytes bs)
+all-ascend bs at h up =
+    subst (λ (rs : List Run). Ascends 0 rs) (take-all at (runsOfBytes bs) (omega (arith, run-count bs))) up

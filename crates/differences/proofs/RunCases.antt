@@ -14,7 +14,6 @@ use Rattle.model.specs.Base.{field, fromLittleEndian}
 use Rattle.model.specs.Runs.{Run, inRuns}
 use Rattle.model.specs.Report.{runsIn}
 use Rattle.differences.specs.Differences.{runsOfBytes, Ascends, Passed, Reached, Stands}
-use Rattle.differences.specs.declared.inner.walk.Standing.{Standing}
 use Rattle.differences.specs.declared.inner.walk.Standing.the-variants as standing
 
 abbrev pub run : ℕ → ℕ → Run
@@ -68,8 +67,10 @@ run-shift : (i : ℕ) (bs : List ℕ) → runAt (drop 16 bs) i ≡ runAt bs (suc
 run-shift i bs =
     let low : 16 + 16 * i ≡ 16 * suc i = omega arith in
     let high : 16 + (16 * i + 8) ≡ 16 * suc i + 8 = omega arith in
-    let first : drop (16 * i) (drop 16 bs) ≡ drop (16 * suc i) bs = drop-drop (16 * i) 16 bs ∙ ap (λ (k : ℕ). drop k bs) low in
-    let second : drop (16 * i + 8) (drop 16 bs) ≡ drop (16 * suc i + 8) bs = drop-drop (16 * i + 8) 16 bs ∙ ap (λ (k : ℕ). drop k bs) high in
+    let first : drop (16 * i) (drop 16 bs) ≡ drop (16 * suc i) bs =
+    drop-drop (16 * i) 16 bs ∙ ap (λ (k : ℕ). drop k bs) low in
+    let second : drop (16 * i + 8) (drop 16 bs) ≡ drop (16 * suc i + 8) bs =
+    drop-drop (16 * i + 8) 16 bs ∙ ap (λ (k : ℕ). drop k bs) high in
     ap₂ (λ (x y : List ℕ). run (fromLittleEndian (take 8 x)) (fromLittleEndian (take 8 y))) first second
 
 run-in : (n i : ℕ) (bs : List ℕ) → i < n → drop i (runsIn bs n) ≡ runAt bs i ∷ drop (suc i) (runsIn bs n)
@@ -114,7 +115,8 @@ pub passed-later : (bs : List ℕ) (i m n : ℕ) → m ≤ n → Passed bs i m �
 passed-later bs i m n l p = (p .0, p .1, λ k h. p .2 k (omega arith))
 
 -- a run that ends before the number is passed
-pub passed-run : (bs : List ℕ) (i n high : ℕ) → i < length bs / 16 → high ≡ field (16 * i + 8) 8 bs → high < n → Passed bs i n → Passed bs (i + 1) n
+pub passed-run : (bs : List ℕ) (i n high : ℕ) → i < length bs / 16 → high ≡ field (16 * i + 8) 8 bs → high < n
+    → Passed bs i n → Passed bs (i + 1) n
 passed-run bs i n high l e h p = (
   p .0,
   omega arith,
@@ -123,7 +125,8 @@ passed-run bs i n high l e h p = (
       ∙ not-above (field (16 * i) 8 bs) (field (16 * i + 8) 8 bs) k (drop (i + 1) (runsOfBytes bs)) (omega (arith, e)),
 )
 
-pub reached-run : (bs : List ℕ) (i n high : ℕ) → high ≡ field (16 * i + 8) 8 bs → n ≤ high → Passed bs i n → Reached bs i n
+pub reached-run : (bs : List ℕ) (i n high : ℕ) → high ≡ field (16 * i + 8) 8 bs → n ≤ high → Passed bs i n
+    → Reached bs i n
 reached-run bs i n high e h p = (p, λ l. omega (arith, e))
 
 pub reached-end : (bs : List ℕ) (i n : ℕ) → length bs / 16 ≤ i → Passed bs i n → Reached bs i n
@@ -140,8 +143,7 @@ module _ (bs : List ℕ) (i n : ℕ) (s : Reached bs i n) where
       λ k a. s .0 .2 k a ∙ ap (λ (rs : List Run). inRuns rs k) none ∙ in-none k
 
   module _ (h : i < length bs / 16) (low : ℕ) (e : low ≡ field (16 * i) 8 bs) where
-    here : (k : ℕ) → n ≤ k
-        → inRuns (runsOfBytes bs) k ≡ inRuns (runAt bs i ∷ drop (i + 1) (runsOfBytes bs)) k
+    here : (k : ℕ) → n ≤ k → inRuns (runsOfBytes bs) k ≡ inRuns (runAt bs i ∷ drop (i + 1) (runsOfBytes bs)) k
     here k a = s .0 .2 k a ∙ ap (λ (rs : List Run). inRuns rs k) (run-at bs i h)
 
     pub before-run : n < low → Stands (standing.Before low) n (runsOfBytes bs)
@@ -153,7 +155,8 @@ module _ (bs : List ℕ) (i n : ℕ) (s : Reached bs i n) where
         (omega arith, from .1, from .2) in
         (l, λ k a b. here k a ∙ none-below (field (16 * i) 8 bs) k _ low-first (omega (arith, e)))
 
-    pub inside-run : (high : ℕ) → high ≡ field (16 * i + 8) 8 bs → low ≤ n → Stands (standing.Inside high) n (runsOfBytes bs)
+    pub inside-run : (high : ℕ) → high ≡ field (16 * i + 8) 8 bs → low ≤ n
+        → Stands (standing.Inside high) n (runsOfBytes bs)
     inside-run high f l =
         let ahead : n ≤ field (16 * i + 8) 8 bs = s .1 h in (
           omega (arith, f),

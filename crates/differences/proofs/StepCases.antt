@@ -1,14 +1,15 @@
 -- Whether a number is in the runs of `a` only, from where it stands among both; then from step to step.
 -- Assumes nothing.
-use mathlib.Core.Path.{_≡_, refl, subst, sym, _∙_}
-use mathlib.Core.Bool.{Bool, true, false, _&&_, not, and-false}
+use mathlib.Core.Path.{_≡_, refl, subst}
+use mathlib.Core.Bool.{Bool, true, false, _&&_, and-false}
 use mathlib.Core.List.{List}
 use mathlib.Core.Logic.{⊎-elim}
-use Prim.Native.Nat.{ℕ, _+_, _-_, _^_, _≤_, _<_}
+use Prim.Native.Nat.{ℕ, _+_, _-_, _≤_, _<_}
 use native.Mathlib.Omega.{arith}
 use Rattle.model.specs.Runs.{inRuns}
 use Rattle.model.proofs.BoolLaws.{le-or-lt}
-use Rattle.differences.specs.Differences.{runsOfBytes, only, Stands, Steps, FirstOnly, LastOnly, FirstPiece, FirstFrom, PieceFrom}
+use Rattle.differences.specs.Differences.{runsOfBytes, only, Stands, Steps, FirstOnly, LastOnly, FirstPiece}
+use Rattle.differences.specs.Differences.{FirstFrom, PieceFrom}
 use Rattle.differences.specs.declared.inner.walk.Standing.{Standing}
 use Rattle.differences.specs.declared.inner.walk.Standing.the-variants as standing
 use Rattle.differences.specs.declared.inner.walk.Step.{Step}
@@ -31,7 +32,8 @@ module _ (a b : List ℕ) (k : ℕ) where
   unfolding only
   in-b q = rw q (and-false (inRuns (runsOfBytes a) k))
 
-abbrev stands-as : (x y : Standing) (n : ℕ) (bs : List ℕ) → x ≡ y → Stands x n (runsOfBytes bs) → Stands y n (runsOfBytes bs)
+abbrev stands-as : (x y : Standing) (n : ℕ) (bs : List ℕ) → x ≡ y → Stands x n (runsOfBytes bs)
+    → Stands y n (runsOfBytes bs)
 stands-as x y n bs e s = subst (λ (z : Standing). Stands z n (runsOfBytes bs)) e s
 
 module _ (a b : List ℕ) (n : ℕ) (x : Standing) (s : Stands x n (runsOfBytes a)) where
@@ -73,7 +75,8 @@ module _ (a b : List ℕ) (n : ℕ) (x : Standing) (s : Stands x n (runsOfBytes 
         (omega arith, λ k h l. in-b a b k (t .1 k h (omega arith)))
 
 -- a number that comes later is no zero
-pub over-zero : (b : List ℕ) (n : ℕ) (y : Standing) → Stands y n (runsOfBytes b) → (next : ℕ) → y ≡ standing.Before next → 1 ≤ next
+pub over-zero : (b : List ℕ) (n : ℕ) (y : Standing) → Stands y n (runsOfBytes b) → (next : ℕ) → y ≡ standing.Before next
+    → 1 ≤ next
 over-zero b n y u next f =
     let t : Stands (standing.Before next) n (runsOfBytes b) = stands-as y (standing.Before next) n b f u in
     let i : n < next = t .0 in
@@ -83,7 +86,8 @@ abbrev steps-as : (x y : Step) (n : ℕ) (a b : List ℕ) → x ≡ y → Steps 
 steps-as x y n a b e s = subst (λ (z : Step). Steps z a b n) e s
 
 -- what holds below `n`, and from `n` below `m`, holds below `m`
-joined : (P : ℕ → Type 0) (from n m : ℕ) → ((k : ℕ) → from ≤ k → k < n → P k) → ((k : ℕ) → n ≤ k → k < m → P k) → (k : ℕ) → from ≤ k → k < m → P k
+joined : (P : ℕ → Type 0) (from n m : ℕ) → ((k : ℕ) → from ≤ k → k < n → P k) → ((k : ℕ) → n ≤ k → k < m → P k)
+    → (k : ℕ) → from ≤ k → k < m → P k
 joined P from n m f g k h l = ⊎-elim (λ i. g k i l) (λ i. f k h i) (le-or-lt n k)
 
 pub first-start : (a b : List ℕ) (from : ℕ) → (from ≤ from) × ((k : ℕ) → from ≤ k → k < from → only a b k ≡ false)
@@ -96,7 +100,8 @@ module _ (a b : List ℕ) (from n : ℕ) (h : from ≤ n) (f : (k : ℕ) → fro
       let t : Steps (step.Only end) a b n = steps-as x (step.Only end) n a b e s in
       (h, f, t .1 n (omega arith) (t .0))
 
-  pub first-later : (next : ℕ) → x ≡ step.Not next → (n < next) × (from ≤ next) × ((k : ℕ) → from ≤ k → k < next → only a b k ≡ false)
+  pub first-later : (next : ℕ) → x ≡ step.Not next
+      → (n < next) × (from ≤ next) × ((k : ℕ) → from ≤ k → k < next → only a b k ≡ false)
   first-later next e =
       let t : Steps (step.Not next) a b n = steps-as x (step.Not next) n a b e s in
       let i : n < next = t .0 in
@@ -107,14 +112,15 @@ module _ (a b : List ℕ) (from n : ℕ) (h : from ≤ n) (f : (k : ℕ) → fro
       let t : Steps step.End a b n = steps-as x step.End n a b e s in
       λ k i l. ⊎-elim (λ j. t k j l) (λ j. f k i j) (le-or-lt n k)
 
-pub last-start : (a b : List ℕ) (low : ℕ) → only a b low ≡ true → (low ≤ low) × ((k : ℕ) → low ≤ k → k ≤ low → only a b k ≡ true)
-last-start a b low e =
-    (omega arith, λ k h l. let z : low ≡ k = omega arith in subst (λ (i : ℕ). only a b i ≡ true) z e)
+pub last-start : (a b : List ℕ) (low : ℕ) → only a b low ≡ true
+    → (low ≤ low) × ((k : ℕ) → low ≤ k → k ≤ low → only a b k ≡ true)
+last-start a b low e = (omega arith, λ k h l. let z : low ≡ k = omega arith in subst (λ (i : ℕ). only a b i ≡ true) z e)
 
 -- The search for the last: every number from `low` to `high` is in `a` only
 module _ (a b : List ℕ) (low high : ℕ) (h : low ≤ high) (f : (k : ℕ) → low ≤ k → k ≤ high → only a b k ≡ true) where
   module _ (x : Step) (s : Steps x a b (high + 1)) where
-    pub last-later : (end : ℕ) → x ≡ step.Only end → (high < end) × (low ≤ end) × ((k : ℕ) → low ≤ k → k ≤ end → only a b k ≡ true)
+    pub last-later : (end : ℕ) → x ≡ step.Only end
+        → (high < end) × (low ≤ end) × ((k : ℕ) → low ≤ k → k ≤ end → only a b k ≡ true)
     last-later end e =
         let t : Steps (step.Only end) a b (high + 1) = steps-as x (step.Only end) (high + 1) a b e s in
         let i : high + 1 ≤ end = t .0 in

@@ -76,11 +76,13 @@ FirstOnly first.Nothing a b from = (k : ℕ) → from ≤ k → k < 2 ^ 64 → o
 
 -- the last number of the stretch from `low` on that is in the runs of `a` only
 abbrev pub LastOnly : ℕ → List ℕ → List ℕ → ℕ → Type 0
-LastOnly high a b low = (low ≤ high) × ((k : ℕ) → low ≤ k → k ≤ high → only a b k ≡ true) × (high + 1 < 2 ^ 64 → only a b (high + 1) ≡ false)
+LastOnly high a b low =
+    (low ≤ high) × ((k : ℕ) → low ≤ k → k ≤ high → only a b k ≡ true) × (high + 1 < 2 ^ 64 → only a b (high + 1) ≡ false)
 
 -- the first longest stretch from `from` on of numbers that are in the runs of `a` only
 abbrev pub FirstPiece : Piece → List ℕ → List ℕ → ℕ → Type 0
-FirstPiece (piece.Stretch low high) a b from = (from ≤ low) × ((k : ℕ) → from ≤ k → k < low → only a b k ≡ false) × LastOnly high a b low
+FirstPiece (piece.Stretch low high) a b from =
+    (from ≤ low) × ((k : ℕ) → from ≤ k → k < low → only a b k ≡ false) × LastOnly high a b low
 FirstPiece piece.Nothing a b from = (k : ℕ) → from ≤ k → k < 2 ^ 64 → only a b k ≡ false
 
 -- the same with the places to look on from: place `i` in the runs of `a` and `j` in those of `b`
@@ -92,5 +94,6 @@ abbrev pub LastFrom : ℕ → ℕ → ℕ → List ℕ → List ℕ → ℕ → 
 LastFrom high i j a b low = LastOnly high a b low × Passed a i (high + 1) × Passed b j (high + 1)
 
 abbrev pub PieceFrom : Piece → ℕ → ℕ → List ℕ → List ℕ → ℕ → Type 0
-PieceFrom (piece.Stretch low high) i j a b from = FirstPiece (piece.Stretch low high) a b from × Passed a i (high + 1) × Passed b j (high + 1)
+PieceFrom (piece.Stretch low high) i j a b from =
+    FirstPiece (piece.Stretch low high) a b from × Passed a i (high + 1) × Passed b j (high + 1)
 PieceFrom piece.Nothing i j a b from = FirstPiece piece.Nothing a b from

@@ -65,7 +65,8 @@ fn least(a: usize, b: usize) -> usize
 // The bytes of the runs from a place on: as many as are stated, of those that lie whole within the report.
 fn runs_from(report: &[u8], at: usize, stated: usize) -> &[u8]
     requires { ⌜ at ≤ length (now report) ⌝ }
-    ensures { λ r. ⌜ now r ≡ take (16 * min stated ((length (now (report .entry)) - at) / 16)) (drop at (now (report .entry))) ⌝ }
+    ensures { λ r. ⌜ now r ≡ take (16 * min stated ((length (now (report .entry)) - at) / 16))
+        (drop at (now (report .entry))) ⌝ }
 {
     let present = least(stated, (report.len() - at) / RUN_BYTES);
     let end = at + RUN_BYTES * present;
@@ -75,7 +76,8 @@ fn runs_from(report: &[u8], at: usize, stated: usize) -> &[u8]
 // The bytes of the rising runs. In a report of the length that its fields state these are the runs that it names.
 pub fn rising_runs(report: &[u8]) -> &[u8]
     requires { ⌜ 34 ≤ length (now report) ⌝ }
-    ensures { λ r. ⌜ (StatedLength (now (report .entry)) → runsOfBytes (now r) ≡ namedRuns (now (report .entry)) rising) ⌝ }
+    ensures { λ r. ⌜
+        (StatedLength (now (report .entry)) → runsOfBytes (now r) ≡ namedRuns (now (report .entry)) rising) ⌝ }
 {
     runs_from(report, HEAD_BYTES, u16_at(report, RISING_RUNS_AT))
 }
@@ -83,7 +85,8 @@ pub fn rising_runs(report: &[u8]) -> &[u8]
 // The bytes of the falling runs, which follow the rising ones that are stated.
 pub fn falling_runs(report: &[u8]) -> &[u8]
     requires { ⌜ 34 ≤ length (now report) ⌝ }
-    ensures { λ r. ⌜ (StatedLength (now (report .entry)) → runsOfBytes (now r) ≡ namedRuns (now (report .entry)) falling) ⌝ }
+    ensures { λ r. ⌜
+        (StatedLength (now (report .entry)) → runsOfBytes (now r) ≡ namedRuns (now (report .entry)) falling) ⌝ }
 {
     let at = HEAD_BYTES + RUN_BYTES * u16_at(report, RISING_RUNS_AT);
     if report.len() < at {

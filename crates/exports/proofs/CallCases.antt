@@ -32,11 +32,12 @@ use Rattle.store.specs.declared.HeldAnswer.the-variants as held
 use Rattle.coverage.specs.TestCall.{testedOf, TestTrue}
 use Rattle.coverage.specs.declared.TestAnswer.{TestAnswer}
 use Rattle.coverage.specs.declared.TestAnswer.the-variants as stage
-use Rattle.report.specs.Answers.{WriteTrue, writtenOf, AuditTrue, auditedOf}
+use Rattle.report.specs.Answers.{WriteTrue, writtenOf}
+use Rattle.audit.specs.Answers.{AuditTrue, auditedOf}
 use Rattle.report.specs.declared.WriteAnswer.{WriteAnswer}
 use Rattle.report.specs.declared.WriteAnswer.the-variants as write
-use Rattle.report.specs.declared.AuditAnswer.{AuditAnswer}
-use Rattle.report.specs.declared.AuditAnswer.the-variants as audit
+use Rattle.audit.specs.declared.AuditAnswer.{AuditAnswer}
+use Rattle.audit.specs.declared.AuditAnswer.the-variants as audit
 use Rattle.pieces.specs.Steps.{begunOf, beginAnswer, beginStore}
 use Rattle.pieces.specs.Calls.{BegunTrue, pieceOf, pieceAnswer, pieceLeft, PieceWork, PieceTrue, endedOf, endAnswer, endStore, EndTrue}
 use Rattle.pieces.specs.declared.BeginAnswer.{BeginAnswer}

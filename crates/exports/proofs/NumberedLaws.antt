@@ -16,7 +16,8 @@ use Rattle.model.specs.Calls.{storeRule}
 use Rattle.model.specs.Report.{reportRecord, reportRules}
 use Rattle.model.proofs.AnswerLaws.{not-refused}
 use Rattle.model.proofs.BoolLaws.{and-left, and-right}
-use Rattle.pieces.specs.Steps.{wholeLength, endBy}
+use Rattle.audit.specs.TestFile.{wholeLength}
+use Rattle.pieces.specs.Steps.{endBy}
 use Rattle.pieces.specs.Calls.{storeChecked, soFar, endLegal, endStage, endCall, endAnswer}
 use Rattle.exports.specs.Codes.{codeAnswer}
 

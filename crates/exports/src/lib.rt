@@ -12,6 +12,7 @@ ghost use Rattle.exports.specs.Codes.{codeAnswer, Answered, allTaken, su
 ghost use Rattle.exports.specs.Codes.{loadWords};
 use crate::answers::put_number;
 use crate::answers::put_survey;
+use audit::AuditAnswer;
 use bench_text::BenchAnswer;
 use coverage::TestAnswer;
 use faults::FaultNo;
@@ -24,7 +25,6 @@ use paths::PathAnswer;
 use pieces::BeginAnswer;
 use pieces::EndAnswer;
 use pieces::PieceAnswer;
-use report::AuditAnswer;
 use report::WriteAnswer;
 use store::EmptyAnswer;
 use store::HeldAnswer;
@@ -187,7 +187,7 @@ pub extern "C" fn genduwal_audit(
     ensures { λ _. ⌜ now (store .exit) ≡ auditStore (now (netlist .entry)) «test_class» (now (tests .entry)) (now (report .entry)) (now (store .entry)) (now (work .entry)) ⌝ }
     ensures { λ _. ⌜ WorkAfter (now (netlist .entry)) «test_class» (now (store .entry)) (now (work .entry)) (now (work .exit)) ⌝ }
 {
-    let audited = report::audit(netlist, tests, report, test_class, store, work);
+    let audited = audit::audit(netlist, tests, report, test_class, store, work);
     match audited {
         AuditAnswer::Refused(why) => refusal_number(why),
         AuditAnswer::Accepted => 0,
@@ -222,7 +222,8 @@ pub extern "C" fn genduwal_audit_piece(
     work: &mut [u64],
     answer: &mut [u64; 1],
 ) -> u32
-    ensures { λ r. ⌜ Answered (allTaken (pieceAnswer (now (netlist .entry)) «test_class» (now (piece .entry)) (now (store .entry)) (now (work .entry)))) numberWord r (now (answer .entry)) (now (answer .exit)) ⌝ }
+    ensures { λ r. ⌜ Answered (allTaken (pieceAnswer (now (netlist .entry)) «test_class» (now (piece .entry))
+        (now (store .entry)) (now (work .entry)))) numberWord r (now (answer .entry)) (now (answer .exit)) ⌝ }
     ensures { λ _. ⌜ now (store .exit) ≡ pieceLeft (now (netlist .entry)) «test_class» (now (piece .entry)) (now (store .entry)) (now (work .entry)) ⌝ }
     ensures { λ _. ⌜ PieceWork (now (netlist .entry)) «test_class» (now (store .entry)) (now (work .entry)) (now (work .exit)) ⌝ }
 {

@@ -1,6 +1,7 @@
 // The listing program: what each test record of a file adds on a netlist in a class, then the runs and the totals of the tested faults: `listing
 // [CIRCUIT [TESTS [CLASS]]]`, without names those of the current folder; a missing file counts as empty, a missing class file as class 1. What it
-// writes is made by `listing_text` and `test_file`, each part with a promise. Where the netlist or the class file can't be read whole it writes nothing, and where the test file can't, neither runs nor totals.
+// writes is made by `listing_text` and `test_file`, each part with a promise. Where the netlist or the class file can't be read whole it writes
+// nothing, and where the test file can't, neither runs nor totals.
 use command::close_file;
 use command::file_name;
 use command::is_argument;
@@ -21,15 +22,17 @@ use model::WORK_WORDS;
 use model::known_class;
 use netlist::SurveyAnswer;
 use netlist::inner::Loaded;
-use netlist::inner::load;
+use netlist::inner::load_by_value;
 use store::inner::clear;
+use test_file::inner::Descriptors;
 use test_file::inner::list_file;
 ghost use mathlib.Core.Path.{_≡_};
 ghost use Prim.Native.Nat.{_≤_};
 ghost use lib.ListN.{length};
 ghost use Rattle.model.specs.Store.{storeWords};
 ghost use Rattle.model.specs.Calls.{workWords};
-ghost use Rattle.listing_text.specs.Answers.{pieceBytes, outBytes, LegalTables};
+ghost use Rattle.netlist.specs.Tables.{SomeTables};
+ghost use Rattle.listing_text.specs.Answers.{pieceBytes, outBytes};
 
 fn print_usage(fd: i32) {
     print(fd, b"usage: listing [CIRCUIT [TESTS [CLASS]]]\n");
@@ -73,24 +76,19 @@ fn list_tests(
     work: &mut [u64],
     out: &mut [u8],
 )
-    requires { ⌜ LegalTables (now netlist) tables × (length (now store) ≡ storeWords) × (workWords ≤ length (now work)) × (outBytes ≤ length (now out)) ⌝ }
+    requires { ⌜ SomeTables (now netlist) (tables .positions) (tables .counts) (tables .shape) ⌝ }
+    requires { ⌜ (length (now store) ≡ storeWords) × (workWords ≤ length (now work)) × (outBytes ≤ length (now out)) ⌝ }
 {
     let mut name = io::buffer();
     let n = file_name(2, b"tests.tp", &mut name);
     let mut space = piece_bytes();
     clear(store);
     let opened = open_file(&name[..n]);
-    let listed = list_file(
-        opened.fd,
-        STDOUT_FILENO,
-        netlist,
-        tables,
-        class,
-        &mut space,
-        store,
-        work,
-        out,
-    );
+    let files = Descriptors {
+        from: opened.fd,
+        to: STDOUT_FILENO,
+    };
+    let listed = list_file(files, netlist, tables, class, &mut space, store, work, out);
     let end = listed.end;
     if close_file(&name[..n], opened, listed.whole) {
         print(STDOUT_FILENO, &out[..end]);
@@ -99,12 +97,11 @@ fn list_tests(
 
 // The listing of a legal netlist in a class that there is.
 fn list(netlist: &[u8], tables: Loaded, class: u32, out: &mut [u8])
-    requires { ⌜ LegalTables (now netlist) tables × (outBytes ≤ length (now out)) ⌝ }
+    requires { ⌜ SomeTables (now netlist) (tables .positions) (tables .counts) (tables .shape) × (outBytes ≤ length (now out)) ⌝ }
 {
-    let survey = tables.survey;
     let mut store = store_words();
     let mut work = work_words();
-    let n = put_paths(out, survey.total);
+    let n = put_paths(out, tables.total);
     print(STDOUT_FILENO, &out[..n]);
     list_tests(netlist, tables, class, &mut store, &mut work, out);
 }
@@ -119,7 +116,7 @@ fn refuse(why: Refusal, out: &mut [u8])
 
 // The listing on a netlist in a class.
 fn list_circuit(netlist: &[u8], class: u32) {
-    let tables = load(netlist);
+    let tables = load_by_value(netlist);
     let answer = tables.answer;
     let mut out = text_bytes();
     match answer {

@@ -1,16 +1,21 @@
 -- The lines of an edge's runs as the loop writes them: one run more, and the end.
 -- Assumes nothing.
-use mathlib.Core.Path.{_≡_, refl, ap, sym, _∙_}
+use mathlib.Core.Path.{_≡_, refl, ap, ap₂, sym, _∙_, subst}
 use mathlib.Core.List.{List, [], _∷_, _++_}
-use Prim.Native.Nat.{ℕ, zero, suc, _+_, _-_, _*_, _≤_, _<_}
+use Prim.Native.Nat.{ℕ, zero, suc, _+_, _-_, _*_, _/_, _^_, _≤_, _<_}
 use native.Mathlib.Omega.{arith}
+use borrow.Author.Needs.{needs}
 use lib.ListN.{length, getD, length-append}
 use lib.Seq.{sets}
+use Rattle.model.specs.Path.{Edge, rising, falling}
 use Rattle.model.specs.Runs.{Run}
-use Rattle.model.specs.Store.{runsAt}
+use Rattle.model.specs.Store.{maxRuns, runsAt, runCount, storeRuns}
 use Rattle.records.proofs.ByteLaws.{sets-append}
 use Rattle.listing_text.specs.Listing.{runLines}
-use Rattle.listing_text.specs.Answers.{Put}
+use Rattle.runs.proofs.RunWordLaws.{runs-of-part}
+use Rattle.store.specs.Sound.{SoundWords, edgeWords}
+use Rattle.store.proofs.PlaceLaws.{edge-words-runs, edge-words-fit}
+use Rattle.listing_text.specs.Answers.{outBytes, edgeBytes, runsIn, Put}
 use Rattle.listing_text.proofs.PutLaws.{pairText, pair-length}
 
 module _ (letter words : List ℕ) (place left : ℕ) where
@@ -53,3 +58,39 @@ pub runs-end : (letter words : List ℕ) (place left : ℕ) → left ≤ 0 → r
 unfolding runLines
 runs-end letter words place zero h = refl
 runs-end letter words place (suc left) h = absurd (omega arith)
+
+-- the words of an edge's runs, as a store hands them out
+module _ (ws R : List ℕ) (sound : SoundWords (2 ^ 62) ws) (e : Edge) (q : R ≡ edgeWords ws e) where
+  count-is : length R / 2 ≡ runCount ws e
+  count-is = omega (arith, ap (length {A = ℕ}) q, edge-words-fit ws e (sound .few))
+
+  runs-are : runsIn R ≡ storeRuns ws e
+  runs-are =
+      ap₂ (λ (l : List ℕ) (n : ℕ). runsAt l 0 n) q count-is
+      ∙ sym (runs-of-part (edgeWords ws e) 0 0 (runCount ws e))
+      ∙ edge-words-runs ws e
+
+  pub edge-lines : (letter out out′ : List ℕ) (at r : ℕ) → Put out out′ at (runLines letter (runsIn R)) r → Put out out′ at (runLines letter (storeRuns ws e)) r
+  edge-lines letter out out′ at r p = subst (λ (rs : List Run). Put out out′ at (runLines letter rs) r) runs-are p
+
+  few : runCount ws e ≤ maxRuns
+  few = at-most e
+    where
+      at-most : (d : Edge) → runCount ws d ≤ maxRuns
+      at-most rising = sound .few .fewRising
+      at-most falling = sound .few .fewFalling
+
+  -- they fit
+  pub first-room : (out : List ℕ) → outBytes ≤ length out → 0 + 44 * (length R / 2) ≤ length out
+  first-room out h = omega (arith, count-is, few)
+
+  pub edge-room : (out : List ℕ) (start : ℕ) → start + edgeBytes ≤ length out → start + 44 * (length R / 2) ≤ length out
+  edge-room out start h = omega (arith, count-is, few)
+
+  pub first-end : (r : ℕ) → r ≤ 0 + 44 * (length R / 2) → r ≤ edgeBytes
+  first-end r h = omega (arith, count-is, few)
+
+  pub edge-end : (r start : ℕ) → r ≤ start + 44 * (length R / 2) → r ≤ start + edgeBytes
+  edge-end r start h = omega (arith, count-is, few)
+
+pub ruleset edge-cases = (edge-lines, first-room, edge-room, first-end, edge-end, needs)

@@ -2,15 +2,18 @@
 -- Assumes nothing.
 use mathlib.Core.Path.{_≡_}
 use mathlib.Core.List.{List}
-use Prim.Native.Nat.{ℕ, _+_, _^_, _≤_, _<_}
+use Prim.Native.Nat.{ℕ, _+_, _/_, _^_, _≤_, _<_}
 use lib.ListN.{length, drop}
 use lib.Seq.{sets}
 use Rattle.model.specs.Netlist.{Netlist}
+use Rattle.model.specs.Runs.{Run}
+use Rattle.model.specs.Store.{runsAt}
 use Rattle.model.specs.Detect.{Class}
 use Rattle.model.specs.Read.{classOf}
 use Rattle.model.specs.Calls.{workWords}
 use Rattle.netlist.specs.declared.inner.Loaded.{Loaded}
-use Rattle.coverage.specs.Stage.{CircuitTables, MemoryReady}
+use Rattle.netlist.specs.Tables.{CircuitTables}
+use Rattle.coverage.specs.Stage.{MemoryReady}
 use Rattle.listing_text.specs.Listing.{recordLines, listedRecords, storeAfterAll}
 use Rattle.listing_text.specs.declared.inner.Listed.{Listed}
 
@@ -25,6 +28,10 @@ outBytes = 131072
 abbrev pub edgeBytes : ℕ
 edgeBytes = 45056
 
+-- the runs of some words, two for each
+abbrev pub runsIn : List ℕ → List Run
+runsIn words = runsAt words 0 (length words / 2)
+
 -- a text is written into the buffer from place `at` on and nothing else, and `next` is the place after it
 pub record Put (out out′ : List ℕ) (at : ℕ) (written : List ℕ) (next : ℕ) : Type 0 where
   pub bytes : out′ ≡ sets out at written
@@ -33,13 +40,7 @@ pub record Put (out out′ : List ℕ) (at : ℕ) (written : List ℕ) (next : �
 
 -- the tables of a legal netlist, as they were loaded
 abbrev pub TablesOf : Netlist → List ℕ → Loaded → Type 0
-TablesOf N netlist t =
-    CircuitTables N netlist (t .positions) (t .survey .counts) (t .survey .inputs) (t .survey .inputs + t .survey .gates) (t .survey .outputs)
-
--- a legal netlist with its tables
-pub record LegalTables (netlist : List ℕ) (t : Loaded) : Type 0 where
-  pub circuit : Netlist
-  pub tables : TablesOf circuit netlist t
+TablesOf N netlist t = CircuitTables N netlist (t .positions) (t .counts) (t .shape)
 
 -- besides, a sound store, working memory long enough, and room for text
 pub record ListReady (netlist : List ℕ) (t : Loaded) (ws work out : List ℕ) : Type 0 where

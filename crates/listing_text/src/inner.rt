@@ -2,26 +2,24 @@
 // what a function requires.
 ghost use mathlib.Core.Path.{_≡_};
 ghost use mathlib.Core.List.{[], _∷_, _++_};
-ghost use Prim.Native.Nat.{_+_, _*_, _^_, _≤_, _<_, min};
+ghost use Prim.Native.Nat.{_+_, _*_, _/_, _^_, _≤_, _<_, min};
 ghost use lib.ListN.{length};
 ghost use Rattle.model.specs.Path as path;
 ghost use Rattle.model.specs.Refusals.{refusalNumber};
-ghost use Rattle.model.specs.Store.{runsAt, storeRuns};
+ghost use Rattle.model.specs.Store.{storeRuns};
 ghost use Rattle.store.specs.Sound.{SoundWords};
 ghost use Rattle.coverage.specs.TestCall.{testedOf};
 ghost use Rattle.text.specs.Decimal.{decimalText};
 ghost use Rattle.listing_text.specs.Listing.{numbered, pathsLine, refusedLine, recordLine, runLines, risingLetter, fallingLetter, totalsLines, storeLines};
-ghost use Rattle.listing_text.specs.Answers.{outBytes, edgeBytes, Put, PieceReady, PieceLines};
+ghost use Rattle.listing_text.specs.Answers.{outBytes, edgeBytes, runsIn, Put, PieceReady, PieceLines};
 use coverage::TestAnswer;
-use coverage::inner::count_test;
-use model::HEAD_WORDS;
+use coverage::inner::count_record;
+use faults::Edge;
 use model::Refusal;
 use model::refusal_number;
 use netlist::inner::Loaded;
 use simulation::inner::test_record::record_length;
-use store::inner::FALLING_COUNT;
-use store::inner::FALLING_WORD;
-use store::inner::RISING_COUNT;
+use store::inner::parts::edge_runs;
 use store::inner::totals_of;
 use text::inner::put_number;
 use text::inner::put_text;
@@ -115,31 +113,21 @@ pub fn list_piece(
     out: &mut [u8],
 ) -> Listed
     requires { ⌜ PieceReady (now netlist) tables first (now piece) (now store) (now work) (now out) ⌝ }
-    ensures { λ r. ⌜ PieceLines r (now (netlist .entry)) tables class first (now (piece .entry)) (now (store .entry)) (now (store .exit)) (now (work .entry)) (now (work .exit)) (now (out .entry)) (now (out .exit)) ⌝ }
+    ensures { λ r. ⌜ PieceLines r (now (netlist .entry)) tables class first (now (piece .entry)) (now (store .entry)) (now (store .exit))
+        (now (work .entry)) (now (work .exit)) (now (out .entry)) (now (out .exit)) ⌝ }
 {
-    let survey = tables.survey;
-    let positions = tables.positions;
-    let inputs = survey.inputs;
-    let nets = inputs + survey.gates;
-    let outputs = survey.outputs;
-    let bytes = record_length(inputs);
+    let places = tables.positions;
+    let positions = &places;
+    let counts = &tables.counts;
+    let shape = tables.shape;
+    let bytes = record_length(shape.inputs);
     let mut place = first;
     let mut at = 0;
     let mut end = 0;
     while at < piece.len() {
         let next = record_end(at, bytes, piece.len());
-        let answer = count_test(
-            netlist,
-            &positions,
-            &survey.counts,
-            inputs,
-            nets,
-            outputs,
-            &piece[at..next],
-            class,
-            store,
-            work,
-        );
+        let test = &piece[at..next];
+        let answer = count_record(netlist, positions, counts, shape, test, class, store, work);
         end = put_record(out, end, place, answer);
         place += 1;
         at = next;
@@ -156,23 +144,16 @@ fn put_run(out: &mut [u8], at: usize, letter: &[u8], low: u64, high: u64) -> usi
     put_pair(out, numbers, low, high)
 }
 
-// A line for each of the n runs from word `from` on, put at a place. A line has at most 44 bytes.
-fn put_runs(
-    out: &mut [u8],
-    start: usize,
-    letter: &[u8],
-    words: &[u64],
-    from: usize,
-    n: usize,
-) -> usize
-    requires { ⌜ (length (now letter) ≡ 2) × (from + 2 * n ≤ length (now words)) × (start + 44 * n ≤ length (now out)) ⌝ }
-    ensures { λ r. ⌜ Put (now (out .entry)) (now (out .exit)) start (runLines (now (letter .entry)) (runsAt (now (words .entry)) from n)) r × (r ≤ start + 44 * n) ⌝ }
+// A line for each run, of two words, put at a place. A line has at most 44 bytes.
+fn put_runs(out: &mut [u8], start: usize, letter: &[u8], runs: &[u64]) -> usize
+    requires { ⌜ (length (now letter) ≡ 2) × (start + 44 * (length (now runs) / 2) ≤ length (now out)) ⌝ }
+    ensures { λ r. ⌜ Put (now (out .entry)) (now (out .exit)) start (runLines (now (letter .entry)) (runsIn (now (runs .entry)))) r × (r ≤ start + 44 * (length (now (runs .entry)) / 2)) ⌝ }
 {
     let mut at = start;
-    let mut place = from;
-    let mut left = n;
+    let mut place = 0;
+    let mut left = runs.len() / 2;
     while 0 < left {
-        at = put_run(out, at, letter, words[place], words[place + 1]);
+        at = put_run(out, at, letter, runs[place], runs[place + 1]);
         place += 2;
         left -= 1;
     }
@@ -184,14 +165,7 @@ fn put_rising(out: &mut [u8], words: &[u64]) -> usize
     requires { ⌜ SoundWords (2 ^ 62) (now words) × (outBytes ≤ length (now out)) ⌝ }
     ensures { λ r. ⌜ Put (now (out .entry)) (now (out .exit)) 0 (runLines risingLetter (storeRuns (now (words .entry)) path.rising)) r × (r ≤ edgeBytes) ⌝ }
 {
-    put_runs(
-        out,
-        0,
-        b"R ",
-        words,
-        HEAD_WORDS,
-        words[RISING_COUNT] as usize,
-    )
+    put_runs(out, 0, b"R ", edge_runs(words, Edge::Rising))
 }
 
 // The lines of the falling runs, at a place.
@@ -199,14 +173,7 @@ fn put_falling(out: &mut [u8], start: usize, words: &[u64]) -> usize
     requires { ⌜ SoundWords (2 ^ 62) (now words) × (start + edgeBytes ≤ length (now out)) ⌝ }
     ensures { λ r. ⌜ Put (now (out .entry)) (now (out .exit)) start (runLines fallingLetter (storeRuns (now (words .entry)) path.falling)) r × (r ≤ start + edgeBytes) ⌝ }
 {
-    put_runs(
-        out,
-        start,
-        b"F ",
-        words,
-        FALLING_WORD,
-        words[FALLING_COUNT] as usize,
-    )
+    put_runs(out, start, b"F ", edge_runs(words, Edge::Falling))
 }
 
 // The lines of the totals of a sound store, at a place.

@@ -19,8 +19,8 @@ mark-put l at = rw (add-one at) refl
 
 -- the mark, V1 and V2, one after the other
 pub test-put : (l m a b : List ℕ) (at n x y : ℕ)
-    → m ≡ sets l at (0x54 ∷ 0x50 ∷ []) → a ≡ sets m (at + 2) (littleEndian n x) → b ≡ sets a (at + 2 + n) (littleEndian n y)
-    → b ≡ sets l at (testBytes (littleEndian n x) (littleEndian n y))
+    → m ≡ sets l at (0x54 ∷ 0x50 ∷ []) → a ≡ sets m (at + 2) (littleEndian n x)
+    → b ≡ sets a (at + 2 + n) (littleEndian n y) → b ≡ sets l at (testBytes (littleEndian n x) (littleEndian n y))
 unfolding testBytes
 test-put l m a b at n x y o p q =
     let v1 : List ℕ = littleEndian n x in
@@ -33,18 +33,21 @@ test-put l m a b at n x y o p q =
     ∙ sets-append mark (v1 ++ v2) l at (at + 2) refl
 
 -- a field of four bytes, by its halves
-four-bytes : (l : List ℕ) → 3 < length l → fromLittleEndian (take 4 l) ≡ fromLittleEndian (take 2 l) + 65536 * fromLittleEndian (take 2 (drop 2 l))
+four-bytes : (l : List ℕ) → 3 < length l
+    → fromLittleEndian (take 4 l) ≡ fromLittleEndian (take 2 l) + 65536 * fromLittleEndian (take 2 (drop 2 l))
 four-bytes [] h = absurd (omega arith)
 four-bytes (a ∷ []) h = absurd (omega arith)
 four-bytes (a ∷ b ∷ []) h = absurd (omega arith)
 four-bytes (a ∷ b ∷ c ∷ []) h = absurd (omega arith)
 four-bytes (a ∷ b ∷ c ∷ d ∷ l) h = omega arith
 
-pub field-four : (bs : List ℕ) (at low high : ℕ) → at + 3 < length bs → low ≡ field at 2 bs → high ≡ field (at + 2) 2 bs → low + 65536 * high ≡ field at 4 bs
+pub field-four : (bs : List ℕ) (at low high : ℕ) → at + 3 < length bs → low ≡ field at 2 bs → high ≡ field (at + 2) 2 bs
+    → low + 65536 * high ≡ field at 4 bs
 field-four bs at low high h p q =
     let l : 3 < length (drop at bs) = omega (arith, length-drop at bs) in
     let e = four-bytes (drop at bs) l in
-    let f : fromLittleEndian (take 2 (drop 2 (drop at bs))) ≡ field (at + 2) 2 bs = ap (λ (z : List ℕ). fromLittleEndian (take 2 z)) (drop-drop 2 at bs) in
+    let f : fromLittleEndian (take 2 (drop 2 (drop at bs))) ≡ field (at + 2) 2 bs =
+    ap (λ (z : List ℕ). fromLittleEndian (take 2 z)) (drop-drop 2 at bs) in
     omega arith
 
 -- the sizes are small

@@ -50,7 +50,8 @@ unfolding stateAfter
 after-next zero s h = absurd (omega arith)
 after-next (suc n) s h = let e : suc n - 1 ≡ n = omega arith in rw e refl
 
-word-next : (n s : ℕ) → 0 < n → wordOf (drawn n s) ≡ oneWhere (topBit (nextState s)) + 2 * wordOf (drawn (n - 1) (nextState s))
+word-next : (n s : ℕ) → 0 < n
+    → wordOf (drawn n s) ≡ oneWhere (topBit (nextState s)) + 2 * wordOf (drawn (n - 1) (nextState s))
 unfolding wordOf
 word-next n s h = ap wordOf (drawn-next n s h)
 

@@ -4,7 +4,8 @@ use mathlib.Core.Path.{_≡_, refl}
 use mathlib.Core.List.{[], _∷_}
 use lib.ListN.{length, take}
 use Rattle.model.specs.Encode.{testBytes}
-use Rattle.load.specs.Load.{nextState, stateAfter, drawn, inputTest, testsFrom, loadTests, wordOf, recordBytes, fileBytes, loadRecords, vectorRecords}
+use Rattle.load.specs.Load.{nextState, stateAfter, drawn, inputTest, testsFrom, loadTests, wordOf, recordBytes}
+use Rattle.load.specs.Load.{fileBytes, loadRecords, vectorRecords}
 use Rattle.load.specs.Calls.{requestOf, programBytes}
 
 -- load.bin asks for 2 vectors of 3 inputs from seed 1: the vectors are 0, 0, 1 and 1, 0, 0

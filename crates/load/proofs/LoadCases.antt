@@ -37,7 +37,8 @@ range-rest n h = rw (le-leb 1 n h) refl
 pub ruleset range-cases = (range-none, range-rest, needs)
 
 module _ (state inputs : ℕ) (buffer : List ℕ) where
-  pub load-short : length buffer < loadBufferBytes → LoadTrue (load.Refused why.ReportBufferLength) state inputs buffer buffer
+  pub load-short : length buffer < loadBufferBytes
+      → LoadTrue (load.Refused why.ReportBufferLength) state inputs buffer buffer
   unfolding loadCall loadAnswer loadBuffer
   load-short h = record {
     answer = rw (lt-leb loadBufferBytes (length buffer) h) refl;
@@ -64,7 +65,8 @@ module _ (state inputs : ℕ) (buffer : List ℕ) where
       pub load-room : 0 + vectorSize inputs ≤ length buffer
       load-room = omega (arith, size-most inputs load-few)
 
-      pub load-written : (s k : ℕ) (left : List ℕ) → s ≡ stateAfter inputs state → left ≡ sets buffer 0 (loadRecords inputs state) → k ≡ vectorSize inputs
+      pub load-written : (s k : ℕ) (left : List ℕ) → s ≡ stateAfter inputs state
+          → left ≡ sets buffer 0 (loadRecords inputs state) → k ≡ vectorSize inputs
           → LoadTrue (load.Written s k) state inputs buffer left
       unfolding loadCall loadAnswer loadBuffer
       load-written s k left p q e =
@@ -72,7 +74,8 @@ module _ (state inputs : ℕ) (buffer : List ℕ) where
           let size : length R ≡ vectorSize inputs = length-load inputs state in
           let start : 0 + length R ≡ length R = omega arith in
           let fits : 0 + length R ≤ length buffer = omega (arith, size-most inputs load-few) in
-          let put : left ≡ R ++ drop (length R) buffer = q ∙ sets-eq R buffer 0 fits ∙ ap (λ (i : ℕ). R ++ drop i buffer) start in
+          let put : left ≡ R ++ drop (length R) buffer =
+          q ∙ sets-eq R buffer 0 fits ∙ ap (λ (i : ℕ). R ++ drop i buffer) start in
           let m : k ≡ length R = e ∙ sym size in
           record {
             answer = rw (p, m) (rw (le-leb loadBufferBytes (length buffer) h, r) refl);
@@ -88,7 +91,8 @@ pub record Gathering (inputs state vectors size : ℕ) (found records : List ℕ
   pub whole : sets records place (vectorRecords inputs left last) ≡ sets found 0 (vectorRecords inputs vectors state)
   pub steps : stateAfter (left * inputs) last ≡ stateAfter (vectors * inputs) state
 
-pub gather-first : (inputs state vectors size : ℕ) (found : List ℕ) → Gathering inputs state vectors size found found state 0 vectors
+pub gather-first : (inputs state vectors size : ℕ) (found : List ℕ)
+    → Gathering inputs state vectors size found found state 0 vectors
 gather-first inputs state vectors size found = record { long = refl; stands = omega arith; whole = refl; steps = refl }
 
 less-one : (k n : ℕ) → 0 < k → k * n ≡ n + (k - 1) * n
@@ -118,7 +122,8 @@ module _ (inputs state vectors size : ℕ) (sized : size ≡ vectorSize inputs) 
     pub gather-fits : length found < 2 ^ 64 → place + size < 2 ^ 64
     gather-fits l = omega (arith, room)
 
-  pub gather-next : 0 < left → (after : ℕ) (b : List ℕ) → after ≡ stateAfter inputs last → b ≡ sets records place (loadRecords inputs last)
+  pub gather-next : 0 < left → (after : ℕ) (b : List ℕ) → after ≡ stateAfter inputs last
+      → b ≡ sets records place (loadRecords inputs last)
       → length b ≡ length records → Gathering inputs state vectors size found b after (place + size) (left - 1)
   gather-next more after b p q same =
       let e : vectorRecords inputs left last ≡ loadRecords inputs last ++ vectorRecords inputs (left - 1) after =
@@ -170,7 +175,8 @@ module _ (inputs size room vectors : ℕ) (sized : size ≡ vectorSize inputs) (
         omega arith
 
     pub fit-room : vectors * vectorSize inputs ≤ room
-    fit-room = let e : vectors * size ≡ vectors * vectorSize inputs = ap (λ k. vectors * k) sized in omega (arith, fit-bytes)
+    fit-room =
+        let e : vectors * size ≡ vectors * vectorSize inputs = ap (λ k. vectors * k) sized in omega (arith, fit-bytes)
 
     pub fit-size : room < 2 ^ 64 → vectors * size < 2 ^ 64
     fit-size l = omega (arith, fit-bytes)

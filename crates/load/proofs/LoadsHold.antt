@@ -16,7 +16,8 @@ use Rattle.model.specs.Read.{recordLength, testOf, testRules}
 use Rattle.model.specs.Report.{records, fileRecords}
 use Rattle.model.proofs.ListLaws.{getD-map-in}
 use Rattle.load.specs.Load.{Pair, stateAfter, inputTest, recordBytes, fileBytes, loadRecords, vectorRecords}
-use Rattle.load.specs.Passes.{MovesOnly, inputAt, edgeAt, placeAt, loadFile, recordAt, LoadPasses, stateAfterCalls}
+use Rattle.load.specs.Passes.{MovesOnly, inputAt, edgeAt, placeAt, loadFile, recordAt, LoadPasses}
+use Rattle.load.specs.Passes.{stateAfterCalls}
 use Rattle.load.proofs.SizeLaws.{Wide, length-record, test-wide, after-add}
 use Rattle.load.proofs.PackedLaws.{judgedPair, record-passes, record-back}
 use Rattle.load.proofs.MoveLaws.{TestAt, test-moves, vectorTests, vectors-length, vectors-at, vectors-bytes}
@@ -37,10 +38,13 @@ module _ (N : Netlist) where
   cut (t ∷ ts) w =
       let l : length (recordBytes t) ≡ recordLength N = length-record (N .inputs) t (w 0 t (omega arith)) in
       let c = cut ts (λ i d h. w (suc i) d (omega arith)) in
-      let n : suc (length ts) * recordLength N ≡ length ts * recordLength N + recordLength N = suc-mul (length ts) (recordLength N) in
+      let n : suc (length ts) * recordLength N ≡ length ts * recordLength N + recordLength N =
+      suc-mul (length ts) (recordLength N) in
       let a = length-append (recordBytes t) (fileBytes ts) in
-      let first : take (recordLength N) (recordBytes t ++ fileBytes ts) ≡ recordBytes t = take-at (recordBytes t) (fileBytes ts) (recordLength N) l in
-      let rest : drop (recordLength N) (recordBytes t ++ fileBytes ts) ≡ fileBytes ts = drop-at (recordBytes t) (fileBytes ts) (recordLength N) l in
+      let first : take (recordLength N) (recordBytes t ++ fileBytes ts) ≡ recordBytes t =
+      take-at (recordBytes t) (fileBytes ts) (recordLength N) l in
+      let rest : drop (recordLength N) (recordBytes t ++ fileBytes ts) ≡ fileBytes ts =
+      drop-at (recordBytes t) (fileBytes ts) (recordLength N) l in
       let size : length (fileBytes ts) ≡ length ts * recordLength N = c .1 in (
         rw (first, rest) (ap (λ (z : List (List ℕ)). recordBytes t ∷ z) (c .0)),
         omega arith,
@@ -59,7 +63,8 @@ module _ (N : Netlist) where
 
     wide-of : (i : ℕ) (t : Pair) → TestAt (N .inputs) i t → Wide (N .inputs) t
     wide-of i t a =
-        let w : Wide (length (a .vector)) (inputTest (a .vector) (inputAt i) (edgeAt i)) = test-wide (a .vector) (inputAt i) (edgeAt i) in
+        let w : Wide (length (a .vector)) (inputTest (a .vector) (inputAt i) (edgeAt i)) =
+        test-wide (a .vector) (inputAt i) (edgeAt i) in
         subst (λ (n : ℕ). Wide n t) (a .long) (subst (λ (x : Pair). Wide (length (a .vector)) x) (sym (a .is)) w)
 
     all-wide : AllWide (N .inputs) (vectorTests (N .inputs) vectors s)
@@ -67,7 +72,8 @@ module _ (N : Netlist) where
         wide-of (i % (2 * N .inputs)) (getD (vectorTests (N .inputs) vectors s) i d) (vectors-at (N .inputs) vectors s i d (omega (arith, count)))
 
     file-is : loadFile N vectors s ≡ map recordBytes (vectorTests (N .inputs) vectors s)
-    file-is = ap (fileRecords N) (vectors-bytes (N .inputs) vectors s) ∙ cut-file (vectorTests (N .inputs) vectors s) all-wide
+    file-is =
+        ap (fileRecords N) (vectors-bytes (N .inputs) vectors s) ∙ cut-file (vectorTests (N .inputs) vectors s) all-wide
 
     all-count : length (loadFile N vectors s) ≡ length (vectorTests (N .inputs) vectors s)
     all-count = ap (length {A = List ℕ}) file-is ∙ length-map (vectorTests (N .inputs) vectors s) recordBytes
@@ -98,7 +104,8 @@ module _ (N : Netlist) where
       some zero k l = absurd (let z : k * (2 * 0) ≡ 0 = omega arith in omega arith)
       some (suc n) k l = omega arith
 
-      moved : (c : Class) → MovesOnly (testOf N c (recordAt N vectors s i)) (edgeAt (placeAt N i)) (inputAt (placeAt N i))
+      moved : (c : Class)
+          → MovesOnly (testOf N c (recordAt N vectors s i)) (edgeAt (placeAt N i)) (inputAt (placeAt N i))
       moved c =
           let p : ℕ = i % (2 * N .inputs) in
           let t : Pair = getD (vectorTests (N .inputs) vectors s) i noTest in
@@ -123,7 +130,8 @@ load-passes N vectors s = record {
 -- So in every record some input changes
 pub load-changes : (N : Netlist) (c : Class) (vectors s i : ℕ) → i < vectors * (2 * N .inputs)
     → (e : Edge) × ((j : ℕ) × T (hasEdge (testOf N c (recordAt N vectors s i)) e j))
-load-changes N c vectors s i h = (edgeAt (placeAt N i), (inputAt (placeAt N i), load-passes N vectors s .moves c i h .moves))
+load-changes N c vectors s i h =
+    (edgeAt (placeAt N i), (inputAt (placeAt N i), load-passes N vectors s .moves c i h .moves))
 
 -- The state after n vectors of I inputs is that after n·I steps
 pub state-after-calls : (n calls s : ℕ) → stateAfterCalls n calls s ≡ stateAfter (calls * n) s
@@ -134,7 +142,8 @@ state-after-calls n (suc calls) s =
     state-after-calls n calls (stateAfter n s) ∙ sym (after-add n (calls * n) s) ∙ sym (ap (λ k. stateAfter k s) e)
 
 -- Records of vectors, and then of further ones, are those of all: a load may be written in parts
-pub vectors-add : (n a b s : ℕ) → vectorRecords n (a + b) s ≡ vectorRecords n a s ++ vectorRecords n b (stateAfter (a * n) s)
+pub vectors-add : (n a b s : ℕ)
+    → vectorRecords n (a + b) s ≡ vectorRecords n a s ++ vectorRecords n b (stateAfter (a * n) s)
 unfolding vectorRecords stateAfter
 vectors-add n zero b s =
     let e : 0 + b ≡ b = omega arith in
@@ -143,7 +152,8 @@ vectors-add n zero b s =
 vectors-add n (suc a) b s =
     let e : suc a + b ≡ suc (a + b) = omega arith in
     let m : suc a * n ≡ n + a * n = omega (arith, suc-mul a n) in
-    let t : stateAfter (suc a * n) s ≡ stateAfter (a * n) (stateAfter n s) = ap (λ k. stateAfter k s) m ∙ after-add n (a * n) s in
+    let t : stateAfter (suc a * n) s ≡ stateAfter (a * n) (stateAfter n s) =
+    ap (λ k. stateAfter k s) m ∙ after-add n (a * n) s in
     let first : List ℕ = loadRecords n s in
     ap (λ k. vectorRecords n k s) e
     ∙ ap (λ (z : List ℕ). first ++ z) (vectors-add n a b (stateAfter n s))

@@ -13,7 +13,8 @@ use lib.Seq.{getD-set-same, getD-set-other, getD-append-add}
 use Rattle.model.specs.Detect.{Class, Test, hasEdge}
 use Rattle.model.specs.Path.{Edge, rising, falling}
 use Rattle.model.proofs.BoolLaws.{le-or-lt}
-use Rattle.load.specs.Load.{Pair, stateAfter, drawn, finalValue, inputTest, testsFrom, loadTests, fileBytes, loadRecords, vectorRecords, recordBytes}
+use Rattle.load.specs.Load.{Pair, stateAfter, drawn, finalValue, inputTest, testsFrom, loadTests, fileBytes}
+use Rattle.load.specs.Load.{loadRecords, vectorRecords, recordBytes}
 use Rattle.load.specs.Passes.{MovesOnly, inputAt, edgeAt}
 use Rattle.load.proofs.VectorSteps.{length-drawn, test-is}
 use Rattle.load.proofs.PackedLaws.{judgedPair}
@@ -40,8 +41,10 @@ module _ (c : Class) (v : List Bool) (j : ℕ) where
   -- another input makes no edge
   elsewhere : (a b : Bool) (f : Edge) (k : ℕ) → (k ≡ j → ⊥) → T (hasEdge (around a b) f k) → ⊥
   unfolding hasEdge
-  elsewhere a b rising k d t = no-rise (getD v k false) (rw (getD-set-other v j k a false d, getD-set-other v j k b false d) at t)
-  elsewhere a b falling k d t = no-fall (getD v k false) (rw (getD-set-other v j k a false d, getD-set-other v j k b false d) at t)
+  elsewhere a b rising k d t =
+      no-rise (getD v k false) (rw (getD-set-other v j k a false d, getD-set-other v j k b false d) at t)
+  elsewhere a b falling k d t =
+      no-fall (getD v k false) (rw (getD-set-other v j k a false d, getD-set-other v j k b false d) at t)
 
   module _ (inside : j < length v) where
     here : (b : Bool) → getD (set v j b) j false ≡ b
@@ -80,7 +83,8 @@ pub record TestAt (n i : ℕ) (t : Pair) : Type 0 where
   pub long : length vector ≡ n
   pub is : t ≡ inputTest vector (inputAt i) (edgeAt i)
 
-order : (v : List Bool) (n j i : ℕ) (d : Pair) → i < 2 * n → getD (testsFrom v j n) i d ≡ inputTest v (j + i / 2) (edgeAt i)
+order : (v : List Bool) (n j i : ℕ) (d : Pair) → i < 2 * n
+    → getD (testsFrom v j n) i d ≡ inputTest v (j + i / 2) (edgeAt i)
 unfolding testsFrom
 order v zero j i d h = absurd (omega arith)
 order v (suc n) j zero d h = let e : j + 0 / 2 ≡ j = omega arith in ap (λ k. inputTest v k rising) (sym e)
@@ -139,7 +143,8 @@ vectors-at n (suc k) s i d h =
     let e : length (loadTests n s) + (i - 2 * n) ≡ i = omega arith in
     let p : getD (first ++ rest) i d ≡ getD rest (i - 2 * n) d =
     ap (λ q. getD (first ++ rest) q d) (sym e) ∙ getD-append-add first rest (i - 2 * n) d in
-    let t : TestAt n ((i - 2 * n) % (2 * n)) (getD rest (i - 2 * n) d) = vectors-at n k (stateAfter n s) (i - 2 * n) d (omega arith) in
+    let t : TestAt n ((i - 2 * n) % (2 * n)) (getD rest (i - 2 * n) d) =
+    vectors-at n k (stateAfter n s) (i - 2 * n) d (omega arith) in
     subst (λ (x : Pair). TestAt n (i % (2 * n)) x) (sym p) (subst (λ (r : ℕ). TestAt n r (getD rest (i - 2 * n) d)) m t))
     (λ (l : i < 2 * n).
     let p : getD (first ++ rest) i d ≡ getD first i d = List·getD-append first rest d i (omega arith) in
@@ -150,7 +155,9 @@ vectors-at n (suc k) s i d h =
 file-append : (ts us : List Pair) → fileBytes (ts ++ us) ≡ fileBytes ts ++ fileBytes us
 unfolding fileBytes
 file-append [] us = refl
-file-append (t ∷ ts) us = ap (λ (z : List ℕ). recordBytes t ++ z) (file-append ts us) ∙ sym (append-assoc (recordBytes t) (fileBytes ts) (fileBytes us))
+file-append (t ∷ ts) us =
+    ap (λ (z : List ℕ). recordBytes t ++ z) (file-append ts us)
+    ∙ sym (append-assoc (recordBytes t) (fileBytes ts) (fileBytes us))
 
 pub vectors-bytes : (n k s : ℕ) → vectorRecords n k s ≡ fileBytes (vectorTests n k s)
 unfolding vectorRecords vectorTests loadRecords fileBytes

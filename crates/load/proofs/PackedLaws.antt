@@ -14,7 +14,8 @@ use Rattle.model.specs.Base.{value, checks, allOf, numbersFrom, littleEndian, b
 use Rattle.model.specs.Detect.{Class, Test}
 use Rattle.model.specs.Encode.{testBytes}
 use Rattle.model.specs.Netlist.{Netlist}
-use Rattle.model.specs.Read.{vectorBytes, marked, inputBit, vector, spareZero, recordLength, v1Part, v2Part, testOf, testRules}
+use Rattle.model.specs.Read.{vectorBytes, marked, inputBit, vector, spareZero, recordLength, v1Part, v2Part, testOf}
+use Rattle.model.specs.Read.{testRules}
 use Rattle.model.proofs.AnswerLaws.{→checks}
 use Rattle.model.proofs.BoolLaws.{both, false→not, eq→eqb}
 use Rattle.model.proofs.ListLaws.{getD-map-in, length-numbersFrom, numbersFrom-at}
@@ -41,11 +42,13 @@ byte-bits (suc n) =
 
 word-held : (v : List Bool) → wordOf v < 256 ^ vectorBytes (length v)
 word-held v =
-    let m : 2 ^ length v ≤ 2 ^ (8 * vectorBytes (length v)) = pow-mono {i = length v} {j = 8 * vectorBytes (length v)} (omega arith) in
+    let m : 2 ^ length v ≤ 2 ^ (8 * vectorBytes (length v)) =
+    pow-mono {i = length v} {j = 8 * vectorBytes (length v)} (omega arith) in
     omega (arith, word-small v, byte-bits (vectorBytes (length v)))
 
 -- Input j of a packed vector, whatever bytes follow it
-pub packed-bit : (v : List Bool) (rest : List ℕ) (j : ℕ) → j / 8 < vectorBytes (length v) → inputBit (packed v ++ rest) j ≡ getD v j false
+pub packed-bit : (v : List Bool) (rest : List ℕ) (j : ℕ) → j / 8 < vectorBytes (length v)
+    → inputBit (packed v ++ rest) j ≡ getD v j false
 packed-bit v rest j h =
     let inside : j / 8 < length (packed v) = omega (arith, length-packed v) in
     ap (λ k. bit k (j % 8)) (List·getD-append (packed v) rest 0 (j / 8) inside)
@@ -103,7 +106,8 @@ module _ (N : Netlist) (t : Pair) (w : Wide (N .inputs) t) where
   pub record-passes : checks (testRules N (recordBytes t)) ≡ value tt
   record-passes =
       let rec : List ℕ = recordBytes t in
-      let long : T (eqb (length rec) (recordLength N)) = eq→eqb (length rec) (recordLength N) (length-record (N .inputs) t w) in
+      let long : T (eqb (length rec) (recordLength N)) =
+      eq→eqb (length rec) (recordLength N) (length-record (N .inputs) t w) in
       let one : T (spareZero (N .inputs) (v1Part N rec)) =
       rw (first-part) (subst (λ (n : ℕ). T (spareZero n (packed (t .v1) ++ packed (t .v2)))) (w .first) (packed-spare (t .v1) (packed (t .v2)))) in
       let two : T (spareZero (N .inputs) (v2Part N rec)) =

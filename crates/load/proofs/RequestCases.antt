@@ -15,8 +15,8 @@ pub request-none : (bs : List ℕ) → (length bs ≡ requestBytes → ⊥) → 
 unfolding requestOf
 request-none bs d = rw (ne-eqb (length bs) requestBytes d, requestOf) refl
 
-pub request-some : (bs : List ℕ) → length bs ≡ requestBytes → (s n i : ℕ) → s ≡ field 0 4 bs → n ≡ field 4 4 bs → i ≡ field 8 2 bs
-    → askedOf (asked.Load s n i) ≡ requestOf bs
+pub request-some : (bs : List ℕ) → length bs ≡ requestBytes → (s n i : ℕ) → s ≡ field 0 4 bs → n ≡ field 4 4 bs
+    → i ≡ field 8 2 bs → askedOf (asked.Load s n i) ≡ requestOf bs
 unfolding requestOf
 request-some bs l s n i p q r = rw (p, q, r) (rw (eq-eqb (length bs) requestBytes l, requestOf) refl)
 

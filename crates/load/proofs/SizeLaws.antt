@@ -11,7 +11,8 @@ use Rattle.model.specs.Encode.{testBytes}
 use Rattle.model.specs.Path.{Edge, rising, falling}
 use Rattle.model.specs.Read.{vectorBytes}
 use Rattle.model.proofs.FieldLaws.{length-littleEndian}
-use Rattle.load.specs.Load.{Pair, nextState, stateAfter, drawn, inputTest, testsFrom, loadTests, wordOf, packed, recordBytes, fileBytes, loadRecords, vectorRecords}
+use Rattle.load.specs.Load.{Pair, nextState, stateAfter, drawn, inputTest, testsFrom, loadTests, wordOf, packed}
+use Rattle.load.specs.Load.{recordBytes, fileBytes, loadRecords, vectorRecords}
 use Rattle.load.specs.Answers.{recordSize, vectorSize}
 use Rattle.load.proofs.ByteSteps.{size-small}
 use Rattle.load.proofs.VectorSteps.{length-drawn}
@@ -46,10 +47,13 @@ length-tests v j (suc n) =
     let rest : List ℕ = fileBytes (testsFrom v (suc j) n) in
     let a : length (up ++ (down ++ rest)) ≡ length up + length (down ++ rest) = length-append up (down ++ rest) in
     let b : length (down ++ rest) ≡ length down + length rest = length-append down rest in
-    let c : length up ≡ recordSize (length v) = length-record (length v) (inputTest v j rising) (test-wide v j rising) in
-    let d : length down ≡ recordSize (length v) = length-record (length v) (inputTest v j falling) (test-wide v j falling) in
+    let c : length up ≡ recordSize (length v) =
+    length-record (length v) (inputTest v j rising) (test-wide v j rising) in
+    let d : length down ≡ recordSize (length v) =
+    length-record (length v) (inputTest v j falling) (test-wide v j falling) in
     let i : length rest ≡ n * (2 * recordSize (length v)) = length-tests v (suc j) n in
-    let m : suc n * (2 * recordSize (length v)) ≡ n * (2 * recordSize (length v)) + 2 * recordSize (length v) = suc-mul n (2 * recordSize (length v)) in
+    let m : suc n * (2 * recordSize (length v)) ≡ n * (2 * recordSize (length v)) + 2 * recordSize (length v) =
+    suc-mul n (2 * recordSize (length v)) in
     omega arith
 
 -- One vector's records have this size
@@ -68,9 +72,11 @@ size-positive n h = mul-pos {m = n} {n = 2 * recordSize n} h (omega arith)
 pub after-add : (m n s : ℕ) → stateAfter (m + n) s ≡ stateAfter n (stateAfter m s)
 unfolding stateAfter
 after-add zero n s = let e : 0 + n ≡ n = omega arith in ap (λ k. stateAfter k s) e
-after-add (suc m) n s = let e : suc m + n ≡ suc (m + n) = omega arith in ap (λ k. stateAfter k s) e ∙ after-add m n (nextState s)
+after-add (suc m) n s =
+    let e : suc m + n ≡ suc (m + n) = omega arith in ap (λ k. stateAfter k s) e ∙ after-add m n (nextState s)
 
-pub vectors-next : (n k s : ℕ) → 0 < k → vectorRecords n k s ≡ loadRecords n s ++ vectorRecords n (k - 1) (stateAfter n s)
+pub vectors-next : (n k s : ℕ) → 0 < k
+    → vectorRecords n k s ≡ loadRecords n s ++ vectorRecords n (k - 1) (stateAfter n s)
 unfolding vectorRecords
 vectors-next n zero s h = absurd (omega arith)
 vectors-next n (suc k) s h = let e : suc k - 1 ≡ k = omega arith in rw e refl

@@ -17,7 +17,8 @@ use Rattle.model.specs.Path.{Edge, rising, falling}
 use Rattle.model.specs.Read.{vectorBytes}
 use Rattle.records.proofs.ByteLaws.{sets-append}
 use Rattle.model.proofs.FieldLaws.{length-littleEndian}
-use Rattle.load.specs.Load.{Pair, nextState, drawn, finalValue, invertedAt, inputTest, testsFrom, loadTests, wordOf, packed, recordBytes, fileBytes, loadRecords}
+use Rattle.load.specs.Load.{Pair, nextState, drawn, finalValue, invertedAt, inputTest, testsFrom, loadTests}
+use Rattle.load.specs.Load.{wordOf, packed, recordBytes, fileBytes, loadRecords}
 use Rattle.load.specs.Answers.{DrawnTrue, vectorSize}
 use Rattle.load.specs.declared.inner.Drawn.{Drawn}
 use Rattle.load.proofs.WordLaws.{word-small, lowered-is, raised-is}
@@ -29,34 +30,41 @@ length-drawn (suc n) s = ap suc (length-drawn n (nextState s))
 
 -- an input that has a value, inverted
 inverted-set : (v : List Bool) (j : ℕ) (b : Bool) → j < length v → invertedAt j (set v j b) ≡ set v j (not b)
-inverted-set v j b h = set-set v j b (not (getD (set v j b) j false)) ∙ ap (λ x. set v j (not x)) (getD-set-same v j b false h)
+inverted-set v j b h =
+    set-set v j b (not (getD (set v j b) j false)) ∙ ap (λ x. set v j (not x)) (getD-set-same v j b false h)
 
 -- the two vectors of a test: the input before and after its edge
 pub test-is : (v : List Bool) (j : ℕ) (e : Edge) → j < length v
     → inputTest v j e ≡ record { v1 = set v j (not (finalValue e)); v2 = set v j (finalValue e) }
 unfolding inputTest
-test-is v j e h = ap (λ (x : List Bool). record { v1 = x; v2 = set v j (finalValue e) }) (inverted-set v j (finalValue e) h)
+test-is v j e h =
+    ap (λ (x : List Bool). record { v1 = x; v2 = set v j (finalValue e) }) (inverted-set v j (finalValue e) h)
 
-packed-set : (v : List Bool) (j : ℕ) (b : Bool) (bytes word : ℕ) → bytes ≡ vectorBytes (length v) → word ≡ wordOf (set v j b)
-    → packed (set v j b) ≡ littleEndian bytes word
+packed-set : (v : List Bool) (j : ℕ) (b : Bool) (bytes word : ℕ) → bytes ≡ vectorBytes (length v)
+    → word ≡ wordOf (set v j b) → packed (set v j b) ≡ littleEndian bytes word
 packed-set v j b bytes word p q = ap₂ littleEndian (ap vectorBytes (length-set v j b) ∙ sym p) (sym q)
 
 module _ (v : List Bool) (j bytes low high : ℕ) (inside : j < length v) (size : bytes ≡ vectorBytes (length v)) (lowIs : low ≡ wordOf (set v j false))
     (highIs : high ≡ wordOf (set v j true)) where
   rising-bytes : recordBytes (inputTest v j rising) ≡ testBytes (littleEndian bytes low) (littleEndian bytes high)
   unfolding recordBytes
-  rising-bytes = ap recordBytes (test-is v j rising inside) ∙ ap₂ testBytes (packed-set v j false bytes low size lowIs) (packed-set v j true bytes high size highIs)
+  rising-bytes =
+      ap recordBytes (test-is v j rising inside)
+      ∙ ap₂ testBytes (packed-set v j false bytes low size lowIs) (packed-set v j true bytes high size highIs)
 
   falling-bytes : recordBytes (inputTest v j falling) ≡ testBytes (littleEndian bytes high) (littleEndian bytes low)
   unfolding recordBytes
-  falling-bytes = ap recordBytes (test-is v j falling inside) ∙ ap₂ testBytes (packed-set v j true bytes high size highIs) (packed-set v j false bytes low size lowIs)
+  falling-bytes =
+      ap recordBytes (test-is v j falling inside)
+      ∙ ap₂ testBytes (packed-set v j true bytes high size highIs) (packed-set v j false bytes low size lowIs)
 
 pub length-test : (bytes x y : ℕ) → length (testBytes (littleEndian bytes x) (littleEndian bytes y)) ≡ 2 + 2 * bytes
 unfolding testBytes
 length-test bytes x y =
     omega (arith, length-append (littleEndian bytes x) (littleEndian bytes y), length-littleEndian bytes x, length-littleEndian bytes y)
 
-tests-next : (v : List Bool) (j n : ℕ) → 0 < n → testsFrom v j n ≡ inputTest v j rising ∷ inputTest v j falling ∷ testsFrom v (j + 1) (n - 1)
+tests-next : (v : List Bool) (j n : ℕ) → 0 < n
+    → testsFrom v j n ≡ inputTest v j rising ∷ inputTest v j falling ∷ testsFrom v (j + 1) (n - 1)
 unfolding testsFrom
 tests-next v j zero h = absurd (omega arith)
 tests-next v j (suc n) h = let e : suc n - 1 ≡ n = omega arith in rw (add-one j, e) refl
@@ -120,13 +128,16 @@ module _ (inputs state bytes at : ℕ) (found : List ℕ) where
       pub write-rising : at + vectorSize inputs ≤ length found → place + 2 + 2 * bytes ≤ length records
       write-rising h = omega (arith, room h)
 
-      pub write-falling : at + vectorSize inputs ≤ length found → (a : List ℕ) → length a ≡ length records → place + (2 + 2 * bytes) + 2 + 2 * bytes ≤ length a
+      pub write-falling : at + vectorSize inputs ≤ length found → (a : List ℕ) → length a ≡ length records
+          → place + (2 + 2 * bytes) + 2 + 2 * bytes ≤ length a
       write-falling h a same = omega (arith, room h)
 
-      pub write-second : at + vectorSize inputs ≤ length found → length found < 2 ^ 64 → place + (2 + 2 * bytes) < 2 ^ 64
+      pub write-second : at + vectorSize inputs ≤ length found → length found < 2 ^ 64
+          → place + (2 + 2 * bytes) < 2 ^ 64
       write-second h l = omega (arith, room h, w .long)
 
-      pub write-place : at + vectorSize inputs ≤ length found → length found < 2 ^ 64 → place + 2 * (2 + 2 * bytes) < 2 ^ 64
+      pub write-place : at + vectorSize inputs ≤ length found → length found < 2 ^ 64
+          → place + 2 * (2 + 2 * bytes) < 2 ^ 64
       write-place h l = omega (arith, room h, w .long)
 
       module _ (d : Drawn) (t : DrawnTrue d inputs state) (low bit : ℕ) (bitIs : bit ≡ 2 ^ input)
@@ -141,7 +152,8 @@ module _ (inputs state bytes at : ℕ) (found : List ℕ) where
         low-word = lowered-is (drawn inputs state) input inside (d .vector) (t .vectorIs) low lowIs
 
         high-word : low + bit ≡ wordOf (set (drawn inputs state) input true)
-        high-word = ap (λ k. low + k) bitIs ∙ raised-is (drawn inputs state) input inside (d .vector) (t .vectorIs) low lowIs
+        high-word =
+            ap (λ k. low + k) bitIs ∙ raised-is (drawn inputs state) input inside (d .vector) (t .vectorIs) low lowIs
 
         pub write-fits : low + bit < 2 ^ 64
         write-fits =
@@ -151,7 +163,8 @@ module _ (inputs state bytes at : ℕ) (found : List ℕ) where
             let p : 2 ^ length v ≤ 2 ^ 64 = pow-mono {i = length v} {j = 64} (omega arith) in
             omega (arith, high-word)
 
-        pub write-next : (a b : List ℕ) → a ≡ sets records place (testBytes (littleEndian bytes low) (littleEndian bytes (low + bit)))
+        pub write-next : (a b : List ℕ)
+            → a ≡ sets records place (testBytes (littleEndian bytes low) (littleEndian bytes (low + bit)))
             → b ≡ sets a (place + (2 + 2 * bytes)) (testBytes (littleEndian bytes (low + bit)) (littleEndian bytes low))
             → length b ≡ length records
             → Writing inputs state (2 + 2 * bytes) at found b (place + 2 * (2 + 2 * bytes)) (input + 1)
@@ -183,4 +196,5 @@ module _ (inputs state bytes at : ℕ) (found : List ℕ) where
                   ∙ w .whole;
             }
 
-pub ruleset write-cases = (write-first, write-last, write-rising, write-falling, write-second, write-place, write-fits, write-next, needs)
+pub ruleset write-cases =
+    (write-first, write-last, write-rising, write-falling, write-second, write-place, write-fits, write-next, needs)

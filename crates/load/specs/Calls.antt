@@ -29,7 +29,8 @@ pub record Handed : Type 0 where
   pub length : ℕ
 
 unfoldable pub loadAnswer : ℕ → ℕ → List ℕ → Answer Handed
-loadAnswer state inputs buffer = loadCall state inputs buffer >>= λ r. value (record { state = stateAfter inputs state; length = length r })
+loadAnswer state inputs buffer =
+    loadCall state inputs buffer >>= λ r. value (record { state = stateAfter inputs state; length = length r })
 
 -- nothing past the records is written, and nothing when refused
 unfoldable pub loadBuffer : ℕ → ℕ → List ℕ → List ℕ

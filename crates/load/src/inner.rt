@@ -102,7 +102,8 @@ fn put_mark(records: &mut [u8], at: usize)
 // Writes the record of two vectors of so many bytes each.
 fn put_test(records: &mut [u8], at: usize, bytes: usize, first: u64, second: u64)
     requires { ⌜ at + 2 + 2 * bytes ≤ length (now records) ⌝ }
-    ensures { λ _. ⌜ now (records .exit) ≡ sets (now (records .entry)) at (testBytes (littleEndian bytes first) (littleEndian bytes second)) ⌝ }
+    ensures { λ _. ⌜ now (records .exit) ≡ sets (now (records .entry)) at
+        (testBytes (littleEndian bytes first) (littleEndian bytes second)) ⌝ }
 {
     put_mark(records, at);
     put(records, at + 2, bytes, first);

@@ -6,25 +6,27 @@ use mathlib.Core.List.{List, [], _∷_}
 use mathlib.Core.Bool.{Bool, true, false, _&&_}
 use native.Mathlib.Omega.{arith}
 use borrow.Author.Needs.{needs}
-use borrow.Author.Tests.{le-leb, lt-leb, lt-ltb, not-true, not-false}
+use borrow.Author.Tests.{le-leb, lt-leb, not-true, not-false}
 use lib.ListN.{length, getD, drop}
-use lib.Dec.{leb, ltb}
+use lib.Dec.{T, leb, ltb, ltb→lt, lt→ltb}
 use Rattle.model.specs.Base.{refused, value, allOf}
 use Rattle.model.specs.Read.{pinsFit, netFields, marked}
+use Rattle.model.proofs.BoolLaws.{both, T→true, true→T}
+use Rattle.model.proofs.ListLaws.{allOf-head, allOf-tail}
 use Rattle.netlist.specs.Reading.{gateStep, SumIs, pinsLower, pinSum}
 use Rattle.netlist.specs.declared.gates.SumAnswer.{SumAnswer}
 use Rattle.netlist.specs.declared.gates.SumAnswer.the-variants as sum
-use Rattle.netlist.proofs.PartLaws.{both-left, both-right, begins-long}
+use Rattle.netlist.proofs.PartLaws.{begins-long}
 
-lower-high : (net high : ℕ) (ps : List ℕ) → net ≤ high → allOf (λ p. ltb p net) ps ≡ true → allOf (λ p. ltb p high) ps ≡ true
-lower-high net high [] h w = refl
+lower-high : (net high : ℕ) (ps : List ℕ) → net ≤ high → T (allOf (λ p. ltb p net) ps) → T (allOf (λ p. ltb p high) ps)
+lower-high net high [] h w = tt
 lower-high net high (p ∷ ps) h w =
-    let l : p < high = omega (arith, borrow.Author.Tests.ltb-true p net (both-left (ltb p net) (allOf (λ p. ltb p net) ps) w)) in
-    rw (lt-ltb p high l) (lower-high net high ps h (both-right (ltb p net) (allOf (λ p. ltb p net) ps) w))
+    let low : p < net = ltb→lt p net (allOf-head (λ q. ltb q net) p ps w) in
+    both (ltb p high) (allOf (λ q. ltb q high) ps) (lt→ltb p high (omega (arith, low))) (lower-high net high ps h (allOf-tail (λ q. ltb q net) p ps w))
 
 pub lower-more : (net high n at : ℕ) (s : List ℕ) (b : Bool) → net ≤ high → b ≡ pinsLower net n at s → b ≡ true → pinsLower high n at s ≡ true
 unfolding pinsLower
-lower-more net high n at s b h e t = lower-high net high (netFields n (drop at s)) h (sym e ∙ t)
+lower-more net high n at s b h e t = T→true _ (lower-high net high (netFields n (drop at s)) h (true→T _ (sym e ∙ t)))
 
 module _ (counts s : List ℕ) (net : ℕ) (m : Bool) (em : m ≡ leb 4 (length s) && marked 0x47 0x54 s) where
   pub gate-mark : m ≡ false → refused 12 ≡ gateStep net counts s
@@ -79,4 +81,18 @@ module _ (counts s : List ℕ) (net : ℕ) (m : Bool) (em : m ≡ leb 4 (length 
                     let o : (count ≡ pinSum counts n 4 s) × (pinSum counts n 4 s ≤ 2 ^ 62) = rw h at e in
                     simp (← em, t, ← ek, ← en, le-leb 1 kind k1, le-leb kind 8 k8, ← ef, f, le-leb (4 + 2 * n) (length s) room, ← el, lw, ← o .0, le-leb count (2 ^ 62) (omega arith))
 
-pub ruleset gate-cases = (gate-mark, gate-kind-in, gate-count-in, gate-kind-low, gate-kind-high, gate-pins, gate-cut, gate-pin, gate-over, gate-taken, not-true, not-false, needs)
+pub ruleset gate-cases = (
+  gate-mark,
+  gate-kind-in,
+  gate-count-in,
+  gate-kind-low,
+  gate-kind-high,
+  gate-pins,
+  gate-cut,
+  gate-pin,
+  gate-over,
+  gate-taken,
+  not-true,
+  not-false,
+  needs,
+)

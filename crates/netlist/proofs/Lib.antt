@@ -5,9 +5,11 @@ pub mod HeaderCases
 pub mod PinLaws
 pub mod FitCases
 pub mod GateCases
+pub mod PositionSteps
 pub mod GateSteps
 pub mod OutputCases
 pub mod PlaceLaws
 pub mod OutputLaws
-pub mod SurveyCases
 pub mod LoadLaws
+pub mod TableLaws
+pub mod LoadCases

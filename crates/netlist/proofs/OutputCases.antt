@@ -151,7 +151,8 @@ unfolding readOutputs outputStep
 outputs-refused zero inputs nets low total counts s n h t = absurd (omega arith)
 outputs-refused (suc left) inputs nets low total counts s n h t = go (checks (outputRules inputs nets counts low total s)) _ _ _ t
   where
-    go : (c : Answer (Unit {0})) (v : OutputRead) (r : Answer (List ℕ × List ℕ)) (f : List ℕ × List ℕ → Answer (List ℕ × List ℕ)) → (c >> value v) ≡ refused n → ((c >> r) >>= f) ≡ refused n
+    go : (c : Answer (Unit {0})) (v : OutputRead) (r : Answer (List ℕ × List ℕ)) (f : List ℕ × List ℕ → Answer (List ℕ × List ℕ))
+        → (c >> value v) ≡ refused n → ((c >> r) >>= f) ≡ refused n
     go (refused k) v r f e = let z : k ≡ n = cc in ap (λ m. refused m) z
     go (value u) v r f e = absurd (Rattle.model.proofs.AnswerLaws.not-refused (sym e))
 
@@ -188,7 +189,8 @@ module _ (left inputs nets low total at : ℕ) (counts s : List ℕ) (whole : An
       outputs = l .outputs ++ (net ∷ []);
       total-is = omega (arith, sum-snoc (outputCount inputs counts) (l .outputs) net, l .total-is, is .total-is, ap (outputCount inputs counts) (is .net-is));
       rest-is = sym (ap (ahead (l .outputs)) (outputs-step left inputs nets low total counts (drop at s) (record { net = net; total = next }) more is)
-          ∙ ahead-next (l .outputs) net _ ∙ ap (λ (b : List ℕ). ahead (l .outputs ++ (net ∷ [])) (readOutputs (left - 1) inputs nets counts (net + 1) next b)) (drop-drop 4 at s)) ∙ l .rest-is;
+          ∙ ahead-next (l .outputs) net _
+          ∙ ap (λ (b : List ℕ). ahead (l .outputs ++ (net ∷ [])) (readOutputs (left - 1) inputs nets counts (net + 1) next b)) (drop-drop 4 at s)) ∙ l .rest-is;
     }
 
 -- counts past the last net do not matter

@@ -3,28 +3,28 @@
 use Prim.Native.Nat.{ℕ, zero, suc, _+_, _-_, _*_, _≤_, _<_}
 use mathlib.Core.Path.{_≡_, refl, sym, ap, ap₂, _∙_, subst}
 use mathlib.Core.List.{List, [], _∷_}
-use mathlib.Core.Bool.{true}
 use native.Mathlib.Omega.{arith}
 use native.Mathlib.Nat.{le-of-suc-le-suc, not-suc-le-zero}
-use lib.ListN.{length, getD, drop, take, length-drop}
+use lib.ListN.{length, getD, drop, length-drop}
 use lib.Seq.{drop-drop, getD-drop}
-use lib.Dec.{T, leb, ltb, leb→le, ltb→lt}
-use Rattle.model.specs.Base.{value, _>>_, checks, allOf, field, fromLittleEndian}
+use lib.Dec.{T, leb, ltb, leb→le}
+use Rattle.model.specs.Base.{value, _>>_, checks, allOf, field}
 use Rattle.model.specs.Netlist.{Netlist, Gate, netByNet, gateCount, outputCount}
 use Rattle.model.specs.Read.{readGates, readOutputs, outputRules, inputsIn, gatesIn, outputsIn, inputCounts, marked}
 use Rattle.model.proofs.AnswerLaws.{steps, then-first, then-second, checks→, value-inj}
-use Rattle.model.proofs.BoolLaws.{and-left, and3, T→true}
+use Rattle.model.proofs.BoolLaws.{and-left, and3, both}
 use Rattle.model.proofs.ReadLaws.{first, nextCounts, outputs-fit}
 use Rattle.model.proofs.WellFormed.{ascendingNets}
-use Rattle.netlist.specs.Places.{outputsFrom, OutputsIn, sizeAt}
+use Rattle.netlist.specs.Places.{outputsFrom, sizeAt}
+use Rattle.netlist.specs.Tables.{outputIn}
 use Rattle.netlist.proofs.PlaceLaws.{Parts, long-file, few-nets, next-at}
 
-pub below : (n least : ℕ) (us : List ℕ) → T (ascendingNets n least us) → allOf (λ p. ltb p n) us ≡ true
+pub below : (n least : ℕ) (us : List ℕ) → T (ascendingNets n least us) → T (allOf (λ p. ltb p n) us)
 unfolding ascendingNets
-below n least [] t = refl
+below n least [] t = tt
 below n least (u ∷ us) t =
     let q = and3 (leb least u) (ltb u n) (ascendingNets n (suc u) us) t in
-    rw (T→true (ltb u n) (q .1)) (below n (suc u) us (q .2))
+    both (ltb u n) (allOf (λ p. ltb p n) us) (q .1) (below n (suc u) us (q .2))
 
 -- the bytes after the gates are the rest of the file from some position on
 record Rest (s : List ℕ) (bs : List ℕ) : Type 0 where
@@ -48,16 +48,14 @@ record Outs (n nets : ℕ) (s : List ℕ) (at : ℕ) (r : List ℕ × List ℕ) 
   outputs-are : r .0 ≡ outputsFrom n (drop at s)
   rest-is : r .1 ≡ drop (at + 4 * n) s
   inside : at + 4 * n ≤ length s
-  outputs-in : OutputsIn s at n
 
 outs : (n inputs nets : ℕ) (cs : List ℕ) (least t : ℕ) (s : List ℕ) (at : ℕ) (r : List ℕ × List ℕ) → nets ≤ 512 → at ≤ length s
     → readOutputs n inputs nets cs least t (drop at s) ≡ value r → Outs n nets s at r
-unfolding readOutputs outputsFrom OutputsIn
+unfolding readOutputs outputsFrom
 outs zero inputs nets cs least t s at r b h e = let z : at ≡ at + 4 * 0 = omega arith in record {
   outputs-are = ap (λ (x : List ℕ × List ℕ). x .0) (sym (value-inj e));
   rest-is = ap (λ (x : List ℕ × List ℕ). x .1) (sym (value-inj e)) ∙ ap (λ k. drop k s) z;
   inside = omega arith;
-  outputs-in = h;
 }
 outs (suc n) inputs nets cs least t s at r b h e =
     let bs = drop at s in
@@ -68,10 +66,8 @@ outs (suc n) inputs nets cs least t s at r b h e =
     let p = steps (checks rules >> m) (λ r. value (field 2 2 bs ∷ r .0, r .1)) e in
     let a = checks→ rules (then-first (checks rules) m (p .first)) in
     let room = leb→le 4 (length bs) (and-left (leb 4 (length bs)) (marked 0x4F 0x55 bs) (a .0)) in
-    let low = ltb→lt o nets (and-left (ltb o nets) (leb least o) (a .1 .0)) in
     let far : at + 4 ≤ length s = omega (arith, room, length-drop at s) in
     let d : drop 4 (drop at s) ≡ drop (at + 4) s = drop-drop 4 at s in
-    let f : field 2 2 bs ≡ field (at + 2) 2 s = ap (λ (x : List ℕ). fromLittleEndian (take 2 x)) (drop-drop 2 at s) in
     let ih = outs n inputs nets cs (suc o) next s (at + 4) (p .got) b far
     (subst (λ (x : List ℕ). readOutputs n inputs nets cs (suc o) next x ≡ value (p .got)) d (then-second (checks rules) m (p .first))) in
     let step : at + 4 + 4 * n ≡ at + 4 * suc n = omega arith in
@@ -80,13 +76,11 @@ outs (suc n) inputs nets cs least t s at r b h e =
       outputs-are = ap (λ (x : List ℕ). o ∷ x) (ih .outputs-are ∙ ap (outputsFrom n) (sym d));
       rest-is = ih .rest-is ∙ ap (λ k. drop k s) step;
       inside = omega (arith, ih .inside);
-      outputs-in = (far, omega (arith, low, f), ih .outputs-in);
     })
 
 -- What the outputs of a legal netlist have: their records are the last of the file
 pub record Outputs (file : List ℕ) (N : Netlist) : Type 0 where
   pub outputs-are : N .outputs ≡ outputsFrom (length (N .outputs)) (drop (length file - 4 * length (N .outputs)) file)
-  pub outputs-in : OutputsIn file (length file - 4 * length (N .outputs)) (length (N .outputs))
   pub room : 4 * length (N .outputs) ≤ length file
 
 pub outputs : (file : List ℕ) (N : Netlist) → Parts file N → Outputs file N
@@ -102,17 +96,19 @@ outputs bs N p =
     let at-is : r .at ≡ length bs - 4 * length (N .outputs) = omega (arith, last, length-drop (r .at + 4 * outputsIn bs) bs, o .inside) in
     record {
       outputs-are = o .outputs-are ∙ ap₂ (λ k x. outputsFrom k (drop x bs)) (sym n) at-is;
-      outputs-in = subst (λ k. OutputsIn bs (length bs - 4 * length (N .outputs)) k) (sym n) (subst (λ x. OutputsIn bs x (outputsIn bs)) at-is (o .outputs-in));
       room = omega (arith, n, o .inside);
     }
 
--- the net of the output at place `o`
-pub output-at : (n at : ℕ) (s : List ℕ) (o : ℕ) → o < n → getD (outputsFrom n (drop at s)) o 0 ≡ field (at + 4 * o + 2) 2 s
+-- the nets that the records name, each out of the part that begins with its record
+pub length-outputs : (n : ℕ) (bs : List ℕ) → length (outputsFrom n bs) ≡ n
 unfolding outputsFrom
-output-at zero at s o h = absurd (not-suc-le-zero h)
-output-at (suc n) at s zero h =
-    let z : at + 2 ≡ at + 4 * 0 + 2 = omega arith in
-    ap (λ (x : List ℕ). fromLittleEndian (take 2 x)) (drop-drop 2 at s) ∙ ap (λ j. field j 2 s) z
-output-at (suc n) at s (suc o) h =
-    let z : at + 4 + 4 * o + 2 ≡ at + 4 * suc o + 2 = omega arith in
-    ap (λ (x : List ℕ). getD (outputsFrom n x) o 0) (drop-drop 4 at s) ∙ output-at n (at + 4) s o (le-of-suc-le-suc h) ∙ ap (λ j. field j 2 s) z
+length-outputs zero bs = refl
+length-outputs (suc n) bs = ap suc (length-outputs n (drop 4 bs))
+
+pub outputs-at : (n : ℕ) (part : List ℕ) (o : ℕ) → o < n → getD (outputsFrom n part) o 0 ≡ outputIn (drop (4 * o) part)
+unfolding outputsFrom
+outputs-at zero part o h = absurd (not-suc-le-zero h)
+outputs-at (suc n) part zero h = refl
+outputs-at (suc n) part (suc o) h =
+    let z : 4 + 4 * o ≡ 4 * suc o = omega arith in
+    outputs-at n (drop 4 part) o (le-of-suc-le-suc h) ∙ ap outputIn (drop-drop (4 * o) 4 part) ∙ ap (λ j. outputIn (drop j part)) z

@@ -1,19 +1,20 @@
 -- The pins of a gate, one at a time.
 -- Assumes nothing.
-use Prim.Native.Nat.{ℕ, zero, suc, _+_, _-_, _^_, _≤_, _<_}
-use mathlib.Core.Path.{_≡_, refl, sym, _∙_}
+use Prim.Native.Nat.{ℕ, zero, suc, _+_, _-_, _*_, _^_, _≤_, _<_}
+use mathlib.Core.Path.{_≡_, refl, sym, ap, _∙_}
 use mathlib.Core.List.{List, _∷_}
 use mathlib.Core.Bool.{Bool, true, false, _&&_}
 use native.Mathlib.Omega.{arith}
+use native.Mathlib.Nat.{add-zero, le-of-suc-le-suc, not-suc-le-zero}
 use native.Mathlib.Numerals.{sub-one}
-use borrow.Author.Tests.{lt-ltb, le-ltb, ltb-true}
-use lib.Dec.{ltb}
+use borrow.Author.Tests.{lt-ltb, le-ltb}
+use lib.Dec.{ltb, ltb→lt}
 use lib.ListN.{getD, drop}
 use lib.Seq.{drop-drop}
 use Rattle.model.specs.Base.{field}
 use Rattle.model.specs.Read.{netFields}
+use Rattle.model.proofs.BoolLaws.{and-left, and-right, T→true, true→T}
 use Rattle.netlist.specs.Reading.{pinsLower, pinSum}
-use Rattle.netlist.proofs.PartLaws.{both-left, both-right}
 
 pub pins-step : (n at : ℕ) (s : List ℕ) → 0 < n → netFields n (drop at s) ≡ field at 2 s ∷ netFields (n - 1) (drop (at + 2) s)
 pins-step zero at s h = absurd (omega arith)
@@ -41,10 +42,12 @@ lower-end net (suc n) at s whole h w = absurd (omega arith)
 
 module _ (net n at : ℕ) (s : List ℕ) (pin : ℕ) where
   pub lower-first : 0 < n → pin ≡ field at 2 s → pinsLower net n at s ≡ true → pin < net
-  lower-first h e w = ltb-true pin net (both-left (ltb pin net) _ (sym (step net n at s true pin h e) ∙ w))
+  lower-first h e w = ltb→lt pin net (and-left (ltb pin net) (pinsLower net (n - 1) (at + 2) s) (true→T _ (sym (step net n at s true pin h e) ∙ w)))
 
 pub lower-rest : (net n at : ℕ) (s : List ℕ) → 0 < n → pinsLower net n at s ≡ true → pinsLower net (n - 1) (at + 2) s ≡ true
-lower-rest net n at s h w = both-right (ltb (field at 2 s) net) _ (sym (step net n at s true (field at 2 s) h refl) ∙ w)
+lower-rest net n at s h w =
+    let rest = pinsLower net (n - 1) (at + 2) s in
+    T→true rest (and-right (ltb (field at 2 s) net) rest (true→T _ (sym (step net n at s true (field at 2 s) h refl) ∙ w)))
 
 module _ (counts : List ℕ) (n at : ℕ) (s : List ℕ) (sum whole pin : ℕ) where
   split : 0 < n → pin ≡ field at 2 s → pinSum counts n at s ≡ getD counts pin 0 + pinSum counts (n - 1) (at + 2) s
@@ -64,3 +67,11 @@ sum-end counts (suc n) at s sum whole h w = absurd (omega arith)
 
 pub sum-fits : (counts : List ℕ) (n at : ℕ) (s : List ℕ) (sum whole : ℕ) → n ≤ 0 → sum ≤ 2 ^ 62 → sum + pinSum counts n at s ≡ whole → whole ≤ 2 ^ 62
 sum-fits counts n at s sum whole h l w = omega (arith, sum-end counts n at s sum whole h w)
+
+-- the net of pin `k`
+pub fields-at : (n at : ℕ) (s : List ℕ) (k : ℕ) → k < n → getD (netFields n (drop at s)) k 0 ≡ field (at + 2 * k) 2 s
+fields-at zero at s k h = absurd (not-suc-le-zero h)
+fields-at (suc n) at s zero h = ap (λ j. field j 2 s) (sym (add-zero at))
+fields-at (suc n) at s (suc k) h =
+    let i : at + 2 + 2 * k ≡ at + 2 * suc k = omega arith in
+    ap (λ (b : List ℕ). getD (netFields n b) k 0) (drop-drop 2 at s) ∙ fields-at n (at + 2) s k (le-of-suc-le-suc h) ∙ ap (λ j. field j 2 s) i

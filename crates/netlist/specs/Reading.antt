@@ -2,17 +2,18 @@
 -- Assumes nothing.
 use Prim.Native.Nat.{ℕ, _+_, _*_, _≤_, _<_}
 use mathlib.Core.Path.{_≡_}
-use mathlib.Core.List.{List, map}
+use mathlib.Core.List.{List, _++_, map}
 use mathlib.Core.Bool.{Bool}
-use lib.ListN.{length, getD, drop}
+use lib.ListN.{length, getD, drop, replicate}
 use lib.Dec.{ltb}
 use Rattle.model.specs.Base.{Answer, refused, value, checks, allOf, sumOf, field, _>>_}
 use Rattle.model.specs.Netlist.{Gate, netByNet, gateCount, atNets, outputCount, maxNets, maxCount}
-use Rattle.model.specs.Read.{headerRules, inputsIn, gatesIn, outputsIn, gateRules, countIn, outputRules, netFields}
+use Rattle.model.specs.Read.{headerRules, inputsIn, gatesIn, outputsIn, gateRules, countIn, outputRules, netFields, readGates}
 use Rattle.model.specs.Refusals.{refusalNumber}
 use Rattle.model.specs.Calls.{padded}
 use Rattle.model.specs.declared.Refusal.{Refusal}
 use Rattle.netlist.specs.Answers.{noSurvey}
+use Rattle.netlist.specs.Places.{starts}
 use Rattle.netlist.specs.declared.header.Header.{Header}
 use Rattle.netlist.specs.declared.header.HeaderAnswer.{HeaderAnswer}
 use Rattle.netlist.specs.declared.header.HeaderAnswer.the-variants as header
@@ -75,16 +76,17 @@ abbrev pub SumIs : SumAnswer → ℕ → Type 0
 SumIs (sum.Sum n) x = (n ≡ x) × (x ≤ maxCount)
 SumIs sum.Over x = maxCount < x
 
--- the gates were read up to a position, with their counts after the counts `cs` of the inputs in the array
-pub record GatesEnd (at : ℕ) (array file cs : List ℕ) (x : Answer (List Gate × List ℕ)) : Type 0 where
+-- `number` gates were read up to a position: their counts stand after those of the inputs, the positions of their records after a zero for each input
+pub record GatesEnd (at : ℕ) (counts positions file : List ℕ) (inputs number : ℕ) : Type 0 where
   pub gates : List Gate
-  pub read : x ≡ value (gates, drop at file)
-  pub array-is : array ≡ padded (netByNet gateCount 0 cs gates)
+  pub read : readGates number (replicate inputs 1) (drop 8 file) ≡ value (gates, drop at file)
+  pub counts-are : counts ≡ padded (netByNet gateCount 0 (replicate inputs 1) gates)
+  pub positions-are : positions ≡ padded (replicate inputs 0 ++ starts number 8 file)
   pub within : at ≤ length file
 
-abbrev pub GatesAre : GatesAnswer → List ℕ → List ℕ → List ℕ → Answer (List Gate × List ℕ) → Type 0
-GatesAre (gates.Done at) array file cs x = GatesEnd at array file cs x
-GatesAre (gates.Refused w) array file cs x = x ≡ refused (refusalNumber w)
+abbrev pub GatesAre : GatesAnswer → List ℕ → List ℕ → List ℕ → ℕ → ℕ → Type 0
+GatesAre (gates.Done at) counts positions file inputs number = GatesEnd at counts positions file inputs number
+GatesAre (gates.Refused w) counts positions file inputs number = readGates number (replicate inputs 1) (drop 8 file) ≡ refused (refusalNumber w)
 
 -- what the code keeps of an output: its net and the sum with its count
 pub record OutputRead : Type 0 where

@@ -2,9 +2,10 @@
 ghost use mathlib.Core.Path.{_≡_};
 ghost use mathlib.Core.Bool.{true};
 ghost use Prim.Native.Nat.{_+_, _*_, _≤_};
-ghost use lib.ListN.{length, drop, replicate};
-ghost use Rattle.model.specs.Read.{pinsFit, readGates};
+ghost use lib.ListN.{length, replicate};
+ghost use Rattle.model.specs.Read.{pinsFit};
 ghost use Rattle.model.specs.Calls.{padded};
+ghost use Rattle.netlist.specs.Places.{zeros};
 ghost use Rattle.netlist.specs.Reading.{gateOf, gateStep, pinsLower, pinSum, SumIs, GatesAre};
 use model::MAX_COUNT;
 use model::Refusal;
@@ -29,29 +30,28 @@ pub(crate) enum SumAnswer {
     Over,
 }
 
-// The counts with only the inputs filled in.
-pub(crate) fn input_counts(inputs: usize) -> [u64; 512]
-    requires { ⌜ inputs ≤ 512 ⌝ }
-    ensures { λ r. ⌜ r ≡ padded (replicate inputs 1) ⌝ }
+// Fills in the counts of the inputs.
+pub(crate) fn set_inputs(counts: &mut [u64; 512], inputs: usize)
+    requires { ⌜ (inputs ≤ 512) × (now counts ≡ zeros) ⌝ }
+    ensures { λ _. ⌜ now (counts .exit) ≡ padded (replicate inputs 1) ⌝ }
 {
-    let mut counts = [0u64; 512];
     let mut i = 0;
     while i < inputs {
         counts[i] = 1;
         i += 1;
     }
-    counts
 }
 
-// The gates, from position 8 on; the count of each goes into the array.
+// The gates, from position 8 on; the count of each and the position of its record go into the arrays.
 pub(crate) fn read_gates(
     netlist: &[u8],
     inputs: usize,
     gates: usize,
     counts: &mut [u64; 512],
+    positions: &mut [u16; 512],
 ) -> GatesAnswer
-    requires { ⌜ (8 ≤ length (now netlist)) × (inputs + gates ≤ 512) × (now counts ≡ padded (replicate inputs 1)) ⌝ }
-    ensures { λ r. ⌜ GatesAre r (now (counts .exit)) (now (netlist .entry)) (replicate inputs 1) (readGates gates (replicate inputs 1) (drop 8 (now (netlist .entry)))) ⌝ }
+    requires { ⌜ (8 ≤ length (now netlist)) × (inputs + gates ≤ 512) × (now counts ≡ padded (replicate inputs 1)) × (now positions ≡ zeros) ⌝ }
+    ensures { λ r. ⌜ GatesAre r (now (counts .exit)) (now (positions .exit)) (now (netlist .entry)) inputs gates ⌝ }
 {
     let mut left = gates;
     let mut net = inputs;
@@ -62,6 +62,7 @@ pub(crate) fn read_gates(
         match gate {
             GateAnswer::Gate { count, size } => {
                 counts[net] = count;
+                positions[net] = at as u16;
                 at += size;
             }
             GateAnswer::Refused(why) => {

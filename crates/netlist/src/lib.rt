@@ -6,14 +6,9 @@ mod outputs;
 
 ghost use mathlib.Core.Path.{_≡_};
 ghost use Rattle.netlist.specs.Answers.{SurveyTrue};
-ghost use Rattle.netlist.specs.Reading.{HeaderRead, refusedBy};
-use crate::gates::GatesAnswer;
-use crate::gates::input_counts;
-use crate::gates::read_gates;
-use crate::header::HeaderAnswer;
-use crate::header::read_header;
-use crate::outputs::OutputsAnswer;
-use crate::outputs::read_outputs;
+ghost use Rattle.netlist.specs.Reading.{refusedBy};
+use crate::inner::LoadAnswer;
+use crate::inner::load;
 use model::Refusal;
 
 // The counts of the nets, with the header's numbers and the total of the paths.
@@ -40,45 +35,23 @@ pub struct Surveyed {
 pub fn survey(netlist: &[u8]) -> Surveyed
     ensures { λ r. ⌜ SurveyTrue r (now (netlist .entry)) ⌝ }
 {
-    let header = read_header(netlist);
-    match header {
-        HeaderAnswer::Refused(why) => refuse(why),
-        HeaderAnswer::Found(found) => {
-            survey_body(netlist, found.inputs, found.gates, found.outputs)
-        }
-    }
-}
-
-// The survey of what follows a header that passed.
-fn survey_body(netlist: &[u8], inputs: usize, gates: usize, outputs: usize) -> Surveyed
-    requires { ⌜ HeaderRead (now netlist) inputs gates outputs ⌝ }
-    ensures { λ r. ⌜ SurveyTrue r (now (netlist .entry)) ⌝ }
-{
-    let mut counts = input_counts(inputs);
-    let read = read_gates(netlist, inputs, gates, &mut counts);
-    match read {
-        GatesAnswer::Refused(why) => refuse(why),
-        GatesAnswer::Done(at) => {
-            let nets = inputs + gates;
-            let last = read_outputs(netlist, at, outputs, inputs, nets, &counts);
-            match last {
-                OutputsAnswer::Refused(why) => refuse(why),
-                OutputsAnswer::Done { at: end, total } => {
-                    if end < netlist.len() {
-                        return refuse(Refusal::BytesLeftOver);
-                    }
-                    let survey = NetlistSurvey {
-                        counts,
-                        inputs,
-                        gates,
-                        outputs,
-                        total,
-                    };
-                    Surveyed {
-                        answer: SurveyAnswer::Legal,
-                        survey,
-                    }
-                }
+    let mut counts = [0u64; 512];
+    let mut positions = [0u16; 512];
+    let answer = load(netlist, &mut counts, &mut positions);
+    match answer {
+        LoadAnswer::Refused(why) => refuse(why),
+        LoadAnswer::Legal { shape, total } => {
+            let gates = shape.nets - shape.inputs;
+            let survey = NetlistSurvey {
+                counts,
+                inputs: shape.inputs,
+                gates,
+                outputs: shape.outputs,
+                total,
+            };
+            Surveyed {
+                answer: SurveyAnswer::Legal,
+                survey,
             }
         }
     }

@@ -7,6 +7,9 @@ use console::with_refusal;
 use console::with_text;
 use faults::PathNo;
 use model::PATH_WORDS;
+use netlist::inner::LoadAnswer;
+use netlist::inner::load;
+use netlist::inner::outputs_part;
 use paths::PathAnswer;
 use paths::number_to_path;
 use records::inner;
@@ -100,22 +103,19 @@ fn print_gates(fd: i32, netlist: &[u8], positions: &[u16; 512], words: &[u16; 51
 
 // The output of a path, then its gates.
 fn print_words(fd: i32, netlist: &[u8], words: &[u16; 513]) {
-    let loaded = netlist::inner::load(netlist);
-    let survey = loaded.survey;
-    let positions = loaded.positions;
-    let place = inner::wide_word(words[0]);
-    let outputs = survey.outputs;
-    if 64 < outputs {
-        return;
+    let mut counts = [0u64; 512];
+    let mut positions = [0u16; 512];
+    let answer = load(netlist, &mut counts, &mut positions);
+    match answer {
+        LoadAnswer::Refused(_) => {}
+        LoadAnswer::Legal { shape, total: _ } => {
+            let place = inner::wide_word(words[0]);
+            let net = field_at(outputs_part(netlist, shape.outputs), 4 * place + 2);
+            let line = with_number(with_text(empty_line(), b"output "), place as u64);
+            print_line(fd, with_number(with_text(line, b": net "), net as u64));
+            print_gates(fd, netlist, &positions, words, net);
+        }
     }
-    if netlist.len() < 4 * outputs {
-        return;
-    }
-    let first = netlist.len() - 4 * outputs;
-    let net = field_at(netlist, first + 4 * place + 2);
-    let line = with_number(with_text(empty_line(), b"output "), place as u64);
-    print_line(fd, with_number(with_text(line, b": net "), net as u64));
-    print_gates(fd, netlist, &positions, words, net);
 }
 
 // Writes the path of a number, a line for each gate, or `refused` and the number of the refusal.

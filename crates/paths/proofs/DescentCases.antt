@@ -1,139 +1,141 @@
--- One step of the descent at a net: to the path of a number, and to the number of a path. Each step is at a lower net.
+-- The cases of the path of a number, by its net.
 -- Assumes nothing.
-use mathlib.Core.Path.{_≡_, refl, sym, ap, _∙_}
+use mathlib.Core.Path.{_≡_, refl, ap, ap₂, sym, _∙_, subst}
 use mathlib.Core.List.{List, [], _∷_}
-use Prim.Native.Nat.{ℕ, _+_, _*_, _^_, _<_, _≤_}
+use Prim.Native.Nat.{ℕ, _+_, _-_, _<_, _≤_}
 use native.Mathlib.Omega.{arith}
-use native.Mathlib.Nat.{le-refl}
 use native.Mathlib.Numerals.{add-one}
 use borrow.Author.Needs.{needs}
-use borrow.Author.Tests.{eq-eqb, ne-eqb}
-use lib.ListN.{length, getD, set, drop, length-set, drop-of-length-le}
-use lib.Seq.{sets, drop-cons}
+use lib.ListN.{length, getD, set, length-set}
+use lib.Seq.{sets}
 use mir.Val.{Fits}
-use mir.Syntax.{w8, w16, w64}
+use mir.Syntax.{w16}
+use Rattle.model.specs.Netlist.{Netlist, nets, counts, pinNet, pinCounts}
+use Rattle.model.specs.Path.{split, pathAt}
+use Rattle.model.proofs.NumberLaws.{pathAt-input}
+use Rattle.model.proofs.ReadLaws.{legal}
+use Rattle.model.proofs.WellFormed.{WellFormed}
+use Rattle.netlist.specs.Tables.{CircuitTables, SomeTables, GatePart, gatePart, pinIn}
+use Rattle.netlist.specs.declared.inner.Shape.{Shape}
+use Rattle.netlist.proofs.TableLaws.{gate-part, few-nets, count-at}
 use Rattle.paths.specs.declared.pins.Pick.{Pick}
-use Rattle.paths.specs.Walk.{pinAt, pinCount, GateAt, Sound, pickAt, pathFrom, beforePin, withBefore, Counted, numberFrom}
-use Rattle.paths.proofs.WalkSteps.{pick-pin-lt, pick-lower, path-input, path-step, number-end, number-input, number-short, number-no-pin, number-step, number-le, before-le}
+use Rattle.paths.specs.Picks.{pinCountsIn, pickPin}
+use Rattle.paths.specs.Tasks.{PinsWritten}
+use Rattle.paths.proofs.TableLaws.{pin-counts}
+use Rattle.paths.proofs.PartialLaws.{pin-is-one, pin-below, there-low, there-high, path-step}
+use Rattle.paths.proofs.StepCases.{step-few, step-inside, step-pins, step-number}
 
-module _ (nl ps : List ℕ) (net pos : ℕ) (ep : pos ≡ getD ps net 0) where
-  -- at a position, the record there is a gate's
-  pub gate-here : Sound nl ps → net < 512 → (pos ≡ 0 → ⊥) → GateAt nl pos net
-  unfolding Sound
-  gate-here s h some = rw ep (s net h (λ z. some (ep ∙ z)))
+-- an input's path has no pins
+pub input-words : (file ps cs : List ℕ) (shape : Shape) (net number at : ℕ) (path : List ℕ) → net < shape .inputs
+    → (N : Netlist) → CircuitTables N file ps cs shape → PinsWritten N net number at at path path
+input-words file ps cs shape net number at path i N t =
+    let none : pathAt N net net number ≡ [] = pathAt-input N (legal file N (t .legal)) net net number (omega (arith, t .inputsAre)) in
+    record { end-is = rw none (omega arith); words-are = rw none refl }
 
--- The path of a number
-module _ (nl ps cs : List ℕ) (net i pos : ℕ) (ep : pos ≡ getD ps net 0) where
-  module _ (z : pos ≡ 0) (path : List ℕ) (at : ℕ) where
-    none : pathFrom nl ps cs (net + 1) net i ≡ []
-    none = path-input nl ps cs (net + 1) net i (sym ep ∙ z)
+module _ (file ps cs : List ℕ) (shape : Shape) (net number : ℕ) (high : net < shape .nets) (low : shape .inputs ≤ net) (some : 1 ≤ number)
+    (small : number ≤ getD cs net 0) (part : List ℕ) (ep : part ≡ gatePart file ps net) (p : Pick) (e : p ≡ pickPin part cs number) where
+  module _ (N : Netlist) (t : CircuitTables N file ps cs shape) where
+    w : WellFormed N
+    w = legal file N (t .legal)
 
-    pub input-place : at ≡ at + length (pathFrom nl ps cs (net + 1) net i)
-    input-place = rw none (omega arith)
+    i : N .inputs ≤ net
+    i = omega (arith, t .inputsAre)
 
-    pub input-words : path ≡ sets path at (pathFrom nl ps cs (net + 1) net i)
-    input-words = rw none refl
+    l : net < nets N
+    l = omega (arith, t .netsAre)
 
-  module _ (s : Sound nl ps) (few : net < 512) (some : pos ≡ 0 → ⊥) (p : Pick) (e : p ≡ pickAt nl cs pos i) where
-    g : GateAt nl pos net
-    g = gate-here nl ps net pos ep s few some
+    b : number ≤ getD (counts N) net 0
+    b = omega (arith, count-at t net high)
 
-    lower : p .net < net
-    lower = rw e (pick-lower nl cs pos i net g)
+    gate : GatePart (gatePart file ps net) N net
+    gate = gate-part t net low high
 
-    pub step-pin : ((j : ℕ) → Fits w8 (getD nl j 0)) → Fits w16 (p .pin)
-    step-pin small = rw e (record { fits = omega (arith, pick-pin-lt nl cs pos i net g, small (pos + 3) .fits) })
+    counts-are : pinCountsIn part cs ≡ pinCounts N net
+    counts-are = ap (λ (x : List ℕ). pinCountsIn x cs) ep ∙ pin-counts t net low high
 
-    pub step-few : p .net < 512
-    step-few = omega (arith, lower)
+    pin-is : p .pin ≡ split (pinCounts N net) number .0
+    unfolding pickPin
+    pin-is = ap (λ (x : Pick). x .pin) e ∙ ap (λ (x : List ℕ). split x number .0) counts-are
 
-    pub step-less : (t : ℕ) → net ≡ t → p .net < t
-    step-less t h = omega (arith, lower)
+    number-is : p .number ≡ split (pinCounts N net) number .1
+    unfolding pickPin
+    number-is = ap (λ (x : Pick). x .number) e ∙ ap (λ (x : List ℕ). split x number .1) counts-are
+
+    one : p .pin < length (Rattle.model.specs.Netlist.pinsOf N net)
+    one = omega (arith, pin-is, pin-is-one N w net number i l some b)
+
+    net-is : p .net ≡ pinNet N net (split (pinCounts N net) number .0)
+    unfolding pickPin
+    net-is =
+        ap (λ (x : Pick). x .net) e ∙ ap₂ (λ (x : List ℕ) k. pinIn x k) ep (sym (ap (λ (x : Pick). x .pin) e))
+        ∙ gate .pinIs (p .pin) (omega (arith, one, gate .pinCount)) ∙ ap (pinNet N net) pin-is
+
+    below : p .net < net
+    below = omega (arith, net-is, pin-below N w net number i l some b)
+
+    number-low : 1 ≤ p .number
+    number-low = omega (arith, number-is, there-low N w net number i l some b)
+
+    number-high : p .number ≤ getD cs (p .net) 0
+    number-high = omega (
+      arith,
+      number-is,
+      there-high N w net number i l some b,
+      count-at t (p .net) (omega (arith, below)),
+      ap (λ n. getD (counts N) n 0) net-is,
+    )
+
+    step : pathAt N net net number ≡ p .pin ∷ pathAt N (p .net) (p .net) (p .number)
+    step = path-step N w net number i l some b ∙ sym (λ k. pin-is k ∷ pathAt N (net-is k) (net-is k) (number-is k))
+
+  module _ (known : SomeTables file ps cs shape) where
+    pub pick-few : Fits w16 (p .pin)
+    pick-few = record { fits = omega (arith, one (known .circuit) (known .tables), gate (known .circuit) (known .tables) .fewPins, gate (known .circuit) (known .tables) .pinCount) }
+
+    pub pick-high : p .net < shape .nets
+    pick-high = omega (arith, below (known .circuit) (known .tables))
+
+    pub pick-less : (m : ℕ) → net ≡ m → p .net < m
+    pick-less m h = omega (arith, below (known .circuit) (known .tables))
+
+    pub pick-low-number : 1 ≤ p .number
+    pick-low-number = number-low (known .circuit) (known .tables)
+
+    pub pick-high-number : p .number ≤ getD cs (p .net) 0
+    pick-high-number = number-high (known .circuit) (known .tables)
 
     module _ (path : List ℕ) (at : ℕ) (room : at + net ≤ length path) where
       pub step-write : at < length path
-      step-write = omega (arith, lower)
+      step-write = omega (arith, below (known .circuit) (known .tables))
 
       pub step-room : at + 1 + p .net ≤ length (set path at (p .pin))
-      step-room = omega (arith, lower, length-set path at (p .pin))
+      step-room = omega (arith, below (known .circuit) (known .tables), length-set path at (p .pin))
 
-    step : pathFrom nl ps cs (net + 1) net i ≡ p .pin ∷ pathFrom nl ps cs (p .net + 1) (p .net) (p .number)
-    step = rw (e, ep) (path-step nl ps cs s net i few (λ z. some (ep ∙ z)))
-
-    pub step-place : (at r : ℕ) → r ≡ at + 1 + length (pathFrom nl ps cs (p .net + 1) (p .net) (p .number)) → r ≡ at + length (pathFrom nl ps cs (net + 1) net i)
-    step-place at r h = h ∙ rw step (omega arith)
-
-    pub step-words : (path now : List ℕ) (at : ℕ) → now ≡ sets (set path at (p .pin)) (at + 1) (pathFrom nl ps cs (p .net + 1) (p .net) (p .number))
-        → now ≡ sets path at (pathFrom nl ps cs (net + 1) net i)
-    step-words path now at h = h ∙ rw (step, add-one at) refl
+  pub step-words : (path now : List ℕ) (at end : ℕ)
+      → ((N : Netlist) → CircuitTables N file ps cs shape → PinsWritten N (p .net) (p .number) (at + 1) end (set path at (p .pin)) now)
+      → (N : Netlist) → CircuitTables N file ps cs shape → PinsWritten N net number at end path now
+  step-words path now at end f N t = record {
+    end-is = f N t .end-is ∙ rw (step N t) (omega arith);
+    words-are = f N t .words-are ∙ rw (step N t, add-one at) refl;
+  }
 
 pub kept-length : (path now : List ℕ) (at k : ℕ) → length now ≡ length (set path at k) → length now ≡ length path
 kept-length path now at k h = h ∙ length-set path at k
 
-pub ruleset descend-cases = (gate-here, input-place, input-words, step-pin, step-few, step-less, step-write, step-room, step-place, step-words, kept-length, needs)
-
--- The number of a path
-module _ (nl ps : List ℕ) (net pos : ℕ) (ep : pos ≡ getD ps net 0) (some : pos ≡ 0 → ⊥) (s : Sound nl ps) (few : net < 512) where
-  gate : GateAt nl pos net
-  gate = gate-here nl ps net pos ep s few some
-
-  pub count-fits : length nl < 2 ^ 64 → Fits w64 (pos + 3)
-  count-fits h = record { fits = omega (arith, gate .inside) }
-
-  pub count-in : pos + 3 < length nl
-  count-in = omega (arith, gate .inside)
-
-  module _ (k n : ℕ) (en : n ≡ getD nl (pos + 3) 0) (there : k < n) where
-    pub pin-room : pos + 4 + (2 * k + 2) ≤ length nl
-    pin-room = omega (arith, gate .inside)
-
-    pub pin-low : (p : ℕ) → p ≡ pinAt nl pos k → p < net
-    pin-low p e = omega (arith, gate .lower k (omega arith))
-
-module _ (nl ps cs : List ℕ) (net pos : ℕ) (ep : pos ≡ getD ps net 0) (path : List ℕ) (at : ℕ) where
-  here : at < length path → drop at path ≡ getD path at 0 ∷ drop (at + 1) path
-  here h = drop-cons path at 0 h ∙ ap (λ j. getD path at 0 ∷ drop j path) (sym (add-one at))
-
-  module _ (z : pos ≡ 0) where
-    pub input-more : at < length path → 0 ≡ numberFrom nl ps cs (net + 1) net (drop at path)
-    input-more h = sym (rw (here h) (number-input nl ps cs net net (getD path at 0) (drop (at + 1) path) (sym ep ∙ z)))
-
-    pub input-end : length path ≤ at → 1 ≡ numberFrom nl ps cs (net + 1) net (drop at path)
-    input-end h = sym (rw (drop-of-length-le path h) (number-end nl ps cs net net (sym ep ∙ z)))
-
-  module _ (some : pos ≡ 0 → ⊥) where
-    ne : getD ps net 0 ≡ 0 → ⊥
-    ne z = some (ep ∙ z)
-
-    pub gate-end : length path ≤ at → 0 ≡ numberFrom nl ps cs (net + 1) net (drop at path)
-    gate-end h = sym (rw (drop-of-length-le path h) (number-short nl ps cs net net ne))
-
-    module _ (long : at < length path) (k n : ℕ) (ek : k ≡ getD path at 0) (en : n ≡ getD nl (pos + 3) 0) where
-      pub no-pin : n ≤ k → 0 ≡ numberFrom nl ps cs (net + 1) net (drop at path)
-      no-pin h =
-          let q : pinCount nl (getD ps net 0) ≤ getD path at 0 = rw (en, ek, ep) at h in
-          sym (rw (here long) (number-no-pin nl ps cs net net (getD path at 0) (drop (at + 1) path) ne q))
-
-      module _ (there : k < n) (s : Sound nl ps) (few : net < 512) (p rest : ℕ) (en2 : p ≡ pinAt nl pos k) (er : rest ≡ numberFrom nl ps cs (p + 1) p (drop (at + 1) path)) where
-        pin-step : numberFrom nl ps cs (net + 1) net (drop at path) ≡ withBefore (beforePin nl cs pos k) rest
-        pin-step =
-            let q : getD path at 0 < pinCount nl (getD ps net 0) = rw (en, ek, ep) at there in
-            rw (here long, number-step nl ps cs s net (getD path at 0) (drop (at + 1) path) few ne q, er, en2, ep, ek) refl
-
-        pub no-rest : rest ≡ 0 → 0 ≡ numberFrom nl ps cs (net + 1) net (drop at path)
-        no-rest z = sym (pin-step ∙ rw (eq-eqb rest 0 z) refl)
-
-        module _ (more : rest ≡ 0 → ⊥) (b : ℕ) (eb : b ≡ beforePin nl cs pos k) where
-          pub whole-number : rest + b ≡ numberFrom nl ps cs (net + 1) net (drop at path)
-          whole-number = sym (pin-step ∙ rw (ne-eqb rest 0 more, eb) refl)
-
-module _ (nl ps cs : List ℕ) (net : ℕ) (c : Counted nl ps cs net) where
-  pub count-small : (pos k : ℕ) → pos ≡ getD ps net 0 → (pos ≡ 0 → ⊥) → k ≤ pinCount nl pos → beforePin nl cs pos k ≤ 2 ^ 62
-  count-small pos k ep some h =
-      let whole : getD cs net 0 ≡ beforePin nl cs pos (pinCount nl pos) = c .gate net (le-refl _) (λ z. some (ep ∙ z)) ∙ ap (λ x. beforePin nl cs x (pinCount nl x)) (sym ep) in
-      omega (arith, before-le nl cs pos k (pinCount nl pos) h, whole, c .small net (le-refl _))
-
-  pub number-fits : Sound nl ps → net < 512 → (ws : List ℕ) (r : ℕ) → r ≡ numberFrom nl ps cs (net + 1) net ws → Fits w64 r
-  number-fits s few ws r e = record { fits = omega (arith, number-le nl ps cs s net c (net + 1) net ws few (le-refl _), c .small net (le-refl _)) }
-
-pub ruleset number-cases = (gate-here, count-fits, count-in, pin-room, input-more, input-end, gate-end, no-pin, no-rest, whole-number, needs)
+pub ruleset descend-cases = (
+  step-few,
+  step-inside,
+  step-pins,
+  step-number,
+  input-words,
+  pick-few,
+  pick-high,
+  pick-less,
+  pick-low-number,
+  pick-high-number,
+  step-write,
+  step-room,
+  step-words,
+  kept-length,
+  needs,
+)

@@ -1,10 +1,13 @@
--- Laws of the walk over a legal netlist's file, then the cases of each function.
-pub mod WalkSteps
-pub mod WalkLaws
-pub mod TableLaws
+-- Laws of counts, pins and partial paths, then the cases of each function.
+pub mod SplitLaws
 pub mod PinCases
-pub mod OutputCases
+pub mod OutputPicks
+pub mod TableLaws
+pub mod PartialLaws
+pub mod WordLaws
+pub mod StepCases
+pub mod NumberCases
 pub mod DescentCases
-pub mod WritingCases
 pub mod ReadingCases
+pub mod WritingCases
 pub mod CallCases

@@ -1,73 +1,84 @@
--- The pins of a gate's record one at a time: the pin that a number goes through, and the counts before a pin.
+-- The cases of the pins of a gate's record: the pin that a number goes through, and the counts before a pin.
 -- Assumes nothing.
 use mathlib.Core.Path.{_≡_, refl, sym, ap, _∙_}
 use mathlib.Core.List.{List}
 use Prim.Native.Nat.{ℕ, _+_, _-_, _*_, _^_, _<_, _≤_}
 use native.Mathlib.Omega.{arith}
 use borrow.Author.Needs.{needs}
-use lib.ListN.{length, getD}
+use lib.ListN.{length, getD, drop, length-map}
 use mir.Val.{Fits}
 use mir.Syntax.{w64}
+use Rattle.model.specs.Base.{sumOf}
+use Rattle.model.specs.Path.{countsBefore, split}
+use Rattle.model.specs.Read.{netFields}
+use Rattle.model.proofs.ListLaws.{getD-map-in}
+use Rattle.model.proofs.ReadLaws.{length-netFields}
+use Rattle.netlist.specs.Tables.{pinCountIn, pinIn}
+use Rattle.netlist.proofs.PinLaws.{fields-at}
+use Rattle.paths.specs.Picks.{PinsIn, pinCountsIn, pickPin}
 use Rattle.paths.specs.declared.pins.Pick.{Pick}
-use Rattle.paths.specs.Walk.{pinAt, pinCount, GateAt, pickFrom, pickAt, beforePin}
-use Rattle.paths.proofs.WalkSteps.{pick-here, pick-on, pick-last, before-more, before-le}
+use Rattle.paths.proofs.SplitLaws.{Passed, FallsAt, passed-none, passed-here, passed-last, passed-on, before-next, before-small}
 
-module _ (nl cs : List ℕ) (pos net : ℕ) (g : GateAt nl pos net) (n : ℕ) (en : n ≡ pinCount nl pos) where
-  pub pick-some : 0 < n
-  pick-some = omega (arith, g .some)
+-- the counts at the pins
+pub length-pins : (part cs : List ℕ) → length (pinCountsIn part cs) ≡ pinCountIn part
+unfolding pinCountsIn
+length-pins part cs = length-map (netFields (pinCountIn part) (drop 4 part)) (λ n. getD cs n 0) ∙ length-netFields (pinCountIn part) (drop 4 part)
 
-  pub pick-start : (i : ℕ) → pickFrom nl cs pos (n - 1 - 0) 0 i ≡ pickAt nl cs pos i
-  unfolding pickAt
-  pick-start i =
-      let e : n - 1 - 0 ≡ pinCount nl pos - 1 = omega arith in
-      ap (λ m. pickFrom nl cs pos m 0 i) e
+pub pins-at : (part cs : List ℕ) (p : ℕ) → p < pinCountIn part → getD (pinCountsIn part cs) p 0 ≡ getD cs (pinIn part p) 0
+unfolding pinCountsIn
+pins-at part cs p h =
+    let fields = netFields (pinCountIn part) (drop 4 part) in
+    let there : p < length fields = omega (arith, length-netFields (pinCountIn part) (drop 4 part)) in
+    getD-map-in (λ n. getD cs n 0) fields p 0 0 there ∙ ap (λ n. getD cs n 0) (fields-at (pinCountIn part) 4 part p h)
 
-  module _ (k : ℕ) (there : k < n) where
-    pub pick-room : pos + 4 + (2 * k + 2) ≤ length nl
-    pick-room = omega (arith, g .inside)
+module _ (part cs : List ℕ) (g : PinsIn part) where
+  pub record-head : 3 < length part
+  record-head = omega (arith, g .inside)
 
-    module _ (p : ℕ) (ep : p ≡ pinAt nl pos k) where
-      pub pick-net-low : net < 512 → p < 512
-      pick-net-low h = omega (arith, g .lower k (omega arith))
+  module _ (n : ℕ) (few : n ≤ pinCountIn part) (p : ℕ) (there : p < n) where
+    pub pin-room : 4 + 2 * p + 2 ≤ length part
+    pin-room = omega (arith, g .inside)
 
-      pub pick-net-fits : net < 512 → Fits w64 (p * 8)
-      pick-net-fits h = record { fits = omega (arith, pick-net-low h) }
+    module _ (net : ℕ) (en : net ≡ pinIn part p) where
+      pub pin-few : net < 512
+      pin-few = omega (arith, g .low p (omega arith))
 
-      module _ (rest : ℕ) (whole : Pick) (left : pickFrom nl cs pos (n - 1 - k) k rest ≡ whole) where
-        pub pick-taken : k + 1 < n → rest ≤ getD cs p 0 → record { pin = k; net = p; number = rest } ≡ whole
-        pick-taken m h = rw ep (sym (pick-here nl cs pos n k rest m (rw ep at h)) ∙ left)
+      pub pin-fits : Fits w64 (net * 8)
+      pin-fits = record { fits = omega (arith, pin-few) }
 
-        pub pick-again : k + 1 < n → getD cs p 0 < rest → pickFrom nl cs pos (n - 1 - (k + 1)) (k + 1) (rest - getD cs p 0) ≡ whole
-        pick-again m h = rw ep (sym (pick-on nl cs pos n k rest m (rw ep at h)) ∙ left)
+      count-is : getD cs net 0 ≡ getD (pinCountsIn part cs) p 0
+      count-is = ap (λ n. getD cs n 0) en ∙ sym (pins-at part cs p (omega arith))
 
-        pub pick-end : n ≤ k + 1 → record { pin = k; net = p; number = rest } ≡ whole
-        pick-end m = rw ep (sym (pick-last nl cs pos n k rest m) ∙ left)
+      listed : p < length (pinCountsIn part cs)
+      listed = omega (arith, length-pins part cs)
 
-pub ruleset pick-cases = (pick-some, pick-start, pick-room, pick-net-low, pick-net-fits, pick-taken, pick-again, pick-end, needs)
+      module _ (i rest : ℕ) (left : Passed (pinCountsIn part cs) i p rest) where
+        pick : FallsAt (pinCountsIn part cs) i p rest → record { pin = p; net = net; number = rest } ≡ pickPin part cs i
+        unfolding pickPin
+        pick f = λ k. record { pin = f .place-is k; net = (en ∙ ap (pinIn part) (f .place-is)) k; number = f .number-is k }
 
-pub before-start : (nl cs : List ℕ) (pos : ℕ) → 0 ≡ beforePin nl cs pos 0
-unfolding beforePin
-before-start nl cs pos = refl
+        pub pick-taken : rest ≤ getD cs net 0 → record { pin = p; net = net; number = rest } ≡ pickPin part cs i
+        pick-taken h = pick (passed-here (pinCountsIn part cs) i p rest listed left (omega (arith, count-is)))
 
-module _ (nl cs : List ℕ) (pos net : ℕ) (g : GateAt nl pos net) (k : ℕ) (few : k ≤ pinCount nl pos) (j : ℕ) (there : j < k) where
-  pub before-room : pos + 4 + (2 * j + 2) ≤ length nl
-  before-room = omega (arith, g .inside)
+        pub pick-end : pinCountIn part ≤ n → n ≤ p + 1 → record { pin = p; net = net; number = rest } ≡ pickPin part cs i
+        pick-end all h = pick (passed-last (pinCountsIn part cs) i p rest listed left (omega (arith, length-pins part cs)))
 
-  module _ (p : ℕ) (ep : p ≡ pinAt nl pos j) where
-    pub before-net-low : net < 512 → p < 512
-    before-net-low h = omega (arith, g .lower j (omega arith))
+        pub pick-again : getD cs net 0 < rest → Passed (pinCountsIn part cs) i (p + 1) (rest - getD cs net 0)
+        pick-again h = rw count-is (passed-on (pinCountsIn part cs) i p rest listed left (omega (arith, count-is)))
 
-    pub before-net-fits : net < 512 → Fits w64 (p * 8)
-    before-net-fits h = record { fits = omega (arith, before-net-low h) }
+      module _ (sum : ℕ) (es : sum ≡ countsBefore p (pinCountsIn part cs)) where
+        pub sum-again : sum + getD cs net 0 ≡ countsBefore (p + 1) (pinCountsIn part cs)
+        sum-again = omega (arith, count-is, before-next (pinCountsIn part cs) p listed)
 
-    module _ (sum : ℕ) (es : sum ≡ beforePin nl cs pos j) where
-      pub before-again : sum + getD cs p 0 ≡ beforePin nl cs pos (j + 1)
-      before-again = rw (es, ep) (sym (before-more nl cs pos j))
+        pub sum-fits : sumOf (pinCountsIn part cs) ≤ 2 ^ 62 → Fits w64 (sum + getD cs net 0)
+        sum-fits h = record { fits = omega (arith, count-is, before-small (pinCountsIn part cs) p listed) }
 
-      pub before-fits : beforePin nl cs pos k ≤ 2 ^ 62 → Fits w64 (sum + getD cs p 0)
-      before-fits h = record { fits = omega (arith, before-again, before-le nl cs pos (j + 1) k (omega arith)) }
+pub sum-end : (xs : List ℕ) (j k sum : ℕ) → j ≤ k → k ≤ j → sum ≡ countsBefore j xs → sum ≡ countsBefore k xs
+sum-end xs j k sum h l e = let p : j ≡ k = omega arith in rw p at e
 
-pub before-end : (nl cs : List ℕ) (pos j k sum : ℕ) → j ≤ k → k ≤ j → sum ≡ beforePin nl cs pos j → sum ≡ beforePin nl cs pos k
-before-end nl cs pos j k sum h l e = let p : j ≡ k = omega arith in rw p at e
+pub sum-start : (xs : List ℕ) → 0 ≡ countsBefore 0 xs
+sum-start xs = refl
 
-pub ruleset pins-before-cases = (before-start, before-room, before-net-low, before-net-fits, before-again, before-fits, before-end, needs)
+pub ruleset pick-cases = (passed-none, record-head, pin-room, pin-few, pin-fits, pick-taken, pick-end, pick-again, needs)
+
+pub ruleset pins-before-cases = (record-head, pin-room, pin-few, pin-fits, sum-start, sum-again, sum-fits, sum-end, needs)

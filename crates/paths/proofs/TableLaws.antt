@@ -1,26 +1,73 @@
--- What the tables of a legal netlist give the walk over its file.
+-- What the tables of a legal netlist say of its pins and outputs to the walk from an output back to an input.
 -- Assumes nothing.
-use mathlib.Core.Path.{_≡_, ap, sym, _∙_, subst}
+use mathlib.Core.Path.{_≡_, ap, ap₂, sym, _∙_, subst}
 use mathlib.Core.List.{List, map}
-use Prim.Native.Nat.{ℕ, _-_, _*_}
+use Prim.Native.Nat.{ℕ, _+_, _-_, _*_, _^_, _<_, _≤_}
 use native.Mathlib.Omega.{arith}
-use lib.ListN.{length}
-use mir.Val.{Fits}
-use mir.Syntax.{w64}
-use Rattle.model.specs.Netlist.{outputCount, outputCounts}
-use Rattle.netlist.specs.Places.{Tables}
-use Rattle.netlist.proofs.LoadLaws.{outputs-few, outputs-are, output-counts}
-use Rattle.paths.specs.Walk.{Sound}
-use Rattle.paths.specs.Outputs.{countsFrom}
-use Rattle.paths.proofs.WalkLaws.{sound}
+use lib.ListN.{length, getD, take, drop, length-drop}
+use lib.Seq.{ext-getD}
+use Rattle.model.specs.Base.{sumOf}
+use Rattle.model.specs.Netlist.{Netlist, counts, pinsOf, pinNet, pinCounts, outputCount, outputCounts, outputNet}
+use Rattle.model.specs.Path.{countsBefore}
+use Rattle.model.proofs.NetLaws.{count-gate}
+use Rattle.model.proofs.NumberLaws.{length-pinCounts, pinCounts-at}
+use Rattle.model.proofs.ReadLaws.{legal, limits}
+use Rattle.netlist.specs.Places.{outputsFrom}
+use Rattle.netlist.specs.Tables.{CircuitTables, GatePart, gatePart, pinCountIn, pinIn, outputIn}
+use Rattle.netlist.specs.declared.inner.Shape.{Shape}
+use Rattle.netlist.proofs.TableLaws.{gate-part, count-at, few-nets, outputs-inside, outputs-read, output-is, output-below, counts-of-outputs}
+use Rattle.paths.specs.Picks.{PinsIn, pinCountsIn, RecordsOfOutputs, outputCountsIn}
+use Rattle.paths.proofs.PinCases.{length-pins, pins-at}
 
-module _ (file ps cs : List ℕ) (i n : ℕ) (t : Tables file ps cs i n) where
-  pub four-fits : Fits w64 (4 * n)
-  four-fits = record { fits = omega (arith, outputs-few file ps cs i n t) }
+module _ {N : Netlist} {file ps cs : List ℕ} {shape : Shape} (t : CircuitTables N file ps cs shape) where
+  -- the records of the outputs
+  abbrev outs : List ℕ
+  outs = drop (length file - 4 * shape .outputs) file
 
-  pub counts-from : countsFrom file i cs n (length file - 4 * n) ≡ outputCounts (t .netlist)
-  unfolding countsFrom
-  counts-from = ap (map (outputCount i cs)) (outputs-are file ps cs i n t) ∙ output-counts file ps cs i n t
+  length-outs : length outs ≡ 4 * shape .outputs
+  length-outs = omega (arith, length-drop (length file - 4 * shape .outputs) file, outputs-inside t)
 
-  pub tables-sound : Sound file ps
-  tables-sound = subst (Sound file) (sym (t .positionsAre)) (sound file (t .netlist) (t .isRead))
+  pub outputs-before : (n : ℕ) → n ≤ shape .outputs → RecordsOfOutputs outs n
+  outputs-before n h = record {
+    inside = omega (arith, length-outs);
+    low = λ o there. omega (arith, output-is t o (omega arith), output-below t o (omega arith), few-nets t);
+  }
+
+  pub output-counts : outputCountsIn outs (shape .outputs) (shape .inputs) cs ≡ outputCounts N
+  unfolding outputCountsIn
+  output-counts = ap (map (outputCount (shape .inputs) cs)) (outputs-read t) ∙ counts-of-outputs t
+
+  -- the gate that drives a net
+  module _ (net : ℕ) (low : shape .inputs ≤ net) (high : net < shape .nets) where
+    abbrev part : List ℕ
+    part = gatePart file ps net
+
+    gate : GatePart part N net
+    gate = gate-part t net low high
+
+    pub pin-low : (p : ℕ) → p < pinCountIn part → pinIn part p < net
+    pin-low p h = omega (arith, gate .pinIs p h, gate .lower p h)
+
+    pub pins-in : PinsIn part
+    pins-in = record {
+      some = gate .somePins;
+      inside = gate .inside;
+      low = λ p h. omega (arith, pin-low p h, few-nets t);
+    }
+
+    pub pin-counts : pinCountsIn part cs ≡ pinCounts N net
+    pin-counts =
+        let w = legal file N (t .legal) in
+        let long : length (pinCountsIn part cs) ≡ pinCountIn part = length-pins part cs in
+        ext-getD 0 (pinCountsIn part cs) (pinCounts N net) (long ∙ gate .pinCount ∙ sym (length-pinCounts N w net))
+        (λ p h.
+        let there : p < pinCountIn part = omega (arith, long) in
+        pins-at part cs p there ∙ count-at t (pinIn part p) (omega (arith, pin-low p there)) ∙ ap (λ n. getD (counts N) n 0) (gate .pinIs p there)
+        ∙ sym (pinCounts-at N w net p (omega (arith, gate .pinCount))))
+
+    pub pins-sum : sumOf (pinCountsIn part cs) ≡ getD (counts N) net 0
+    pins-sum = ap sumOf pin-counts
+        ∙ sym (count-gate N (legal file N (t .legal) .lowerPins) net (omega (arith, t .inputsAre)) (omega (arith, t .netsAre)))
+
+    pub pins-small : sumOf (pinCountsIn part cs) ≤ 2 ^ 62
+    pins-small = omega (arith, pins-sum, limits file N (t .legal) .countsFit net)

@@ -12,7 +12,7 @@ use crate::writing::write_path;
 use faults::PathNo;
 use model::PATH_WORDS;
 use model::Refusal;
-use netlist::SurveyAnswer;
+use netlist::inner::LoadAnswer;
 use netlist::inner::load;
 
 pub enum NumberAnswer {
@@ -29,21 +29,13 @@ pub enum PathAnswer {
 pub fn path_to_number(netlist: &[u8], path: &[u16]) -> NumberAnswer
     ensures { λ r. ⌜ numberAnswer r ≡ pathToNumberCall (now (netlist .entry)) (now (path .entry)) ⌝ }
 {
-    let loaded = load(netlist);
-    let answer = loaded.answer;
-    let survey = loaded.survey;
-    let positions = loaded.positions;
+    let mut counts = [0u64; 512];
+    let mut positions = [0u16; 512];
+    let answer = load(netlist, &mut counts, &mut positions);
     match answer {
-        SurveyAnswer::Refused(why) => NumberAnswer::Refused(why),
-        SurveyAnswer::Legal => {
-            let number = read_path(
-                netlist,
-                &positions,
-                &survey.counts,
-                survey.inputs,
-                survey.outputs,
-                path,
-            );
+        LoadAnswer::Refused(why) => NumberAnswer::Refused(why),
+        LoadAnswer::Legal { shape, total: _ } => {
+            let number = read_path(netlist, &positions, &counts, shape, path);
             if number == 0 {
                 return NumberAnswer::Refused(Refusal::NotAPath);
             }
@@ -60,28 +52,19 @@ pub fn number_to_path(netlist: &[u8], number: PathNo, path: &mut [u16]) -> PathA
     if path.len() < PATH_WORDS {
         return PathAnswer::Refused(Refusal::PathBufferLength);
     }
-    let loaded = load(netlist);
-    let answer = loaded.answer;
-    let survey = loaded.survey;
-    let positions = loaded.positions;
+    let mut counts = [0u64; 512];
+    let mut positions = [0u16; 512];
+    let answer = load(netlist, &mut counts, &mut positions);
     match answer {
-        SurveyAnswer::Refused(why) => PathAnswer::Refused(why),
-        SurveyAnswer::Legal => {
+        LoadAnswer::Refused(why) => PathAnswer::Refused(why),
+        LoadAnswer::Legal { shape, total } => {
             if wanted < 1 {
                 return PathAnswer::Refused(Refusal::NoSuchNumber);
             }
-            if survey.total < wanted {
+            if total < wanted {
                 return PathAnswer::Refused(Refusal::NoSuchNumber);
             }
-            write_path(
-                netlist,
-                &positions,
-                &survey.counts,
-                survey.inputs,
-                survey.outputs,
-                wanted,
-                path,
-            );
+            write_path(netlist, &positions, &counts, shape, wanted, path);
             PathAnswer::Written
         }
     }

@@ -1,32 +1,27 @@
 // The outputs' records: the output that a number ends at, and the counts before an output.
 ghost use mathlib.Core.Path.{_≡_};
 ghost use Prim.Native.Nat.{_<_, _≤_, _^_};
-ghost use lib.ListN.{take};
 ghost use Rattle.model.specs.Base.{sumOf};
-ghost use Rattle.netlist.specs.Places.{OutputsIn};
-ghost use Rattle.paths.specs.Outputs.{countsFrom, pickOutput};
+ghost use Rattle.paths.specs.Picks.{RecordsOfOutputs, outputCountsIn, pickOutput};
 use crate::pins::Pick;
+use netlist::inner::output_net;
 use netlist::inner::output_paths;
-use records::inner::u16_at;
 
-// The output that path `number` ends at, with its net and the number there. The outputs' records begin at `from`.
+// The output that path `number` ends at, with its net and the number there, of those with whose records the part begins.
 pub(crate) fn pick_output(
-    netlist: &[u8],
+    part: &[u8],
+    outputs: usize,
     counts: &[u64; 512],
     inputs: usize,
-    from: usize,
-    outputs: usize,
     number: u64,
 ) -> Pick
-    requires { ⌜ (0 < outputs) × OutputsIn (now netlist) from outputs × (number ≤ sumOf (countsFrom (now netlist) inputs (now counts) outputs from)) ⌝ }
-    ensures { λ r. ⌜ r ≡ pickOutput (now (netlist .entry)) inputs (now (counts .entry)) outputs from number ⌝ }
+    requires { ⌜ (0 < outputs) × RecordsOfOutputs (now part) outputs × (number ≤ sumOf (outputCountsIn (now part) outputs inputs (now counts))) ⌝ }
+    ensures { λ r. ⌜ r ≡ pickOutput (now (part .entry)) outputs inputs (now (counts .entry)) number ⌝ }
 {
-    let mut left = outputs;
-    let mut at = from;
     let mut place = 0;
     let mut rest = number;
-    while 1 < left {
-        let net = u16_at(netlist, at + 2);
+    while place + 1 < outputs {
+        let net = output_net(&part[4 * place..]);
         let count = output_paths(counts, inputs, net);
         if rest <= count {
             return Pick {
@@ -36,11 +31,9 @@ pub(crate) fn pick_output(
             };
         }
         rest -= count;
-        at += 4;
         place += 1;
-        left -= 1;
     }
-    let net = u16_at(netlist, at + 2);
+    let net = output_net(&part[4 * place..]);
     Pick {
         pin: place,
         net,
@@ -48,28 +41,17 @@ pub(crate) fn pick_output(
     }
 }
 
-// The sum of the counts of the outputs before a place.
-pub(crate) fn outputs_before(
-    netlist: &[u8],
-    counts: &[u64; 512],
-    inputs: usize,
-    from: usize,
-    outputs: usize,
-    place: usize,
-) -> u64
-    requires { ⌜ (place ≤ outputs) × OutputsIn (now netlist) from outputs × (sumOf (countsFrom (now netlist) inputs (now counts) outputs from) ≤ 2 ^ 62) ⌝ }
-    ensures { λ r. ⌜ r ≡ sumOf (take place (countsFrom (now (netlist .entry)) inputs (now (counts .entry)) outputs from)) ⌝ }
+// The sum of the counts of the outputs before a place, with whose records the part begins.
+pub(crate) fn outputs_before(part: &[u8], counts: &[u64; 512], inputs: usize, place: usize) -> u64
+    requires { ⌜ RecordsOfOutputs (now part) place × (sumOf (outputCountsIn (now part) place inputs (now counts)) ≤ 2 ^ 62) ⌝ }
+    ensures { λ r. ⌜ r ≡ sumOf (outputCountsIn (now (part .entry)) place inputs (now (counts .entry))) ⌝ }
 {
-    let mut left = place;
-    let mut more = outputs;
-    let mut at = from;
     let mut total: u64 = 0;
-    while 0 < left {
-        let net = u16_at(netlist, at + 2);
+    let mut before = 0;
+    while before < place {
+        let net = output_net(&part[4 * before..]);
         total += output_paths(counts, inputs, net);
-        at += 4;
-        more -= 1;
-        left -= 1;
+        before += 1;
     }
     total
 }

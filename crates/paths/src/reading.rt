@@ -1,17 +1,16 @@
 // The number of a path in words, from its output back to an input.
 ghost use mathlib.Core.Path.{_≡_};
-ghost use Prim.Native.Nat.{_+_, _<_, _≤_};
-ghost use lib.ListN.{length, drop};
-ghost use Rattle.model.specs.Base.{value};
+ghost use Prim.Native.Nat.{_<_};
 ghost use Rattle.model.specs.Netlist.{Netlist};
-ghost use Rattle.model.specs.Read.{readNetlist};
-ghost use Rattle.netlist.specs.Places.{Tables};
-ghost use Rattle.paths.specs.Walk.{Sound, Counted, numberFrom};
-ghost use Rattle.paths.specs.Tasks.{numberIn};
+ghost use Rattle.netlist.specs.Tables.{CircuitTables, SomeTables};
+ghost use Rattle.paths.specs.Tasks.{numberIn, partialNumber};
 use crate::outputs::outputs_before;
 use crate::pins::count_before;
-use crate::pins::pin_net;
-use records::inner::u16_at;
+use netlist::inner::Shape;
+use netlist::inner::gate_part;
+use netlist::inner::output_net;
+use netlist::inner::outputs_part;
+use netlist::inner::pin_net;
 use records::inner::wide;
 use records::inner::wide_word;
 
@@ -20,12 +19,12 @@ pub(crate) fn read_path(
     netlist: &[u8],
     positions: &[u16; 512],
     counts: &[u64; 512],
-    inputs: usize,
-    outputs: usize,
+    shape: Shape,
     words: &[u16],
 ) -> u64
-    requires { ⌜ Tables (now netlist) (now positions) (now counts) inputs outputs ⌝ }
-    ensures { λ r. ⌜ ((N : Netlist) → readNetlist (now (netlist .entry)) ≡ value N → r ≡ numberIn N (now (words .entry))) ⌝ }
+    requires { ⌜ SomeTables (now netlist) (now positions) (now counts) shape ⌝ }
+    ensures { λ r. ⌜ ((N : Netlist) → CircuitTables N (now (netlist .entry)) (now (positions .entry)) (now (counts .entry)) shape
+        → r ≡ numberIn N (now (words .entry))) ⌝ }
 {
     if words.len() < 3 {
         return 0;
@@ -35,49 +34,50 @@ pub(crate) fn read_path(
         return 0;
     }
     let place = wide_word(words[0]);
-    if outputs <= place {
+    if shape.outputs <= place {
         return 0;
     }
-    let from = netlist.len() - 4 * outputs;
-    let net = u16_at(netlist, from + 4 * place + 2);
-    let rest = number_of(netlist, positions, counts, net, words, 2);
+    let outputs = outputs_part(netlist, shape.outputs);
+    let net = output_net(&outputs[4 * place..]);
+    let rest = number_of(netlist, positions, counts, shape, net, &words[2..]);
     if rest == 0 {
         return 0;
     }
-    rest + outputs_before(netlist, counts, inputs, from, outputs, place)
+    rest + outputs_before(outputs, counts, shape.inputs, place)
 }
 
-// The number of the partial path of `net` whose pins are the words from `at` on, or 0 where they are none.
+// The number of the partial path of `net` with these pins, or 0 where they are none.
 fn number_of(
     netlist: &[u8],
     positions: &[u16; 512],
     counts: &[u64; 512],
+    shape: Shape,
     net: usize,
-    path: &[u16],
-    at: usize,
+    pins: &[u16],
 ) -> u64
-    requires { ⌜ Sound (now netlist) (now positions) × Counted (now netlist) (now positions) (now counts) net × (net < 512) × (at ≤ length (now path)) ⌝ }
-    ensures { λ r. ⌜ r ≡ numberFrom (now (netlist .entry)) (now (positions .entry)) (now (counts .entry)) (net + 1) net (drop at (now (path .entry))) ⌝ }
+    requires { ⌜ SomeTables (now netlist) (now positions) (now counts) shape × (net < shape .nets) ⌝ }
+    ensures { λ r. ⌜ ((N : Netlist) → CircuitTables N (now (netlist .entry)) (now (positions .entry)) (now (counts .entry)) shape
+        → r ≡ partialNumber N net (now (pins .entry))) ⌝ }
 {
-    let pos = wide_word(positions[net]);
-    if pos == 0 {
-        if at < path.len() {
+    if net < shape.inputs {
+        if 0 < pins.len() {
             return 0;
         }
         return 1;
     }
-    if path.len() <= at {
+    if pins.len() < 1 {
         return 0;
     }
-    let k = wide_word(path[at]);
-    let n = wide(netlist[pos + 3]);
-    if n <= k {
+    let part = gate_part(netlist, positions, net);
+    let pin = wide_word(pins[0]);
+    let many = wide(part[3]);
+    if many <= pin {
         return 0;
     }
-    let p = pin_net(netlist, pos, k);
-    let rest = number_of(netlist, positions, counts, p, path, at + 1);
+    let next = pin_net(part, pin);
+    let rest = number_of(netlist, positions, counts, shape, next, &pins[1..]);
     if rest == 0 {
         return 0;
     }
-    rest + count_before(netlist, counts, pos, net, k)
+    rest + count_before(part, counts, pin)
 }

@@ -1,38 +1,46 @@
 // The path of a number, found from the output back, each step at a lower net, and written into words.
 ghost use mathlib.Core.Path.{_≡_};
 ghost use Prim.Native.Nat.{_+_, _<_, _≤_};
-ghost use lib.ListN.{length};
-ghost use lib.Seq.{sets};
-ghost use Rattle.model.specs.Base.{value};
+ghost use lib.ListN.{length, getD};
 ghost use Rattle.model.specs.Netlist.{Netlist};
 ghost use Rattle.model.specs.Path.{pathOf};
-ghost use Rattle.model.specs.Read.{readNetlist};
 ghost use Rattle.model.specs.Calls.{pathWritten, pathWords};
-ghost use Rattle.paths.specs.Walk.{Sound, pathFrom};
-ghost use Rattle.paths.specs.Tasks.{Wanted, blank};
+ghost use Rattle.netlist.specs.Tables.{CircuitTables, SomeTables};
+ghost use Rattle.paths.specs.Tasks.{Wanted, PinsWritten, blank};
 use crate::outputs::pick_output;
 use crate::pins::pick_pin;
 use model::PATH_WORDS;
-use records::inner::wide_word;
+use netlist::inner::Shape;
+use netlist::inner::gate_part;
+use netlist::inner::outputs_part;
 
 // Writes the path of a number of a legal netlist, with zeros after it.
 pub(crate) fn write_path(
     netlist: &[u8],
     positions: &[u16; 512],
     counts: &[u64; 512],
-    inputs: usize,
-    outputs: usize,
+    shape: Shape,
     number: u64,
     path: &mut [u16],
 )
-    requires { ⌜ Wanted (now netlist) (now positions) (now counts) inputs outputs number × (pathWords ≤ length (now path)) ⌝ }
-    ensures { λ r. ⌜ ((N : Netlist) → readNetlist (now (netlist .entry)) ≡ value N → now (path .exit) ≡ pathWritten (pathOf N number) (now (path .entry))) ⌝ }
+    requires { ⌜ Wanted (now netlist) (now positions) (now counts) shape number × (pathWords ≤ length (now path)) ⌝ }
+    ensures { λ r. ⌜ ((N : Netlist) → CircuitTables N (now (netlist .entry)) (now (positions .entry)) (now (counts .entry)) shape
+        → now (path .exit) ≡ pathWritten (pathOf N number) (now (path .entry))) ⌝ }
 {
-    let from = netlist.len() - 4 * outputs;
-    let out = pick_output(netlist, counts, inputs, from, outputs, number);
+    let outputs = outputs_part(netlist, shape.outputs);
+    let out = pick_output(outputs, shape.outputs, counts, shape.inputs, number);
     clear(path);
     path[0] = out.pin as u16;
-    let end = descend(netlist, positions, counts, out.net, out.number, path, 2);
+    let end = descend(
+        netlist,
+        positions,
+        counts,
+        shape,
+        out.net,
+        out.number,
+        path,
+        2,
+    );
     path[1] = (end - 2) as u16;
 }
 
@@ -53,21 +61,31 @@ fn descend(
     netlist: &[u8],
     positions: &[u16; 512],
     counts: &[u64; 512],
+    shape: Shape,
     net: usize,
     number: u64,
     path: &mut [u16],
     at: usize,
 ) -> usize
-    requires { ⌜ Sound (now netlist) (now positions) × (net < 512) × (at + net ≤ length (now path)) ⌝ }
-    ensures { λ r. ⌜ (r ≡ at + length (pathFrom (now (netlist .entry)) (now (positions .entry)) (now (counts .entry)) (net + 1) net number))
-        × (now (path .exit) ≡ sets (now (path .entry)) at (pathFrom (now (netlist .entry)) (now (positions .entry)) (now (counts .entry)) (net + 1) net number)) ⌝ }
+    requires { ⌜ SomeTables (now netlist) (now positions) (now counts) shape × (net < shape .nets) × (1 ≤ number) × (number ≤ getD (now counts) net 0) × (at + net ≤ length (now path)) ⌝ }
+    ensures { λ r. ⌜ ((N : Netlist) → CircuitTables N (now (netlist .entry)) (now (positions .entry)) (now (counts .entry)) shape
+        → PinsWritten N net number at r (now (path .entry)) (now (path .exit))) ⌝ }
 {
-    let pos = wide_word(positions[net]);
-    if pos == 0 {
+    if net < shape.inputs {
         return at;
     }
-    let p = pick_pin(netlist, counts, pos, net, number);
-    let k = p.pin;
-    path[at] = k as u16;
-    descend(netlist, positions, counts, p.net, p.number, path, at + 1)
+    let part = gate_part(netlist, positions, net);
+    let pick = pick_pin(part, counts, number);
+    let pin = pick.pin;
+    path[at] = pin as u16;
+    descend(
+        netlist,
+        positions,
+        counts,
+        shape,
+        pick.net,
+        pick.number,
+        path,
+        at + 1,
+    )
 }

@@ -22,7 +22,7 @@ use Rattle.model.proofs.AnswerLaws.{not-refused, value-inj}
 use Rattle.model.proofs.RefusalLaws.{refused-over, all-over}
 use Rattle.coverage.specs.Stage.{MemoryReady}
 use Rattle.coverage.proofs.TestCallLaws.{refused-by, taken-by}
-use Rattle.report.specs.TestFile.{leftStore, takenOf}
+use Rattle.audit.specs.TestFile.{leftStore, takenOf}
 use Rattle.pieces.specs.declared.BeginAnswer.the-variants as beginning
 use Rattle.pieces.specs.declared.PieceAnswer.{PieceAnswer}
 use Rattle.pieces.specs.declared.PieceAnswer.the-variants as piece
@@ -32,7 +32,8 @@ use Rattle.pieces.specs.Calls.{RecordsSaid, pieceOf, recordsSaid, storeC
 use Rattle.pieces.specs.Calls.{soFar, endLegal, endStage, endCall, endAnswer, endStore, EndTrue}
 use Rattle.pieces.specs.Together.{joined, withPieces, MadeCall, callBytes, firstOf, takenIn, HandedOver, lastFirst, lastTaken, lastStore, lastMemory}
 use Rattle.pieces.specs.Together.{OnlyByRecords, PiecesMade, WholeAudit}
-use Rattle.pieces.proofs.StepCases.{lent-passed, left-memory}
+use Rattle.pieces.proofs.StepCases.{lent-passed}
+use Rattle.audit.proofs.MemoryLaws.{left-memory}
 use Rattle.pieces.proofs.TogetherHolds.{pieces-joined, end-answer, end-store, end-work, begun-lent, begun-known, begun-before, begun-empty, begun-memory}
 use Rattle.pieces.proofs.TakenLaws.{takenWiths, taken-whole}
 
@@ -141,7 +142,8 @@ after-calls netlist N e class known (c ∷ cs) (suc n) ws work m p =
       memory = i .memory;
       sameLength = i .sameLength ∙ ap (length {A = ℕ}) (p .1);
       pastWork = i .pastWork ∙ ap (λ (w : List ℕ). drop workWords w) (p .1);
-      taken = λ k. i .taken k ∙ ap₂ (λ x j. takenWiths N (classOf class) (callBytes cs) x j) (kept-state N (classOf class) n (c .bytes) ws (c .left)) (kept-taken N (classOf class) n (c .bytes) ws k);
+      taken = λ k. i .taken k
+          ∙ ap₂ (λ x j. takenWiths N (classOf class) (callBytes cs) x j) (kept-state N (classOf class) n (c .bytes) ws (c .left)) (kept-taken N (classOf class) n (c .bytes) ws k);
       byRecords = i .byRecords;
     }
 

@@ -1,13 +1,13 @@
 -- The public end of an audit in pieces, case by case as the code meets them.
 -- Assumes nothing.
 use mathlib.Core.Path.{_≡_, refl, ap, ap₂, sym, _∙_}
-use mathlib.Core.Bool.{Bool, true, false, not, _&&_}
+use mathlib.Core.Bool.{Bool, true, false, not}
 use mathlib.Core.List.{List, [], _∷_}
-use Prim.Native.Nat.{ℕ, _+_, _*_, _/_, _%_, _^_, _≤_}
+use Prim.Native.Nat.{ℕ, _+_, _*_, _/_, _^_, _≤_}
 use native.Mathlib.Omega.{arith}
 use borrow.Author.Needs.{needs}
 use borrow.Author.Tests.{eq-eqb, ne-eqb}
-use lib.Dec.{leb, eqb}
+use lib.Dec.{eqb}
 use lib.ListN.{length, replicate}
 use Rattle.model.specs.Base.{Answer, refused, value, _>>=_, _>>_, checks, passes}
 use Rattle.model.specs.Netlist.{Netlist, pathTotal}
@@ -30,20 +30,19 @@ use Rattle.store.specs.declared.inner.StoreCheck.the-variants as check
 use Rattle.store.proofs.SoundLaws.{checked-sound}
 use Rattle.coverage.proofs.TestCallLaws.{refused-by, taken-by}
 use Rattle.report.specs.Answers.{comparedOf}
-use Rattle.report.specs.TestFile.{leftStore}
+use Rattle.audit.specs.TestFile.{leftStore, wholeLength}
 use Rattle.report.specs.declared.inner.Comparison.{Comparison}
 use Rattle.report.specs.declared.inner.Comparison.the-variants as comparison
-use Rattle.report.proofs.FileSteps.{emptied}
+use Rattle.audit.proofs.MemoryLaws.{emptied}
 use Rattle.pieces.specs.declared.EndAnswer.{EndAnswer}
 use Rattle.pieces.specs.declared.EndAnswer.the-variants as ending
-use Rattle.pieces.specs.Steps.{wholeLength, endBy}
-use Rattle.pieces.specs.Calls.{storeChecked}
-use Rattle.pieces.specs.Calls.{endedOf, soFar, endLegal, endStage, endCall, endAnswer, endStore, EndTrue}
+use Rattle.pieces.specs.Steps.{endBy}
+use Rattle.pieces.specs.Calls.{storeChecked, endedOf, soFar, endLegal, endStage, endCall, endAnswer, endStore, EndTrue}
 use Rattle.pieces.proofs.StepCases.{end-other-length, end-refused-before, end-other-report, end-same-report}
 
 -- The end on a legal netlist
 module _ (inputs paths total first : ℕ) (report ws : List ℕ) (each : ℕ) (ee : each ≡ 2 + 2 * vectorBytes inputs)
-    (b : Bool) (eb : b ≡ (eqb (total % each) 0 && leb (total / each) 4294967295)) where
+    (b : Bool) (eb : b ≡ wholeLength each total) where
   abbrev state : Answer (List ℕ)
   state = soFar first ws >>= λ left. storeChecked paths left
 

@@ -1,6 +1,6 @@
 -- Each step's cases, then each public call's, then the steps together, the public calls together, and the theorem.
 pub mod StepCases
-pub mod CallCases
+pub mod PieceCases
 pub mod EndCases
 pub mod TogetherHolds
 pub mod TakenLaws

@@ -13,11 +13,11 @@ use Rattle.model.specs.Demand3.{Acceptable}
 use Rattle.model.specs.declared.Refusal.{Refusal}
 use Rattle.model.proofs.AnswerLaws.{not-refused}
 use Rattle.model.proofs.ReportsHold.{demand-3}
-use Rattle.report.specs.Answers.{AuditTrue}
-use Rattle.report.specs.TestFile.{takenOf}
-use Rattle.report.specs.declared.AuditAnswer.{AuditAnswer}
-use Rattle.report.specs.declared.AuditAnswer.the-variants as audit
-use Rattle.report.proofs.PromisesHold.{calls-true}
+use Rattle.audit.specs.Answers.{AuditTrue}
+use Rattle.audit.specs.TestFile.{takenOf}
+use Rattle.audit.specs.declared.AuditAnswer.{AuditAnswer}
+use Rattle.audit.specs.declared.AuditAnswer.the-variants as audit
+use Rattle.audit.proofs.PromisesHold.{calls-true}
 use Rattle.pieces.specs.declared.BeginAnswer.the-variants as beginning
 use Rattle.pieces.specs.declared.EndAnswer.{EndAnswer}
 use Rattle.pieces.specs.declared.EndAnswer.the-variants as ending

@@ -14,8 +14,8 @@ use Rattle.model.specs.Read.{readNetlist, classOf, recordLength}
 use Rattle.model.specs.Calls.{Tested, testStage, storeLeft}
 use Rattle.model.specs.Report.{records, fileRecords, testAll}
 use Rattle.netlist.specs.declared.inner.Loaded.{Loaded}
-use Rattle.report.specs.TestFile.{fileOf, oneMore, takenOf}
-use Rattle.report.specs.declared.inner.test_file.TakenRecords.{TakenRecords}
+use Rattle.audit.specs.TestFile.{fileOf, oneMore, takenOf}
+use Rattle.audit.specs.declared.inner.TakenRecords.{TakenRecords}
 use Rattle.pieces.specs.Steps.{withPiece, takenWith}
 use Rattle.pieces.specs.Together.{joined, WholeButLast, MadePiece, bytesOf, Promised, lastAnswer}
 

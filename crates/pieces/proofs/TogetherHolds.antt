@@ -1,9 +1,9 @@
 -- The steps together are the audit of the whole file: the state after each piece is that of the test calls with all records so far.
 -- Assumes nothing.
-use mathlib.Core.Path.{_≡_, refl, ap, ap₂, sym, _∙_, subst}
+use mathlib.Core.Path.{_≡_, refl, ap, sym, _∙_, subst}
 use mathlib.Core.Bool.{Bool, true, false}
 use mathlib.Core.List.{List, [], _∷_, _++_, append-nil}
-use Prim.Native.Nat.{ℕ, _+_, _/_, _%_}
+use Prim.Native.Nat.{ℕ, _/_, _%_}
 use native.Mathlib.Nat.{div-eq-of-lt}
 use native.Mathlib.Omega.{arith}
 use lib.Dec.{T, leb→le}
@@ -19,25 +19,24 @@ use Rattle.model.specs.Report.{records, testAll, auditCall, auditAnswer, auditS
 use Rattle.model.proofs.BoolLaws.{T→true}
 use Rattle.model.proofs.AnswerLaws.{Passed, checks→, →checks, then-first, not-refused, value-inj}
 use Rattle.model.proofs.BeforeLaws.{Reached, reached→}
-use Rattle.model.proofs.RefusalLaws.{audit-found, audit-emptied, audit-kept}
+use Rattle.model.proofs.RefusalLaws.{audit-found, audit-emptied}
+use Rattle.model.proofs.ReportLaws.{length-records}
 use Rattle.model.proofs.PieceLaws.{piece-first}
-use Rattle.netlist.specs.Places.{positionsOf}
 use Rattle.netlist.specs.declared.SurveyAnswer.{SurveyAnswer}
 use Rattle.netlist.specs.declared.SurveyAnswer.the-variants as survey
 use Rattle.netlist.specs.declared.inner.Loaded.{Loaded}
 use Rattle.netlist.proofs.LoadLaws.{loaded-legal, loaded-refused}
 use Rattle.coverage.specs.Stage.{MemoryReady}
-use Rattle.report.specs.Answers.{AuditTrue}
-use Rattle.report.specs.TestFile.{fileOf, leftStore, auditFile}
-use Rattle.report.specs.declared.AuditAnswer.{AuditAnswer}
-use Rattle.report.specs.declared.inner.test_file.TakenRecords.{TakenRecords}
-use Rattle.report.proofs.FileSteps.{length-records}
+use Rattle.audit.specs.Answers.{AuditTrue}
+use Rattle.audit.specs.TestFile.{fileOf, leftStore, auditFile}
+use Rattle.audit.specs.declared.AuditAnswer.{AuditAnswer}
+use Rattle.audit.specs.declared.inner.TakenRecords.{TakenRecords}
+use Rattle.audit.proofs.MemoryLaws.{empty-memory, audit-left}
 use Rattle.pieces.specs.declared.BeginAnswer.{BeginAnswer}
 use Rattle.pieces.specs.declared.BeginAnswer.the-variants as beginning
 use Rattle.pieces.specs.declared.inner.Begun.{Begun}
 use Rattle.pieces.specs.Steps.{BeginTrue, begunOf, lentRules, beginAnswer, beginStore, Ready, withPiece, endBy, endOf}
 use Rattle.pieces.specs.Together.{joined, WholeButLast, withPieces, piecesCall, MadePiece, bytesOf, noRecords, Promised, lastAnswer, lastLeft, lastWork, StepsMade}
-use Rattle.pieces.proofs.StepCases.{empty-memory}
 
 -- no piece changes nothing
 pub no-bytes : (N : Netlist) (c : Class) (x : Answer (List ℕ)) → withPiece N c [] x ≡ x
@@ -121,17 +120,12 @@ module _ (netlist : List ℕ) (class : ℕ) (testFile report ws work : List ℕ)
   unfolding auditCall auditFile
   is-file = rw b refl
 
-  left-store : (x : Answer (List ℕ)) → auditCall netlist class testFile report ws work ≡ x → leftStore x ≡ auditStore netlist class testFile report ws work
-  unfolding leftStore
-  left-store (refused n) q = sym (audit-emptied netlist class testFile report ws work n l q)
-  left-store (value w) q = sym (audit-kept netlist class testFile report ws work w q)
-
   pub end-answer : passes atEnd ≡ auditAnswer netlist class testFile report ws work
   unfolding auditAnswer
   end-answer = ap (λ (x : Answer (List ℕ)). passes x) (end-file N (classOf class) testFile report ∙ sym is-file)
 
   pub end-store : leftStore atEnd ≡ auditStore netlist class testFile report ws work
-  end-store = ap leftStore (end-file N (classOf class) testFile report) ∙ left-store (auditFile N (classOf class) testFile report) is-file
+  end-store = ap leftStore (end-file N (classOf class) testFile report) ∙ audit-left netlist class testFile report ws work l (auditFile N (classOf class) testFile report) is-file
 
   pub end-work : (work′ : List ℕ) → length work′ ≡ length work → drop workWords work′ ≡ drop workWords work → WorkAfter netlist class ws work work′
   end-work work′ k p = record { sameLength = k; pastWork = p; notReached = λ n q. absurd (not-refused (sym q ∙ b)) }
@@ -207,17 +201,10 @@ begun-ready netlist class ws ws₀ work b t q = go (b .loaded .answer) refl
     go survey.Legal e =
         let d = loaded-legal (b .loaded) netlist (t .tables) e in
         record {
-          circuit = d .netlist;
-          tables = record {
-            legal = d .isRead;
-            positionsAre = t .tables .positions ∙ ap (positionsOf netlist) (d .isRead);
-            countsAre = d .countsAre;
-            inputsAre = d .inputsAre;
-            netsAre = ap₂ (λ i g. i + g) (d .inputsAre) (d .gatesAre);
-            outputsAre = d .outputsAre;
-          };
+          circuit = d .circuit;
+          tables = d .tables;
           totalIs = d .totalIs;
-          memory = begun-memory netlist class ws ws₀ work (b .answer) (t .answer) q (d .netlist) (t .store);
+          memory = begun-memory netlist class ws ws₀ work (b .answer) (t .answer) q (d .circuit) (t .store);
         }
 
 -- a beginning that was refused, with the number `n`

@@ -16,8 +16,8 @@ use Rattle.model.specs.Store.{storeWords, storeRules}
 use Rattle.model.specs.Calls.{workWords, storeRule, beforeTest}
 use Rattle.model.specs.Report.{fileRecords, testAll}
 use Rattle.netlist.specs.declared.inner.Loaded.{Loaded}
-use Rattle.coverage.specs.Stage.{CircuitTables}
-use Rattle.report.specs.TestFile.{leftStore, takenOf}
+use Rattle.netlist.specs.Tables.{CircuitTables}
+use Rattle.audit.specs.TestFile.{leftStore, takenOf}
 use Rattle.pieces.specs.declared.BeginAnswer.{BeginAnswer}
 use Rattle.pieces.specs.declared.PieceAnswer.{PieceAnswer}
 use Rattle.pieces.specs.declared.PieceAnswer.the-variants as piece
@@ -76,9 +76,8 @@ pub record PieceTrue (r : PieceAnswer) (netlist : List ℕ) (class : ℕ) (bytes
 -- once lent memory, netlist and class are taken: what is handed on, and what then holds
 pub record PieceReady (netlist : List ℕ) (loaded : Loaded) (ws work : List ℕ) : Type 0 where
   pub circuit : Netlist
-  pub tables : CircuitTables circuit netlist (loaded .positions) (loaded .survey .counts) (loaded .survey .inputs)
-      (loaded .survey .inputs + loaded .survey .gates) (loaded .survey .outputs)
-  pub totalIs : loaded .survey .total ≡ pathTotal circuit
+  pub tables : CircuitTables circuit netlist (loaded .positions) (loaded .counts) (loaded .shape)
+  pub totalIs : loaded .total ≡ pathTotal circuit
   pub storeLength : length ws ≡ storeWords
   pub workLength : workWords ≤ length work
 

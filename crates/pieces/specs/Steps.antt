@@ -2,28 +2,27 @@
 -- A state is what the test calls so far answer: the number of a refusal, or the store that they leave.
 -- Assumes nothing.
 use mathlib.Core.Path.{_≡_}
-use mathlib.Core.Bool.{Bool, _&&_}
 use mathlib.Core.List.{List, [], _∷_}
-use Prim.Native.Nat.{ℕ, _+_, _/_, _%_, _≤_}
-use lib.Dec.{leb, eqb}
+use Prim.Native.Nat.{ℕ, _+_, _/_, _≤_}
 use lib.ListN.{length, drop}
 use Rattle.model.specs.Base.{Answer, refused, value, _>>=_, _>>_, checks, passes, after}
 use Rattle.model.specs.Netlist.{Netlist, pathTotal}
 use Rattle.model.specs.Detect.{Class}
 use Rattle.model.specs.Read.{readNetlist, classOf, recordLength}
 use Rattle.model.specs.Refusals.{refusalNumber}
-use Rattle.model.specs.Store.{emptyStore, runsByEdge}
+use Rattle.model.specs.Store.{emptyStore}
 use Rattle.model.specs.Calls.{workWords, storeRule, workRule, beforeTest}
-use Rattle.model.specs.Report.{fileRecords, testAll, reportRecord, reportRules}
-use Rattle.netlist.specs.Answers.{LoadTrue}
+use Rattle.model.specs.Report.{fileRecords, testAll}
+use Rattle.netlist.specs.Answers.{LoadedTrue}
 use Rattle.netlist.specs.declared.inner.Loaded.{Loaded}
-use Rattle.coverage.specs.Stage.{CircuitTables, MemoryReady}
-use Rattle.report.specs.Answers.{auditedOf}
-use Rattle.report.specs.TestFile.{fileOf, leftStore, takenOf}
-use Rattle.report.specs.declared.AuditAnswer.{AuditAnswer}
-use Rattle.report.specs.declared.inner.test_file.FileAnswer.{FileAnswer}
-use Rattle.report.specs.declared.inner.test_file.FileAnswer.the-variants as file
-use Rattle.report.specs.declared.inner.test_file.TakenRecords.{TakenRecords}
+use Rattle.netlist.specs.Tables.{CircuitTables}
+use Rattle.coverage.specs.Stage.{MemoryReady}
+use Rattle.audit.specs.Answers.{auditedOf}
+use Rattle.audit.specs.TestFile.{fileOf, leftStore, takenOf, wholeLength, reported}
+use Rattle.audit.specs.declared.AuditAnswer.{AuditAnswer}
+use Rattle.coverage.specs.declared.inner.StageAnswer.{StageAnswer}
+use Rattle.coverage.specs.declared.inner.StageAnswer.the-variants as stage
+use Rattle.audit.specs.declared.inner.TakenRecords.{TakenRecords}
 use Rattle.pieces.specs.declared.BeginAnswer.{BeginAnswer}
 use Rattle.pieces.specs.declared.BeginAnswer.the-variants as beginning
 use Rattle.pieces.specs.declared.inner.Begun.{Begun}
@@ -47,14 +46,13 @@ beginStore ws work = after (lentRules ws work) ws (λ u. emptyStore)
 pub record BeginTrue (r : Begun) (netlist : List ℕ) (class : ℕ) (ws ws′ work : List ℕ) : Type 0 where
   pub answer : begunOf (r .answer) ≡ beginAnswer netlist class ws work
   pub store : ws′ ≡ beginStore ws work
-  pub tables : LoadTrue (r .loaded) netlist
+  pub tables : LoadedTrue (r .loaded) netlist
 
 -- what the other steps are handed: a legal netlist as it was loaded, a store that no rule refuses, and working memory long enough
 pub record Ready (netlist : List ℕ) (loaded : Loaded) (ws work : List ℕ) : Type 0 where
   pub circuit : Netlist
-  pub tables : CircuitTables circuit netlist (loaded .positions) (loaded .survey .counts) (loaded .survey .inputs)
-      (loaded .survey .inputs + loaded .survey .gates) (loaded .survey .outputs)
-  pub totalIs : loaded .survey .total ≡ pathTotal circuit
+  pub tables : CircuitTables circuit netlist (loaded .positions) (loaded .counts) (loaded .shape)
+  pub totalIs : loaded .total ≡ pathTotal circuit
   pub memory : MemoryReady circuit ws work
 
 -- the test calls with the records of one piece more
@@ -67,9 +65,9 @@ takenWith N c piece (refused n) taken = taken
 takenWith N c piece (value left) taken = taken + takenOf N c (fileRecords N piece) left
 
 -- the store afterwards; after a refused record it stays as it is
-unfoldable pub pieceStore : Netlist → Class → FileAnswer → List ℕ → List ℕ → List ℕ
-pieceStore N c file.Taken piece ws = leftStore (testAll N c (fileRecords N piece) ws)
-pieceStore N c (file.Refused w) piece ws = ws
+unfoldable pub pieceStore : Netlist → Class → StageAnswer → List ℕ → List ℕ → List ℕ
+pieceStore N c stage.Taken piece ws = leftStore (testAll N c (fileRecords N piece) ws)
+pieceStore N c (stage.Refused w) piece ws = ws
 
 -- A piece: the state, the number of records taken and the store afterwards, and what holds of the working memory; the next step can be made
 pub record PieceTaken (r : TakenRecords) (netlist : List ℕ) (loaded : Loaded) (class : ℕ) (before : TakenRecords) (piece ws ws′ work work′ : List ℕ)
@@ -82,21 +80,16 @@ pub record PieceTaken (r : TakenRecords) (netlist : List ℕ) (loaded : Loaded) 
   pub sameLength : length work′ ≡ length work
   pub pastWork : drop workWords work′ ≡ drop workWords work
 
--- a file of `total` bytes is a whole number of records, of `each` bytes, and not over 4,294,967,295 of them
-abbrev pub wholeLength : ℕ → ℕ → Bool
-wholeLength each total = eqb (total % each) 0 && leb (total / each) 4294967295
-
 -- The end: 33 by the length of the whole file, then the state, then the report
 unfoldable pub endBy : ℕ → ℕ → ℕ → List ℕ → Answer (List ℕ) → Answer (List ℕ)
 endBy each paths total report x =
     checks ((33, wholeLength each total) ∷ [])
     >> x
-    >>= λ left. checks (reportRules report (reportRecord (total / each) paths (runsByEdge left)))
-    >> value left
+    >>= λ left. reported (total / each) paths report left
 
 abbrev pub endOf : Netlist → ℕ → List ℕ → Answer (List ℕ) → Answer (List ℕ)
 endOf N total report x = endBy (recordLength N) (pathTotal N) total report x
 
-pub record Ended (r : AuditAnswer) (netlist : List ℕ) (taken : FileAnswer) (total : ℕ) (report ws ws′ : List ℕ) : Type 0 where
+pub record Ended (r : AuditAnswer) (netlist : List ℕ) (taken : StageAnswer) (total : ℕ) (report ws ws′ : List ℕ) : Type 0 where
   pub answer : (N : Netlist) → readNetlist netlist ≡ value N → auditedOf r ≡ passes (endOf N total report (fileOf taken ws))
   pub store : (N : Netlist) → readNetlist netlist ≡ value N → ws′ ≡ leftStore (endOf N total report (fileOf taken ws))

@@ -16,12 +16,12 @@ use Rattle.model.specs.Report.{fileRecords, auditCall, auditAnswer, auditStore}
 use Rattle.model.specs.Demand3.{Acceptable}
 use Rattle.model.specs.declared.Refusal.{Refusal}
 use Rattle.netlist.specs.declared.inner.Loaded.{Loaded}
-use Rattle.report.specs.Answers.{AuditTrue}
-use Rattle.report.specs.TestFile.{takenOf}
-use Rattle.report.specs.declared.AuditAnswer.{AuditAnswer}
-use Rattle.report.specs.declared.AuditAnswer.the-variants as audit
-use Rattle.report.specs.declared.inner.test_file.FileAnswer.the-variants as file
-use Rattle.report.specs.declared.inner.test_file.TakenRecords.{TakenRecords}
+use Rattle.audit.specs.Answers.{AuditTrue}
+use Rattle.audit.specs.TestFile.{takenOf}
+use Rattle.audit.specs.declared.AuditAnswer.{AuditAnswer}
+use Rattle.audit.specs.declared.AuditAnswer.the-variants as audit
+use Rattle.coverage.specs.declared.inner.StageAnswer.the-variants as stage
+use Rattle.audit.specs.declared.inner.TakenRecords.{TakenRecords}
 use Rattle.pieces.specs.declared.BeginAnswer.the-variants as beginning
 use Rattle.pieces.specs.declared.PieceAnswer.{PieceAnswer}
 use Rattle.pieces.specs.declared.PieceAnswer.the-variants as piece
@@ -66,7 +66,7 @@ bytesOf ms = map (λ m. m .bytes) ms
 
 -- before the first piece no record is taken
 abbrev pub noRecords : TakenRecords
-noRecords = record { taken = 0; answer = file.Taken }
+noRecords = record { taken = 0; answer = stage.Taken }
 
 -- The promise of each piece of a list: the first gets answer, store and working memory as given, each later one as the piece before left them
 abbrev pub Promised : List ℕ → Loaded → ℕ → TakenRecords → List ℕ → List ℕ → List MadePiece → Type 0

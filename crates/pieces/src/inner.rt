@@ -1,30 +1,24 @@
 // The audit in three steps with the netlist's tables made once: its beginning, a piece of the test file at a time in file order, its end. For our
 // own crates: each caller proves what a function requires.
-ghost use mathlib.Core.Path.{_≡_};
-ghost use mathlib.Core.Bool.{_&&_};
-ghost use Prim.Native.Nat.{_+_, _/_, _%_, _^_, _<_};
-ghost use lib.Dec.{eqb, leb};
+ghost use Prim.Native.Nat.{_+_, _^_, _<_};
 ghost use lib.ListN.{length};
 ghost use Rattle.pieces.specs.Steps.{BeginTrue, Ready, PieceTaken, Ended};
 use crate::BeginAnswer;
+use audit::AuditAnswer;
+use audit::inner::TakenRecords;
+use audit::inner::apply_records;
+use audit::inner::judge;
+use audit::inner::whole_length;
+use coverage::inner::StageAnswer;
 use model::Refusal;
 use model::STORE_WORDS;
 use model::WORK_WORDS;
 use model::known_class;
 use netlist::SurveyAnswer;
 use netlist::inner::Loaded;
-use netlist::inner::load;
-use report::AuditAnswer;
-use report::inner::Comparison;
-use report::inner::compare;
-use report::inner::test_file::FileAnswer;
-use report::inner::test_file::TakenRecords;
-use report::inner::test_file::take_records;
+use netlist::inner::load_by_value;
 use simulation::inner::test_record::record_length;
 use store::inner::clear;
-
-// The most records of a test file.
-pub const MAX_RECORDS: u64 = 4294967295;
 
 // The answer, and the tables of the netlist.
 pub struct Begun {
@@ -36,7 +30,7 @@ pub struct Begun {
 pub fn begin(netlist: &[u8], class: u32, store: &mut [u64], work: &[u64]) -> Begun
     ensures { λ r. ⌜ BeginTrue r (now (netlist .entry)) class (now (store .entry)) (now (store .exit)) (now (work .entry)) ⌝ }
 {
-    let loaded = load(netlist);
+    let loaded = load_by_value(netlist);
     if store.len() != STORE_WORDS {
         return Begun {
             answer: BeginAnswer::Refused(Refusal::StoreLength),
@@ -73,7 +67,7 @@ pub fn begin(netlist: &[u8], class: u32, store: &mut [u64], work: &[u64]) -> Beg
 }
 
 // The test stage with the whole records of a piece in order, judged in a class; after a refused record no other is tried. A refused record empties the store.
-pub fn take_piece(
+pub fn apply_piece(
     netlist: &[u8],
     loaded: Loaded,
     before: TakenRecords,
@@ -86,51 +80,33 @@ pub fn take_piece(
     requires { ⌜ before .taken + length (now piece) < 2 ^ 64 ⌝ }
     ensures { λ r. ⌜ PieceTaken r (now (netlist .entry)) loaded class before (now (piece .entry)) (now (store .entry)) (now (store .exit)) (now (work .entry)) (now (work .exit)) ⌝ }
 {
-    let survey = loaded.survey;
-    let positions = loaded.positions;
-    let inputs = survey.inputs;
-    let nets = inputs + survey.gates;
+    let places = loaded.positions;
+    let positions = &places;
+    let counts = &loaded.counts;
+    let shape = loaded.shape;
     let answer = before.answer;
     match answer {
-        FileAnswer::Refused(why) => TakenRecords {
+        StageAnswer::Refused(why) => TakenRecords {
             taken: before.taken,
-            answer: FileAnswer::Refused(why),
+            answer: StageAnswer::Refused(why),
         },
-        FileAnswer::Taken => {
-            let more = take_records(
-                netlist,
-                &positions,
-                &survey.counts,
-                inputs,
-                nets,
-                survey.outputs,
-                piece,
-                class,
-                store,
-                work,
-            );
+        StageAnswer::Taken => {
+            let more = apply_records(netlist, positions, counts, shape, piece, class, store, work);
+            let taken = before.taken + more.taken;
             let said = more.answer;
             TakenRecords {
-                taken: before.taken + more.taken,
+                taken,
                 answer: said,
             }
         }
     }
 }
 
-// Whether so many bytes are a whole number of records, of `each` bytes, and not too many of them.
-pub fn whole_length(bytes: u64, each: u64) -> bool
-    requires { ⌜ 0 < each ⌝ }
-    ensures { λ r. ⌜ r ≡ (eqb (bytes % each) 0 && leb (bytes / each) 4294967295) ⌝ }
-{
-    bytes % each == 0 && bytes / each <= MAX_RECORDS
-}
-
 // The report of a file of so many bytes, whose records answered so. The file's length comes first; a refusal leaves the store empty.
 pub fn finish(
     netlist: &[u8],
     loaded: Loaded,
-    taken: FileAnswer,
+    taken: StageAnswer,
     bytes: u64,
     report: &[u8],
     store: &mut [u64],
@@ -139,25 +115,16 @@ pub fn finish(
     requires { ⌜ Ready (now netlist) loaded (now store) (now work) ⌝ }
     ensures { λ r. ⌜ Ended r (now (netlist .entry)) taken bytes (now (report .entry)) (now (store .entry)) (now (store .exit)) ⌝ }
 {
-    let each = record_length(loaded.survey.inputs) as u64;
+    let each = record_length(loaded.shape.inputs) as u64;
     if !whole_length(bytes, each) {
         clear(store);
         return AuditAnswer::Refused(Refusal::TestFileLength);
     }
     match taken {
-        FileAnswer::Refused(why) => {
+        StageAnswer::Refused(why) => {
             clear(store);
             AuditAnswer::Refused(why)
         }
-        FileAnswer::Taken => {
-            let compared = compare(report, store, bytes / each, loaded.survey.total);
-            match compared {
-                Comparison::Equal => AuditAnswer::Accepted,
-                Comparison::Refused(why) => {
-                    clear(store);
-                    AuditAnswer::Refused(why)
-                }
-            }
-        }
+        StageAnswer::Taken => judge(report, bytes / each, loaded.total, store),
     }
 }

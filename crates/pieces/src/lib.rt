@@ -10,9 +10,11 @@ ghost use Rattle.model.specs.Base.{passes};
 ghost use Rattle.model.specs.Read.{vectorBytes};
 ghost use Rattle.model.specs.Store.{storeWords};
 ghost use Rattle.pieces.specs.Calls.{BegunTrue, PieceReady, PieceStaged, PieceTrue, EndTrue, endedOf, endStage, endLegal};
+use crate::inner::apply_piece;
 use crate::inner::begin;
-use crate::inner::take_piece;
-use crate::inner::whole_length;
+use audit::inner::TakenRecords;
+use audit::inner::whole_length;
+use coverage::inner::StageAnswer;
 use model::Refusal;
 use model::STORE_WORDS;
 use model::WORK_WORDS;
@@ -20,12 +22,10 @@ use model::known_class;
 use model::refusal_number;
 use netlist::SurveyAnswer;
 use netlist::inner::Loaded;
-use netlist::inner::load;
+use netlist::inner::load_by_value;
 use netlist::survey;
 use report::inner::Comparison;
 use report::inner::compare;
-use report::inner::test_file::FileAnswer;
-use report::inner::test_file::TakenRecords;
 use simulation::inner::test_record::record_length;
 use store::inner::StoreCheck;
 use store::inner::check_words;
@@ -76,7 +76,7 @@ pub fn audit_piece(
     if work.len() < WORK_WORDS {
         return PieceAnswer::Refused(Refusal::WorkLength);
     }
-    let loaded = load(netlist);
+    let loaded = load_by_value(netlist);
     let answer = loaded.answer;
     match answer {
         SurveyAnswer::Refused(why) => {
@@ -106,7 +106,7 @@ fn piece_on(
     requires { ⌜ PieceReady (now netlist) loaded (now store) (now work) ⌝ }
     ensures { λ r. ⌜ PieceStaged r (now (netlist .entry)) class (now (piece .entry)) (now (store .entry)) (now (store .exit)) (now (work .entry)) (now (work .exit)) ⌝ }
 {
-    let checked = check_words(store, loaded.survey.total);
+    let checked = check_words(store, loaded.total);
     match checked {
         StoreCheck::Refused(why) => {
             clear(store);
@@ -115,13 +115,13 @@ fn piece_on(
         StoreCheck::Sound => {
             let none = TakenRecords {
                 taken: 0,
-                answer: FileAnswer::Taken,
+                answer: StageAnswer::Taken,
             };
-            let records = take_piece(netlist, loaded, none, piece, class, store, work);
+            let records = apply_piece(netlist, loaded, none, piece, class, store, work);
             let answer = records.answer;
             match answer {
-                FileAnswer::Taken => PieceAnswer::Taken(records.taken),
-                FileAnswer::Refused(why) => PieceAnswer::RecordRefused(records.taken, why),
+                StageAnswer::Taken => PieceAnswer::Taken(records.taken),
+                StageAnswer::Refused(why) => PieceAnswer::RecordRefused(records.taken, why),
             }
         }
     }

@@ -1,21 +1,16 @@
--- The 34 bytes before the runs, written and compared field by field, and a store's report as these and its runs.
+-- The 34 bytes before the runs, written and compared field by field.
 -- Assumes nothing.
 use mathlib.Core.Path.{_≡_, refl, ap, sym, _∙_}
 use mathlib.Core.Bool.{Bool, true, false, _&&_, not}
 use mathlib.Core.List.{List, _++_}
-use Prim.Native.Nat.{ℕ, _+_, _*_, _≤_}
+use Prim.Native.Nat.{ℕ, _+_, _≤_}
 use native.Mathlib.Omega.{arith}
 use borrow.Author.Needs.{needs}
 use borrow.Author.Tests.{not-true, not-false}
-use lib.ListN.{length, take, drop, length-append}
+use lib.ListN.{length, take, drop}
 use lib.Seq.{sets}
 use Rattle.model.specs.Base.{littleEndian}
-use Rattle.model.specs.Path.{rising, falling}
-use Rattle.model.specs.Runs.{size}
-use Rattle.model.specs.Store.{firstWord, runsAt, runCount, storeRuns, runsByEdge}
-use Rattle.model.specs.Report.{sameBytes, runBytes, reportHead, reportRecord}
-use Rattle.model.proofs.StoreLaws.{length-runsAt}
-use Rattle.model.proofs.ReportLaws.{length-runBytes}
+use Rattle.model.specs.Report.{sameBytes}
 use Rattle.records.proofs.ByteLaws.{sets-append, part}
 use Rattle.report.specs.Layout.{headBytes, SameHead}
 
@@ -47,7 +42,8 @@ module _ (tests paths n m r f : ℕ) where
     sameField at k x = sameBytes (take k (drop at report)) (littleEndian k x)
 
     fields : (rest : List ℕ) → sameBytes report (headBytes tests paths n m r f ++ rest)
-        ≡ (sameField 0 2 0x5052 && (sameField 2 4 tests && (sameField 6 8 paths && (sameField 14 2 n && (sameField 16 2 m && (sameField 18 8 r && (sameField 26 8 f && sameBytes (drop 34 report) rest)))))))
+        ≡ (sameField 0 2 0x5052 && (sameField 2 4 tests && (sameField 6 8 paths
+        && (sameField 14 2 n && (sameField 16 2 m && (sameField 18 8 r && (sameField 26 8 f && sameBytes (drop 34 report) rest)))))))
     unfolding headBytes
     fields rest =
         let R₇ : List ℕ = littleEndian 8 f ++ rest in
@@ -99,33 +95,3 @@ module _ (tests paths n m r f : ℕ) where
                 head-last y₆ t₇ e₇ = record { decides = λ rest. rest-5 rest ∙ rw (not-false t₅ y₅, sym e₆ ∙ not-false t₆ y₆, sym e₇) refl }
 
 pub ruleset head-cases = (head-mark, head-tests, head-paths, head-rising, head-falling, head-risen, head-last, needs)
-
--- A store's report, from its words
-module _ (tests paths : ℕ) (ws : List ℕ) where
-  abbrev pub risingBytes : List ℕ
-  risingBytes = runBytes (runsAt ws (firstWord rising) (runCount ws rising))
-
-  abbrev pub fallingBytes : List ℕ
-  fallingBytes = runBytes (runsAt ws (firstWord falling) (runCount ws falling))
-
-  abbrev pub headOf : List ℕ
-  headOf = headBytes tests paths (runCount ws rising) (runCount ws falling) (size (runsAt ws (firstWord rising) (runCount ws rising))) (size (runsAt ws (firstWord falling) (runCount ws falling)))
-
-  pub length-rising : length risingBytes ≡ 16 * runCount ws rising
-  length-rising = length-runBytes (runsAt ws (firstWord rising) (runCount ws rising)) ∙ ap (λ (k : ℕ). 16 * k) (length-runsAt (runCount ws rising) ws (firstWord rising))
-
-  pub length-falling : length fallingBytes ≡ 16 * runCount ws falling
-  length-falling = length-runBytes (runsAt ws (firstWord falling) (runCount ws falling)) ∙ ap (λ (k : ℕ). 16 * k) (length-runsAt (runCount ws falling) ws (firstWord falling))
-
-  pub report-parts : reportRecord tests paths (runsByEdge ws) ≡ headOf ++ (risingBytes ++ fallingBytes)
-  unfolding reportRecord reportHead storeRuns headBytes
-  report-parts = rw (length-runsAt (runCount ws rising) ws (firstWord rising), length-runsAt (runCount ws falling) ws (firstWord falling)) refl
-
-  pub length-head : length headOf ≡ 34
-  unfolding headBytes
-  length-head = refl
-
-  pub length-whole : length (reportRecord tests paths (runsByEdge ws)) ≡ 34 + 16 * runCount ws rising + 16 * runCount ws falling
-  length-whole =
-      let a : length (reportRecord tests paths (runsByEdge ws)) ≡ length (headOf ++ (risingBytes ++ fallingBytes)) = ap (length {A = ℕ}) report-parts in
-      omega (arith, a, length-append headOf (risingBytes ++ fallingBytes), length-append risingBytes fallingBytes, length-head, length-rising, length-falling)

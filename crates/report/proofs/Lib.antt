@@ -1,8 +1,6 @@
--- The writer and the comparison part by part, then the audit's records and cases.
-pub mod RunSteps
+-- The writer and the comparison part by part, then the cases of each.
+pub mod WordSteps
 pub mod HeadLaws
+pub mod PartLaws
 pub mod ReportCases
 pub mod WriterCases
-pub mod FileSteps
-pub mod AuditCases
-pub mod PromisesHold

@@ -3,7 +3,7 @@
 use mathlib.Core.Path.{_≡_, refl, ap, ap₂, sym, _∙_}
 use mathlib.Core.Bool.{Bool, true, false, _&&_, not}
 use mathlib.Core.List.{List, _++_}
-use Prim.Native.Nat.{ℕ, _+_, _*_, _≤_, _<_}
+use Prim.Native.Nat.{ℕ, _+_, _*_, _/_, _^_, _≤_, _<_}
 use native.Mathlib.Omega.{arith}
 use borrow.Author.Needs.{needs}
 use borrow.Author.Tests.{not-true, not-false, eq-eqb, ne-eqb}
@@ -13,57 +13,49 @@ use lib.Seq.{take-all}
 use Rattle.model.specs.Base.{refused, value, checks, field}
 use Rattle.model.specs.Path.{rising, falling}
 use Rattle.model.specs.Read.{marked}
-use Rattle.model.specs.Store.{ByEdge, firstWord, runsAt, runCount, storeRuns, runsByEdge}
-use Rattle.model.specs.Report.{sameBytes, runBytes, reportRecord, reportRules}
+use Rattle.model.specs.Store.{runsByEdge}
+use Rattle.model.specs.Report.{sameBytes, reportRecord, reportRules}
 use Rattle.model.proofs.BoolLaws.{and-left, true→T}
 use Rattle.records.proofs.ByteLaws.{part-yes, part-no, same-length}
 use Rattle.store.specs.Answers.{totalsIn, totalsBoth}
+use Rattle.store.specs.Sound.{SoundWords, edgeWords}
 use Rattle.store.specs.declared.inner.StoreTotals.{StoreTotals}
-use Rattle.report.specs.Layout.{headBytes, SameHead}
-use Rattle.report.proofs.HeadLaws.{risingBytes, fallingBytes, headOf, report-parts, length-whole, length-rising}
+use Rattle.report.specs.Layout.{wordBytes, SameHead}
+use Rattle.report.proofs.PartLaws.{length-words, report-parts, length-whole}
 
--- the store's head, with its totals as they were summed
-pub head-totals : (tests paths : ℕ) (ws : List ℕ) (t : StoreTotals) → totalsIn t ≡ totalsBoth ws
-    → headBytes tests paths (runCount ws rising) (runCount ws falling) (t .rising) (t .falling) ≡ headOf tests paths ws
-unfolding storeRuns
-head-totals tests paths ws t q =
-    ap₂ (λ x y. headBytes tests paths (runCount ws rising) (runCount ws falling) x y) (ap (λ (b : ByEdge ℕ). b .onRising) q) (ap (λ (b : ByEdge ℕ). b .onFalling) q)
-
-module _ (report ws : List ℕ) (tests paths : ℕ) where
+module _ (report ws : List ℕ) (tests paths : ℕ) (sound : SoundWords (2 ^ 62) ws) (R F : List ℕ) (er : R ≡ edgeWords ws rising) (ef : F ≡ edgeWords ws falling)
+    (t : StoreTotals) (q : totalsIn t ≡ totalsBoth ws) where
   abbrev whole : Bool
   whole = sameBytes report (reportRecord tests paths (runsByEdge ws))
 
-  pub other-length : (length report ≡ 34 + 16 * runCount ws rising + 16 * runCount ws falling → ⊥) → false ≡ whole
-  other-length d = sym (same-length report (reportRecord tests paths (runsByEdge ws)) (λ e. d (e ∙ length-whole tests paths ws)))
+  pub other-length : (length report ≡ 34 + 8 * length R + 8 * length F → ⊥) → false ≡ whole
+  other-length d =
+      sym (same-length report (reportRecord tests paths (runsByEdge ws)) (λ e. d (e ∙ length-whole ws (sound .few) tests paths R F er ef t q)))
 
-  module _ (l : length report ≡ 34 + 16 * runCount ws rising + 16 * runCount ws falling) (t : StoreTotals) (q : totalsIn t ≡ totalsBoth ws)
-      (b : Bool) (h : SameHead b report tests paths (runCount ws rising) (runCount ws falling) (t .rising) (t .falling)) where
-    by-head : whole ≡ (b && sameBytes (drop 34 report) (risingBytes tests paths ws ++ fallingBytes tests paths ws))
-    by-head =
-        let R : List ℕ = risingBytes tests paths ws ++ fallingBytes tests paths ws in
-        ap (sameBytes report) (report-parts tests paths ws ∙ ap (λ (z : List ℕ). z ++ R) (sym (head-totals tests paths ws t q))) ∙ h .decides R
+  module _ (l : length report ≡ 34 + 8 * length R + 8 * length F)
+      (b : Bool) (h : SameHead b report tests paths (length R / 2) (length F / 2) (t .rising) (t .falling)) where
+    by-head : whole ≡ (b && sameBytes (drop 34 report) (wordBytes R ++ wordBytes F))
+    by-head = ap (sameBytes report) (report-parts ws (sound .few) tests paths R F er ef t q) ∙ h .decides (wordBytes R ++ wordBytes F)
 
     pub other-head : not b ≡ true → false ≡ whole
     other-head n = sym (by-head ∙ rw (not-true b n) refl)
 
-    module _ (n : not b ≡ false) (u : Bool) (e : u ≡ sameBytes (take (16 * runCount ws rising) (drop 34 report)) (runBytes (runsAt ws (firstWord rising) (runCount ws rising)))) where
-      after-head : whole ≡ sameBytes (drop 34 report) (risingBytes tests paths ws ++ fallingBytes tests paths ws)
+    module _ (n : not b ≡ false) (u : Bool) (e : u ≡ sameBytes (take (8 * length R) (drop 34 report)) (wordBytes R)) where
+      after-head : whole ≡ sameBytes (drop 34 report) (wordBytes R ++ wordBytes F)
       after-head = by-head ∙ rw (not-false b n) refl
 
       pub other-rising : not u ≡ true → false ≡ whole
       other-rising m =
-          sym (after-head ∙ part-no report 34 (16 * runCount ws rising) (risingBytes tests paths ws) (fallingBytes tests paths ws) (length-rising tests paths ws) (omega arith)
-          (sym e ∙ not-true u m))
+          sym (after-head ∙ part-no report 34 (8 * length R) (wordBytes R) (wordBytes F) (length-words R) (omega arith) (sym e ∙ not-true u m))
 
       pub falling-decides : not u ≡ false
-          → (v : Bool) → v ≡ sameBytes (take (16 * runCount ws falling) (drop (34 + 16 * runCount ws rising) report)) (runBytes (runsAt ws (firstWord falling) (runCount ws falling))) → v ≡ whole
+          → (v : Bool) → v ≡ sameBytes (take (8 * length F) (drop (34 + 8 * length R) report)) (wordBytes F) → v ≡ whole
       falling-decides m v f =
-          let k : take (16 * runCount ws falling) (drop (34 + 16 * runCount ws rising) report) ≡ drop (34 + 16 * runCount ws rising) report =
-          take-all (16 * runCount ws falling) (drop (34 + 16 * runCount ws rising) report) (simp length-drop (omega arith)) in
+          let k : take (8 * length F) (drop (34 + 8 * length R) report) ≡ drop (34 + 8 * length R) report =
+          take-all (8 * length F) (drop (34 + 8 * length R) report) (simp length-drop (omega arith)) in
           f
-          ∙ ap (λ (z : List ℕ). sameBytes z (fallingBytes tests paths ws)) k
-          ∙ sym (after-head ∙ part-yes report 34 (16 * runCount ws rising) (risingBytes tests paths ws) (fallingBytes tests paths ws) (length-rising tests paths ws) (omega arith)
-          (sym e ∙ not-false u m))
+          ∙ ap (λ (z : List ℕ). sameBytes z (wordBytes F)) k
+          ∙ sym (after-head ∙ part-yes report 34 (8 * length R) (wordBytes R) (wordBytes F) (length-words R) (omega arith) (sym e ∙ not-false u m))
 
 pub ruleset report-cases = (other-length, other-head, other-rising, falling-decides, needs)
 

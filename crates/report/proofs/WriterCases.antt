@@ -2,7 +2,7 @@
 -- Assumes nothing.
 use mathlib.Core.Path.{_≡_, refl, ap, sym, _∙_}
 use mathlib.Core.List.{List, _++_, append-assoc}
-use Prim.Native.Nat.{ℕ, _+_, _*_, _^_, _≤_, _<_}
+use Prim.Native.Nat.{ℕ, _+_, _*_, _/_, _^_, _≤_, _<_}
 use native.Mathlib.Omega.{arith}
 use borrow.Author.Needs.{needs}
 use borrow.Author.Tests.{le-leb, lt-leb, eq-eqb, ne-eqb}
@@ -12,9 +12,8 @@ use Rattle.model.specs.Base.{refused, value, checks}
 use Rattle.model.specs.Netlist.{pathTotal}
 use Rattle.model.specs.Path.{rising, falling}
 use Rattle.model.specs.Refusals.{refusalNumber}
-use Rattle.model.specs.Runs.{size}
-use Rattle.model.specs.Store.{firstWord, runsAt, runCount, runsByEdge, storeWords, storeRules}
-use Rattle.model.specs.Report.{runBytes, reportRecord, reportBufferBytes, writerCall, writerAnswer, writerBuffer}
+use Rattle.model.specs.Store.{runsByEdge, storeWords, storeRules}
+use Rattle.model.specs.Report.{reportRecord, reportBufferBytes, writerCall, writerAnswer, writerBuffer}
 use Rattle.model.specs.declared.Refusal.{Refusal}
 use Rattle.model.specs.declared.Refusal.the-variants as why
 use Rattle.model.proofs.ReadLaws.{limits}
@@ -23,35 +22,49 @@ use Rattle.netlist.specs.declared.SurveyAnswer.the-variants as survey
 use Rattle.netlist.specs.declared.Surveyed.{Surveyed}
 use Rattle.netlist.proofs.LoadLaws.{LegalSurvey, legal-survey, refused-survey}
 use Rattle.store.specs.Answers.{checkOf, totalsIn, totalsBoth}
-use Rattle.store.specs.Sound.{SoundWords}
+use Rattle.store.specs.Sound.{SoundWords, edgeWords}
 use Rattle.store.specs.declared.inner.StoreCheck.{StoreCheck}
 use Rattle.store.specs.declared.inner.StoreCheck.the-variants as check
 use Rattle.store.specs.declared.inner.StoreTotals.{StoreTotals}
 use Rattle.store.proofs.SoundLaws.{checked-sound}
 use Rattle.report.specs.Answers.{WriteTrue}
-use Rattle.report.specs.Layout.{headBytes, ReportPut}
+use Rattle.report.specs.Layout.{wordBytes, headBytes, ReportPut}
 use Rattle.report.specs.declared.WriteAnswer.the-variants as write
-use Rattle.report.proofs.HeadLaws.{risingBytes, fallingBytes, headOf, next-put, report-parts, length-whole, length-rising, length-head}
-use Rattle.report.proofs.ReportCases.{head-totals}
+use Rattle.report.proofs.HeadLaws.{next-put}
+use Rattle.report.proofs.PartLaws.{length-words, report-parts, length-head, length-whole, edge-few, record-fits}
 
--- the head, then the runs of both edges
-pub report-put : (tests paths : ℕ) (ws : List ℕ) (t : StoreTotals) → totalsIn t ≡ totalsBoth ws → (b b₁ b₂ b₃ : List ℕ)
-    → b₁ ≡ sets b 0 (headBytes tests paths (runCount ws rising) (runCount ws falling) (t .rising) (t .falling))
-    → b₂ ≡ sets b₁ 34 (runBytes (runsAt ws (firstWord rising) (runCount ws rising)))
-    → b₃ ≡ sets b₂ (34 + 16 * runCount ws rising) (runBytes (runsAt ws (firstWord falling) (runCount ws falling)))
-    → ReportPut (34 + 16 * runCount ws rising + 16 * runCount ws falling) tests paths ws b b₃
-report-put tests paths ws t q b b₁ b₂ b₃ p₁ p₂ p₃ =
-    let H : List ℕ = headOf tests paths ws in
-    let R : List ℕ = risingBytes tests paths ws in
-    let F : List ℕ = fallingBytes tests paths ws in
-    let h : b₁ ≡ sets b 0 H = p₁ ∙ ap (λ (z : List ℕ). sets b 0 z) (head-totals tests paths ws t q) in
-    let r : b₂ ≡ sets b 0 (H ++ R) = next-put b b₁ b₂ H R 34 h p₂ (sym (length-head tests paths ws)) in
-    let j : 34 + 16 * runCount ws rising ≡ length (H ++ R) = omega (arith, length-append H R, length-head tests paths ws, length-rising tests paths ws) in
-    let f : b₃ ≡ sets b 0 ((H ++ R) ++ F) = next-put b b₂ b₃ (H ++ R) F (34 + 16 * runCount ws rising) r p₃ j in
+-- the head, then the words of both edges' runs
+pub report-put : (tests paths : ℕ) (ws : List ℕ) → SoundWords (2 ^ 62) ws → (R F : List ℕ) → R ≡ edgeWords ws rising → F ≡ edgeWords ws falling
+    → (t : StoreTotals) → totalsIn t ≡ totalsBoth ws → (b b₁ b₂ b₃ : List ℕ)
+    → b₁ ≡ sets b 0 (headBytes tests paths (length R / 2) (length F / 2) (t .rising) (t .falling))
+    → b₂ ≡ sets b₁ 34 (wordBytes R) → b₃ ≡ sets b₂ (34 + 8 * length R) (wordBytes F)
+    → ReportPut (34 + 8 * length R + 8 * length F) tests paths ws b b₃
+report-put tests paths ws sound R F er ef t q b b₁ b₂ b₃ p₁ p₂ p₃ =
+    let H : List ℕ = headBytes tests paths (length R / 2) (length F / 2) (t .rising) (t .falling) in
+    let long = length-head ws (sound .few) tests paths R F er ef t q in
+    let r : b₂ ≡ sets b 0 (H ++ wordBytes R) = next-put b b₁ b₂ H (wordBytes R) 34 p₁ p₂ (sym long) in
+    let j : 34 + 8 * length R ≡ length (H ++ wordBytes R) = omega (arith, length-append H (wordBytes R), long, length-words R) in
+    let f : b₃ ≡ sets b 0 ((H ++ wordBytes R) ++ wordBytes F) = next-put b b₂ b₃ (H ++ wordBytes R) (wordBytes F) (34 + 8 * length R) r p₃ j in
+    let parts = report-parts ws (sound .few) tests paths R F er ef t q in
     record {
-      bytes = f ∙ ap (λ (z : List ℕ). sets b 0 z) (append-assoc H R F ∙ sym (report-parts tests paths ws));
-      size = sym (length-whole tests paths ws);
+      bytes = f ∙ ap (λ (z : List ℕ). sets b 0 z) (append-assoc H (wordBytes R) (wordBytes F) ∙ sym parts);
+      size = sym (length-whole ws (sound .few) tests paths R F er ef t q);
     }
+
+-- there is room for them
+module _ (ws : List ℕ) (sound : SoundWords (2 ^ 62) ws) (R : List ℕ) (er : R ≡ edgeWords ws rising) where
+  pub rising-room : (b b₁ : List ℕ) → reportBufferBytes ≤ length b → length b₁ ≡ length b → 34 + 8 * length R ≤ length b₁
+  rising-room b b₁ h k = omega (arith, edge-few sound rising er)
+
+  module _ (F : List ℕ) (ef : F ≡ edgeWords ws falling) where
+    pub falling-room : (b b₁ b₂ : List ℕ) → reportBufferBytes ≤ length b → length b₁ ≡ length b → length b₂ ≡ length b₁
+        → 34 + 8 * length R + 8 * length F ≤ length b₂
+    falling-room b b₁ b₂ h k m = omega (arith, edge-few sound rising er, edge-few sound falling ef)
+
+    pub record-small : 34 + 8 * length R + 8 * length F < 2 ^ 64
+    record-small = omega (arith, edge-few sound rising er, edge-few sound falling ef)
+
+pub ruleset put-report-cases = (rising-room, falling-room, record-small, needs)
 
 module _ (netlist ws : List ℕ) (tests : ℕ) (buffer : List ℕ) where
   pub writer-store : (length ws ≡ storeWords → ⊥) → WriteTrue (write.Refused why.StoreLength) netlist ws tests buffer buffer
@@ -107,8 +120,7 @@ module _ (netlist ws : List ℕ) (tests : ℕ) (buffer : List ℕ) where
                 let R : List ℕ = reportRecord tests (pathTotal (is .netlist)) (runsByEdge ws) in
                 let z : checks (storeRules (pathTotal (is .netlist)) ws) ≡ value tt = sym rules ∙ ap checkOf f in
                 let same : reportRecord tests (s .survey .total) (runsByEdge ws) ≡ R = ap (λ t. reportRecord tests t (runsByEdge ws)) (is .totalIs) in
-                let fits : length R ≤ length buffer =
-                omega (arith, length-whole tests (pathTotal (is .netlist)) ws, writer-sound .few .fewRising, writer-sound .few .fewFalling) in
+                let fits : length R ≤ length buffer = omega (arith, record-fits tests (pathTotal (is .netlist)) ws (writer-sound .few)) in
                 let n : 0 + length R ≡ length R = omega arith in
                 let put : left ≡ R ++ drop (length R) buffer =
                 p .bytes ∙ ap (λ (x : List ℕ). sets buffer 0 x) same ∙ sets-eq R buffer 0 (omega arith) ∙ ap (λ (i : ℕ). R ++ drop i buffer) n in

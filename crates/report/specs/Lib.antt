@@ -1,5 +1,3 @@
 -- Reports: what the calls promise, then what their parts do.
 pub mod Answers
 pub mod Layout
-pub mod TestFile
-pub mod Promised

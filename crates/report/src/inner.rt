@@ -1,15 +1,13 @@
-// The records of a test file, and a report compared with a store's words in place, for our own crates.
-pub mod test_file;
-
+// A report compared with a store's words in place, for our own crates.
 ghost use mathlib.Core.Path.{_≡_};
 ghost use Prim.Native.Nat.{_+_, _*_, _^_, _≤_};
 ghost use lib.ListN.{length, take, drop};
 ghost use Rattle.model.specs.Base.{checks};
-ghost use Rattle.model.specs.Store.{runsAt, runsByEdge};
-ghost use Rattle.model.specs.Report.{runBytes, sameBytes, reportRecord, reportRules};
+ghost use Rattle.model.specs.Store.{runsByEdge};
+ghost use Rattle.model.specs.Report.{sameBytes, reportRecord, reportRules};
 ghost use Rattle.report.specs.Answers.{comparedOf};
 ghost use Rattle.store.specs.Sound.{SoundWords};
-ghost use Rattle.report.specs.Layout.{SameHead};
+ghost use Rattle.report.specs.Layout.{wordBytes, SameHead};
 use crate::layout::FALLING_FAULTS_AT;
 use crate::layout::FALLING_RUNS_AT;
 use crate::layout::HEAD_BYTES;
@@ -19,14 +17,13 @@ use crate::layout::RISING_FAULTS_AT;
 use crate::layout::RISING_RUNS_AT;
 use crate::layout::RUN_BYTES;
 use crate::layout::TESTS_AT;
-use model::HEAD_WORDS;
+use crate::layout::WORD_BYTES;
+use faults::Edge;
 use model::Refusal;
 use records::inner::begins_with;
 use records::inner::same;
 use records::inner::u16_at;
-use store::inner::FALLING_COUNT;
-use store::inner::FALLING_WORD;
-use store::inner::RISING_COUNT;
+use store::inner::parts::edge_runs;
 use store::inner::totals_of;
 
 // What the checks of a report answer.
@@ -35,24 +32,17 @@ pub enum Comparison {
     Refused(Refusal),
 }
 
-// Whether the bytes from `at` on are those of the n runs from word `from` on.
-fn same_runs(report: &[u8], at: usize, words: &[u64], from: usize, n: usize) -> bool
-    requires { ⌜ (at + 16 * n ≤ length (now report)) × (from + 2 * n ≤ length (now words)) ⌝ }
-    ensures { λ r. ⌜ r ≡ sameBytes (take (16 * n) (drop at (now (report .entry)))) (runBytes (runsAt (now (words .entry)) from n)) ⌝ }
+// Whether the bytes from `at` on are those of words.
+fn same_words(report: &[u8], at: usize, words: &[u64]) -> bool
+    requires { ⌜ at + 8 * length (now words) ≤ length (now report) ⌝ }
+    ensures { λ r. ⌜ r ≡ sameBytes (take (8 * length (now (words .entry))) (drop at (now (report .entry)))) (wordBytes (now (words .entry))) ⌝ }
 {
-    let mut to = at;
-    let mut place = from;
-    let mut left = n;
-    while 0 < left {
-        if !same(report, to, 8, words[place]) {
+    let mut i = 0;
+    while i < words.len() {
+        if !same(report, at + WORD_BYTES * i, WORD_BYTES, words[i]) {
             return false;
         }
-        if !same(report, to + 8, 8, words[place + 1]) {
-            return false;
-        }
-        to += RUN_BYTES;
-        place += 2;
-        left -= 1;
+        i += 1;
     }
     true
 }
@@ -97,29 +87,27 @@ fn same_report(report: &[u8], words: &[u64], tests: u64, paths: u64) -> bool
     ensures { λ r. ⌜ r ≡ sameBytes (now (report .entry)) (reportRecord tests paths (runsByEdge (now (words .entry)))) ⌝ }
 {
     let held = totals_of(words);
-    let rising = words[RISING_COUNT];
-    let falling = words[FALLING_COUNT];
-    let first = rising as usize;
-    let second = falling as usize;
-    let at = HEAD_BYTES + RUN_BYTES * first;
-    if report.len() != at + RUN_BYTES * second {
+    let rising = edge_runs(words, Edge::Rising);
+    let falling = edge_runs(words, Edge::Falling);
+    let at = HEAD_BYTES + WORD_BYTES * rising.len();
+    if report.len() != at + WORD_BYTES * falling.len() {
         return false;
     }
     if !same_head(
         report,
         tests,
         paths,
-        rising,
-        falling,
+        (rising.len() / 2) as u64,
+        (falling.len() / 2) as u64,
         held.rising,
         held.falling,
     ) {
         return false;
     }
-    if !same_runs(report, HEAD_BYTES, words, HEAD_WORDS, first) {
+    if !same_words(report, HEAD_BYTES, rising) {
         return false;
     }
-    same_runs(report, at, words, FALLING_WORD, second)
+    same_words(report, at, falling)
 }
 
 // The checks of a report against the one that the writer gives for a sound store.

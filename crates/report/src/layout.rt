@@ -16,7 +16,9 @@ pub const RISING_FAULTS_AT: usize = 18;
 
 pub const FALLING_FAULTS_AT: usize = 26;
 
-// The bytes before the runs, and those of a run.
+// The bytes before the runs, those of a run, and those of its low or its high.
 pub const HEAD_BYTES: usize = 34;
 
 pub const RUN_BYTES: usize = 16;
+
+pub const WORD_BYTES: usize = 8;

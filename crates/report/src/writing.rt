@@ -3,10 +3,9 @@ ghost use mathlib.Core.Path.{_≡_};
 ghost use Prim.Native.Nat.{_+_, _*_, _^_, _≤_};
 ghost use lib.ListN.{length};
 ghost use lib.Seq.{sets};
-ghost use Rattle.model.specs.Store.{runsAt};
-ghost use Rattle.model.specs.Report.{runBytes, reportBufferBytes};
+ghost use Rattle.model.specs.Report.{reportBufferBytes};
 ghost use Rattle.store.specs.Sound.{SoundWords};
-ghost use Rattle.report.specs.Layout.{headBytes, ReportPut};
+ghost use Rattle.report.specs.Layout.{wordBytes, headBytes, ReportPut};
 use crate::layout::FALLING_FAULTS_AT;
 use crate::layout::FALLING_RUNS_AT;
 use crate::layout::HEAD_BYTES;
@@ -14,29 +13,22 @@ use crate::layout::PATHS_AT;
 use crate::layout::REPORT_MARK;
 use crate::layout::RISING_FAULTS_AT;
 use crate::layout::RISING_RUNS_AT;
-use crate::layout::RUN_BYTES;
 use crate::layout::TESTS_AT;
-use model::HEAD_WORDS;
+use crate::layout::WORD_BYTES;
+use faults::Edge;
 use records::inner::put;
-use store::inner::FALLING_COUNT;
-use store::inner::FALLING_WORD;
-use store::inner::RISING_COUNT;
+use store::inner::parts::edge_runs;
 use store::inner::totals_of;
 
-// Writes the n runs from word `from` on, low and high of 8 bytes each.
-fn put_runs(report: &mut [u8], at: usize, words: &[u64], from: usize, n: usize)
-    requires { ⌜ (at + 16 * n ≤ length (now report)) × (from + 2 * n ≤ length (now words)) ⌝ }
-    ensures { λ _. ⌜ now (report .exit) ≡ sets (now (report .entry)) at (runBytes (runsAt (now (words .entry)) from n)) ⌝ }
+// Writes words from `at` on, 8 bytes each.
+fn put_words(report: &mut [u8], at: usize, words: &[u64])
+    requires { ⌜ at + 8 * length (now words) ≤ length (now report) ⌝ }
+    ensures { λ _. ⌜ now (report .exit) ≡ sets (now (report .entry)) at (wordBytes (now (words .entry))) ⌝ }
 {
-    let mut to = at;
-    let mut place = from;
-    let mut left = n;
-    while 0 < left {
-        put(report, to, 8, words[place]);
-        put(report, to + 8, 8, words[place + 1]);
-        to += RUN_BYTES;
-        place += 2;
-        left -= 1;
+    let mut i = 0;
+    while i < words.len() {
+        put(report, at + WORD_BYTES * i, WORD_BYTES, words[i]);
+        i += 1;
     }
 }
 
@@ -69,21 +61,19 @@ pub(crate) fn put_report(report: &mut [u8], tests: u64, paths: u64, words: &[u64
     ensures { λ r. ⌜ ReportPut r tests paths (now (words .entry)) (now (report .entry)) (now (report .exit)) ⌝ }
 {
     let held = totals_of(words);
-    let rising = words[RISING_COUNT];
-    let falling = words[FALLING_COUNT];
+    let rising = edge_runs(words, Edge::Rising);
+    let falling = edge_runs(words, Edge::Falling);
     put_head(
         report,
         tests,
         paths,
-        rising,
-        falling,
+        (rising.len() / 2) as u64,
+        (falling.len() / 2) as u64,
         held.rising,
         held.falling,
     );
-    let first = rising as usize;
-    let second = falling as usize;
-    let at = HEAD_BYTES + RUN_BYTES * first;
-    put_runs(report, HEAD_BYTES, words, HEAD_WORDS, first);
-    put_runs(report, at, words, FALLING_WORD, second);
-    at + RUN_BYTES * second
+    let at = HEAD_BYTES + WORD_BYTES * rising.len();
+    put_words(report, HEAD_BYTES, rising);
+    put_words(report, at, falling);
+    at + WORD_BYTES * falling.len()
 }

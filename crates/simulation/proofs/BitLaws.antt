@@ -1,13 +1,13 @@
--- Bits of words: of `and` and `xor`, and of bytes read low byte first.
+-- Bits of words: of `and`, `or` and `xor`, and of bytes read low byte first.
 -- Assumes nothing.
 use mathlib.Core.Path.{_≡_, refl, ap, ap₂, sym, _∙_}
-use mathlib.Core.Bool.{Bool, true, false, _&&_, not}
+use mathlib.Core.Bool.{Bool, true, false, _&&_, _||_, not, Bool·beq}
 use mathlib.Core.List.{List, [], _∷_}
 use mathlib.Core.Logic.{⊎-elim}
 use Prim.Native.Nat.{ℕ, zero, suc, _+_, _-_, _*_, _/_, _%_, _^_, _≤_, _<_}
 use native.Mathlib.Nat.{mod-lt, not-suc-le-zero, le-of-suc-le-suc}
 use native.Mathlib.Omega.{arith}
-use lib.Bits.{bitAnd, bitXor, and-shr, xor-shr, and-mod, xor-mod}
+use lib.Bits.{bitAnd, bitOr, bitXor, and-shr, or-shr, xor-shr, and-mod, or-mod, xor-mod}
 use lib.Dec.{eqb}
 use lib.ListN.{length, getD}
 use lib.Pow.{shr-shr}
@@ -15,41 +15,72 @@ use Rattle.model.specs.Base.{bit, fromLittleEndian}
 use Rattle.model.specs.Read.{inputBit}
 use Rattle.model.proofs.BoolLaws.{le-or-lt}
 
--- one digit
-rise-digit : (x y : ℕ) → x < 2 → y < 2 → eqb (bitAnd (bitXor x y) y) 1 ≡ (not (eqb x 1) && eqb y 1)
-rise-digit zero zero h l = refl
-rise-digit zero (suc zero) h l = refl
-rise-digit zero (suc (suc y)) h l = absurd (omega arith)
-rise-digit (suc zero) zero h l = refl
-rise-digit (suc zero) (suc zero) h l = refl
-rise-digit (suc zero) (suc (suc y)) h l = absurd (omega arith)
-rise-digit (suc (suc x)) y h l = absurd (omega arith)
+-- Bits of `and`, `or` and `xor`
+pub below-two : (x : ℕ) → x % 2 < 2
+below-two x = mod-lt x (omega arith)
 
-fall-digit : (x y : ℕ) → x < 2 → y < 2 → eqb (bitAnd (bitXor x y) x) 1 ≡ (eqb x 1 && not (eqb y 1))
-fall-digit zero zero h l = refl
-fall-digit zero (suc zero) h l = refl
-fall-digit zero (suc (suc y)) h l = absurd (omega arith)
-fall-digit (suc zero) zero h l = refl
-fall-digit (suc zero) (suc zero) h l = refl
-fall-digit (suc zero) (suc (suc y)) h l = absurd (omega arith)
-fall-digit (suc (suc x)) y h l = absurd (omega arith)
+pub and-digit : (x y : ℕ) → x < 2 → y < 2 → eqb (bitAnd x y) 1 ≡ (eqb x 1 && eqb y 1)
+and-digit zero zero h l = refl
+and-digit zero (suc zero) h l = refl
+and-digit zero (suc (suc y)) h l = absurd (omega arith)
+and-digit (suc zero) zero h l = refl
+and-digit (suc zero) (suc zero) h l = refl
+and-digit (suc zero) (suc (suc y)) h l = absurd (omega arith)
+and-digit (suc (suc x)) y h l = absurd (omega arith)
 
--- the digit of `(a ^ b) & c`
-moved-digit : (a b c j : ℕ) → bitAnd (bitXor a b) c / 2 ^ j % 2 ≡ bitAnd (bitXor (a / 2 ^ j % 2) (b / 2 ^ j % 2)) (c / 2 ^ j % 2)
-moved-digit a b c j =
-    ap (λ x. x % 2) (and-shr (bitXor a b) c j ∙ ap (λ x. bitAnd x (c / 2 ^ j)) (xor-shr a b j))
-    ∙ and-mod (bitXor (a / 2 ^ j) (b / 2 ^ j)) (c / 2 ^ j) 1
-    ∙ ap (λ x. bitAnd x (c / 2 ^ j % 2)) (xor-mod (a / 2 ^ j) (b / 2 ^ j) 1)
+or-digit : (x y : ℕ) → x < 2 → y < 2 → eqb (bitOr x y) 1 ≡ (eqb x 1 || eqb y 1)
+or-digit zero zero h l = refl
+or-digit zero (suc zero) h l = refl
+or-digit zero (suc (suc y)) h l = absurd (omega arith)
+or-digit (suc zero) zero h l = refl
+or-digit (suc zero) (suc zero) h l = refl
+or-digit (suc zero) (suc (suc y)) h l = absurd (omega arith)
+or-digit (suc (suc x)) y h l = absurd (omega arith)
 
-module _ (a b j : ℕ) where
-  below-two : (x : ℕ) → x % 2 < 2
-  below-two x = mod-lt x (omega arith)
+xor-digit : (x y : ℕ) → x < 2 → y < 2 → eqb (bitXor x y) 1 ≡ not (Bool·beq (eqb x 1) (eqb y 1))
+xor-digit zero zero h l = refl
+xor-digit zero (suc zero) h l = refl
+xor-digit zero (suc (suc y)) h l = absurd (omega arith)
+xor-digit (suc zero) zero h l = refl
+xor-digit (suc zero) (suc zero) h l = refl
+xor-digit (suc zero) (suc (suc y)) h l = absurd (omega arith)
+xor-digit (suc (suc x)) y h l = absurd (omega arith)
 
-  pub rise-bit : bit (bitAnd (bitXor a b) b) j ≡ (not (bit a j) && bit b j)
-  rise-bit = ap (λ x. eqb x 1) (moved-digit a b b j) ∙ rise-digit (a / 2 ^ j % 2) (b / 2 ^ j % 2) (below-two (a / 2 ^ j)) (below-two (b / 2 ^ j))
+module _ (a b p : ℕ) where
+  pub and-bit : bit (bitAnd a b) p ≡ (bit a p && bit b p)
+  and-bit =
+      ap (λ x. eqb (x % 2) 1) (and-shr a b p) ∙ ap (λ x. eqb x 1) (and-mod (a / 2 ^ p) (b / 2 ^ p) 1)
+      ∙ and-digit (a / 2 ^ p % 2) (b / 2 ^ p % 2) (below-two (a / 2 ^ p)) (below-two (b / 2 ^ p))
 
-  pub fall-bit : bit (bitAnd (bitXor a b) a) j ≡ (bit a j && not (bit b j))
-  fall-bit = ap (λ x. eqb x 1) (moved-digit a b a j) ∙ fall-digit (a / 2 ^ j % 2) (b / 2 ^ j % 2) (below-two (a / 2 ^ j)) (below-two (b / 2 ^ j))
+  pub or-bit : bit (bitOr a b) p ≡ (bit a p || bit b p)
+  or-bit =
+      ap (λ x. eqb (x % 2) 1) (or-shr a b p) ∙ ap (λ x. eqb x 1) (or-mod (a / 2 ^ p) (b / 2 ^ p) 1)
+      ∙ or-digit (a / 2 ^ p % 2) (b / 2 ^ p % 2) (below-two (a / 2 ^ p)) (below-two (b / 2 ^ p))
+
+  pub xor-bit : bit (bitXor a b) p ≡ not (Bool·beq (bit a p) (bit b p))
+  xor-bit =
+      ap (λ x. eqb (x % 2) 1) (xor-shr a b p) ∙ ap (λ x. eqb x 1) (xor-mod (a / 2 ^ p) (b / 2 ^ p) 1)
+      ∙ xor-digit (a / 2 ^ p % 2) (b / 2 ^ p % 2) (below-two (a / 2 ^ p)) (below-two (b / 2 ^ p))
+
+-- what moved to 1, and what moved from 1
+module _ (a b p : ℕ) where
+  pub rise-bit : bit (bitAnd (bitXor a b) b) p ≡ (not (bit a p) && bit b p)
+  rise-bit = and-bit (bitXor a b) b p ∙ ap (λ t. t && bit b p) (xor-bit a b p) ∙ rise (bit a p) (bit b p)
+    where
+      rise : (x y : Bool) → (not (Bool·beq x y) && y) ≡ (not x && y)
+      rise true true = refl
+      rise true false = refl
+      rise false true = refl
+      rise false false = refl
+
+  pub fall-bit : bit (bitAnd (bitXor a b) a) p ≡ (bit a p && not (bit b p))
+  fall-bit = and-bit (bitXor a b) a p ∙ ap (λ t. t && bit a p) (xor-bit a b p) ∙ fall (bit a p) (bit b p)
+    where
+      fall : (x y : Bool) → (not (Bool·beq x y) && x) ≡ (x && not y)
+      fall true true = refl
+      fall true false = refl
+      fall false true = refl
+      fall false false = refl
 
 -- a bit of the lowest byte
 low-byte : (b f j : ℕ) → j < 8 → (b + 256 * f) / 2 ^ j % 2 ≡ b / 2 ^ j % 2

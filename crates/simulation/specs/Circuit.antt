@@ -1,27 +1,15 @@
--- What a caller hands over of a legal netlist, and what the simulation makes of it and of a vector.
+-- What the simulation makes of a legal netlist and of a test's two vectors.
 -- Assumes nothing.
 use mathlib.Core.Path.{_≡_}
 use mathlib.Core.Bool.{Bool, false, Bool·beq}
 use mathlib.Core.List.{List}
 use Prim.Native.Nat.{ℕ, _≤_, _<_}
 use lib.ListN.{length, getD}
-use Rattle.model.specs.Base.{value, bit}
+use Rattle.model.specs.Base.{bit}
 use Rattle.model.specs.Netlist.{Netlist, nets, pinsOf}
 use Rattle.model.specs.Detect.{Test, Evaluation, openPin}
-use Rattle.model.specs.Read.{readNetlist, classOf}
-use Rattle.netlist.specs.Places as places
-use Rattle.simulation.specs.States.{IsState, stateIn}
-
--- a legal netlist with the position of each gate's record, and its numbers of inputs and nets
-pub record CircuitAt (N : Netlist) (netlist positions : List ℕ) (inputs netCount : ℕ) : Type 0 where
-  pub legal : readNetlist netlist ≡ value N
-  pub inputsAre : inputs ≡ N .inputs
-  pub netsAre : netCount ≡ nets N
-  pub positionsAre : positions ≡ places.positions netlist N
-
-pub record SomeCircuit (netlist positions : List ℕ) (inputs netCount : ℕ) : Type 0 where
-  pub circuit : Netlist
-  pub isAt : CircuitAt circuit netlist positions inputs netCount
+use Rattle.model.specs.Read.{classOf}
+use Rattle.simulation.specs.States.{IsState, stateOf, stateIn}
 
 -- bit j of the word is input j of the vector
 pub record VectorIs (N : Netlist) (v : List Bool) (word : ℕ) : Type 0 where
@@ -36,7 +24,7 @@ pub record TestIs (N : Netlist) (t : Test) (class first last : ℕ) : Type 0 whe
 
 -- what evaluating input j yields, by the words of V1 and V2
 abbrev pub inputState : ℕ → ℕ → ℕ → Evaluation
-inputState first last i = record { underV1 = bit first i; underV2 = bit last i; steady = Bool·beq (bit first i) (bit last i) }
+inputState first last i = stateOf (bit first i) (bit last i) (Bool·beq (bit first i) (bit last i))
 
 -- an array with a state for each net, those of the inputs by the words
 pub record InputStates (first last inputs : ℕ) (array : List ℕ) : Type 0 where

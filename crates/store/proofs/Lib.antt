@@ -2,4 +2,6 @@ pub mod PlaceLaws
 pub mod ZeroSteps
 pub mod CheckSteps
 pub mod SoundLaws
+pub mod EdgeWriteLaws
+pub mod EdgeWriteCases
 pub mod CallSteps

@@ -22,7 +22,7 @@ use Rattle.faults.specs.declared.Edge.the-variants as at
 use Rattle.runs.specs.Runs.{Sound, runsInWords}
 use Rattle.runs.proofs.MemberLaws.{sound-mono}
 use Rattle.store.specs.Answers.{checkOf, totalsIn, totalsBoth, totalsOn, faultOn}
-use Rattle.store.specs.Sound.{SoundWords}
+use Rattle.store.specs.Sound.{FewRuns, SoundWords}
 use Rattle.store.specs.declared.inner.StoreCheck.{StoreCheck}
 use Rattle.store.specs.declared.inner.StoreCheck.the-variants as check
 use Rattle.store.specs.declared.inner.StoreTotals.{StoreTotals}
@@ -44,6 +44,15 @@ sound-words paths ws l e =
       soundRising = separated→ paths 1 (storeRuns ws rising) (and-left (apart rising) (apart falling) (p .1 .0));
       soundFalling = separated→ paths 1 (storeRuns ws falling) (and-right (apart rising) (apart falling) (p .1 .0));
     }
+
+-- edge by edge
+pub edge-sound : {n : ℕ} {ws : List ℕ} → SoundWords n ws → (e : Edge) → Sound n (storeRuns ws e)
+edge-sound s rising = s .soundRising
+edge-sound s falling = s .soundFalling
+
+pub edge-few : {ws : List ℕ} → FewRuns ws → (e : Edge) → runCount ws e ≤ maxRuns
+edge-few f rising = f .fewRising
+edge-few f falling = f .fewFalling
 
 -- for more paths too
 pub sound-more : (n m : ℕ) (ws : List ℕ) → n ≤ m → SoundWords n ws → SoundWords m ws

@@ -1,16 +1,16 @@
--- Steps of `zero_words` and `clear`: words that are zero so far, or are made so.
+-- Steps of `zero_words`: words that are zero so far.
 -- Assumes nothing.
 use mathlib.Core.Path.{_≡_, refl, ap, sym, _∙_}
 use mathlib.Core.Bool.{Bool, true, false, _&&_, and-true, and-assoc}
-use mathlib.Core.List.{List, [], _∷_, _++_, append-nil}
+use mathlib.Core.List.{List}
 use Prim.Native.Nat.{ℕ, zero, suc, _+_, _-_, _≤_, _<_}
 use native.Mathlib.Omega.{arith}
 use native.Mathlib.Numerals.{add-one}
 use lib.Bits.{bitOr, or-zero-l, or-add-and, and-le-r}
 use lib.Dec.{eqb}
-use lib.ListN.{length, getD, take, drop, set, replicate, length-replicate, drop-of-length-le}
-use lib.Seq.{drop-cons, set-at}
-use borrow.Author.Tests.{eq-eqb, ne-eqb}
+use lib.ListN.{length, getD, take, drop}
+use lib.Seq.{drop-cons}
+use borrow.Author.Tests.{ne-eqb}
 use Rattle.model.specs.Base.{allOf}
 
 -- the n words from word `at` on are all zero
@@ -46,20 +46,3 @@ module _ (ws : List ℕ) (at n place left seen : ℕ) (so-far : (eqb seen 0 && z
       ∙ and-assoc (eqb seen 0) (eqb (getD ws place 0) 0) (zeros ws (place + 1) (left - 1))
       ∙ ap (λ (b : Bool). eqb seen 0 && b) (sym (zeros-next ws place left more (omega arith)))
       ∙ so-far
-
--- zeros so far, the rest as found
-zeros-before : (n : ℕ) (l : List ℕ) → replicate n 0 ++ (0 ∷ l) ≡ replicate (suc n) 0 ++ l
-zeros-before zero l = refl
-zeros-before (suc n) l = ap (λ (x : List ℕ). 0 ∷ x) (zeros-before n l)
-
-module _ (ws₀ ws : List ℕ) (i : ℕ) (so-far : ws ≡ replicate i 0 ++ drop i ws₀) where
-  pub clear-next : i < length ws₀ → set ws i 0 ≡ replicate (i + 1) 0 ++ drop (i + 1) ws₀
-  clear-next h =
-      ap (λ (x : List ℕ). set x i 0) (so-far ∙ ap (λ (x : List ℕ). replicate i 0 ++ x) (drop-cons ws₀ i 0 h))
-      ∙ set-at (replicate i 0) (getD ws₀ i 0) (drop (suc i) ws₀) 0 i (length-replicate {A = ℕ} i 0)
-      ∙ zeros-before i (drop (suc i) ws₀) ∙ rw (add-one i) refl
-
-  pub clear-end : i ≡ length ws₀ → ws ≡ replicate (length ws₀) 0
-  clear-end e =
-      let d : drop (length ws₀) ws₀ ≡ [] = drop-of-length-le ws₀ {i = length ws₀} (omega arith) in
-      so-far ∙ ap (λ (k : ℕ). replicate k 0 ++ drop k ws₀) e ∙ rw d (append-nil (replicate (length ws₀) 0))

@@ -2,11 +2,11 @@
 -- Assumes nothing.
 use mathlib.Core.Path.{_≡_}
 use mathlib.Core.List.{List}
-use Prim.Native.Nat.{ℕ, _≤_}
-use lib.ListN.{length}
-use Rattle.model.specs.Path.{rising, falling}
+use Prim.Native.Nat.{ℕ, _*_, _≤_}
+use lib.ListN.{length, take, drop}
+use Rattle.model.specs.Path.{Edge, rising, falling}
 use Rattle.model.specs.Runs.{Separated}
-use Rattle.model.specs.Store.{maxRuns, storeWords, runCount, storeRuns}
+use Rattle.model.specs.Store.{maxRuns, storeWords, firstWord, runCount, storeRuns}
 
 -- a store's length, and no more runs than places: neither 1 nor 40 holds
 pub record FewRuns (ws : List ℕ) : Type 0 where
@@ -19,3 +19,7 @@ pub record SoundWords (paths : ℕ) (ws : List ℕ) : Type 0 where
   pub few : FewRuns ws
   pub soundRising : Separated paths 1 (storeRuns ws rising)
   pub soundFalling : Separated paths 1 (storeRuns ws falling)
+
+-- the words of an edge's runs
+abbrev pub edgeWords : List ℕ → Edge → List ℕ
+edgeWords ws e = take (2 * runCount ws e) (drop (firstWord e) ws)

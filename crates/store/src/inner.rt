@@ -1,5 +1,8 @@
 // A store of 4,098 words, for our own crates: its checks, sums and searches.
 // Its run places are the words after the head: rising runs from run place 0 on, falling runs from MAX_RUNS on.
+pub mod parts;
+pub mod writing;
+
 ghost use mathlib.Core.Path.{_≡_};
 ghost use Prim.Native.Nat.{_+_, _^_, _≤_};
 ghost use lib.Dec.{eqb, leb};
@@ -12,8 +15,10 @@ ghost use Rattle.store.specs.Answers.{checkOf, totalsOf, totalsIn, total
 ghost use Rattle.store.specs.Sound.{FewRuns, SoundWords};
 use crate::HeldAnswer;
 use crate::TotalsAnswer;
+use crate::inner::writing::clear_part;
 use faults::Edge;
 use faults::FaultNo;
+use faults::PathNo;
 use faults::edge_of;
 use faults::path_of;
 use model::HEAD_WORDS;
@@ -141,19 +146,20 @@ pub fn totals_on(words: &[u64], paths: u64) -> TotalsAnswer
 }
 
 // Whether sound words hold a path's fault of an edge.
-pub fn held(words: &[u64], edge: Edge, path: u64) -> bool
+pub fn held(words: &[u64], edge: Edge, path: PathNo) -> bool
     requires { ⌜ SoundWords (2 ^ 62) (now words) ⌝ }
-    ensures { λ r. ⌜ r ≡ inRuns (storeRuns (now (words .entry)) (modelEdge edge)) path ⌝ }
+    ensures { λ r. ⌜ r ≡ inRuns (storeRuns (now (words .entry)) (modelEdge edge)) (path .0) ⌝ }
 {
+    let number = path.0;
     let places = &words[HEAD_WORDS..];
     match edge {
-        Edge::Rising => contains(places, 0, words[RISING_COUNT] as usize, path),
+        Edge::Rising => contains(places, 0, words[RISING_COUNT] as usize, number),
         Edge::Falling => {
             contains(
                 places,
                 MAX_RUNS,
                 MAX_RUNS + words[FALLING_COUNT] as usize,
-                path,
+                number,
             )
         }
     }
@@ -177,7 +183,7 @@ pub fn fault_on(words: &[u64], paths: u64, fault: FaultNo) -> HeldAnswer
             }
             let path = path_of(FaultNo(number));
             let edge = edge_of(FaultNo(number));
-            if held(words, edge, path.0) {
+            if held(words, edge, path) {
                 HeldAnswer::Held
             } else {
                 HeldAnswer::NotHeld
@@ -190,9 +196,6 @@ pub fn fault_on(words: &[u64], paths: u64, fault: FaultNo) -> HeldAnswer
 pub fn clear(words: &mut [u64])
     ensures { λ _. ⌜ now (words .exit) ≡ replicate (length (now (words .entry))) 0 ⌝ }
 {
-    let mut i = 0;
-    while i < words.len() {
-        words[i] = 0;
-        i += 1;
-    }
+    let end = words.len();
+    clear_part(words, 0, end);
 }

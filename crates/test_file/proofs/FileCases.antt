@@ -1,11 +1,10 @@
 -- The length of the whole file: 33 comes before what its records answer.
 -- Assumes nothing.
 use mathlib.Core.Path.{_≡_, refl, ap, ap₂, sym, _∙_, subst}
-use mathlib.Core.Bool.{Bool, true, false, _&&_}
+use mathlib.Core.Bool.{Bool, true, false}
 use mathlib.Core.List.{List}
-use Prim.Native.Nat.{ℕ, _+_, _*_, _/_, _%_, _≤_}
+use Prim.Native.Nat.{ℕ, _+_, _*_, _≤_}
 use borrow.Author.Needs.{needs}
-use lib.Dec.{leb, eqb}
 use lib.ListN.{length, replicate}
 use Rattle.model.specs.Base.{Answer, refused, value}
 use Rattle.model.specs.Netlist.{Netlist}
@@ -18,11 +17,11 @@ use Rattle.model.specs.declared.Refusal.the-variants as why
 use Rattle.model.proofs.AnswerLaws.{value-inj}
 use Rattle.netlist.specs.declared.inner.Loaded.{Loaded}
 use Rattle.coverage.specs.Stage.{MemoryReady}
-use Rattle.report.specs.TestFile.{fileOf, leftStore}
-use Rattle.report.specs.declared.inner.test_file.FileAnswer.the-variants as file
-use Rattle.report.proofs.FileSteps.{emptied}
+use Rattle.audit.specs.TestFile.{fileOf, leftStore, wholeLength}
+use Rattle.coverage.specs.declared.inner.StageAnswer.the-variants as stage
+use Rattle.audit.proofs.MemoryLaws.{emptied, empty-memory}
 use Rattle.pieces.specs.Steps.{Ready}
-use Rattle.pieces.proofs.StepCases.{ready-inputs, empty-memory}
+use Rattle.pieces.proofs.StepCases.{ready-inputs}
 use Rattle.test_file.specs.declared.walking.Walk.{Walk}
 use Rattle.test_file.specs.Walked.{recordsTaken, fileTaken, Walked}
 
@@ -36,17 +35,17 @@ cut-call N c testFile q = rw q refl
 
 module _ (walk : Walk) (netlist : List ℕ) (loaded : Loaded) (class : ℕ) (space ws work work′ : List ℕ)
     (v : Walked recordsTaken walk netlist loaded class space ws work work′) where
-  pub walked-inputs : loaded .survey .inputs ≤ 64
+  pub walked-inputs : loaded .shape .inputs ≤ 64
   walked-inputs = ready-inputs netlist loaded ws work′ (v .ready)
 
-  module _ (each : ℕ) (ee : each ≡ 2 + 2 * vectorBytes (loaded .survey .inputs))
-      (b : Bool) (eb : b ≡ (eqb (walk .bytes % each) 0 && leb (walk .bytes / each) 4294967295)) where
+  module _ (each : ℕ) (ee : each ≡ 2 + 2 * vectorBytes (loaded .shape .inputs))
+      (b : Bool) (eb : b ≡ wholeLength each (walk .bytes)) where
     -- in the model's numbers
     whole-is : (N : Netlist) → readNetlist netlist ≡ value N → wholeRecords N (v .testFile) ≡ b
     whole-is N e =
-        let i : loaded .survey .inputs ≡ N .inputs = v .ready .tables .inputsAre ∙ ap (λ (M : Netlist). M .inputs) (value-inj (sym (v .ready .tables .legal) ∙ e)) in
+        let i : loaded .shape .inputs ≡ N .inputs = v .ready .tables .inputsAre ∙ ap (λ (M : Netlist). M .inputs) (value-inj (sym (v .ready .tables .legal) ∙ e)) in
         let k : each ≡ recordLength N = ee ∙ ap (λ (j : ℕ). 2 + 2 * vectorBytes j) i in
-        sym (eb ∙ ap₂ (λ (x y : ℕ). eqb (x % y) 0 && leb (x / y) 4294967295) (v .bytesAre) k)
+        sym (eb ∙ ap₂ (λ (x y : ℕ). wholeLength y x) (v .bytesAre) k)
 
     pub file-whole : b ≡ true → Walked fileTaken walk netlist loaded class space ws work work′
     file-whole q = record {
@@ -62,7 +61,7 @@ module _ (walk : Walk) (netlist : List ℕ) (loaded : Loaded) (class : ℕ) (spa
     }
 
     pub file-cut : b ≡ false → (ws′ : List ℕ) → ws′ ≡ replicate (length ws) 0
-        → Walked fileTaken (record { bytes = walk .bytes; records = record { taken = walk .records .taken; answer = file.Refused why.TestFileLength }; whole = walk .whole })
+        → Walked fileTaken (record { bytes = walk .bytes; records = record { taken = walk .records .taken; answer = stage.Refused why.TestFileLength }; whole = walk .whole })
         netlist loaded class space ws′ work work′
     unfolding leftStore
     file-cut q ws′ z =

@@ -39,7 +39,7 @@ unfolding storeAfterAll
 store-none N c = ap (λ (rs : List (List ℕ)). storeAfterAll N c rs emptyStore) (none-listed N)
 
 module _ (netlist : List ℕ) (t : Loaded) (ws work out : List ℕ) (h : ListReady netlist t ws work out) where
-  pub list-inputs : t .survey .inputs ≤ 64
+  pub list-inputs : t .shape .inputs ≤ 64
   list-inputs = omega (arith, h .tables .inputsAre, limits netlist (h .circuit) (h .tables .legal) .fewInputs)
 
   pub list-sound : SoundWords (2 ^ 62) ws
@@ -110,9 +110,9 @@ module _ (netlist : List ℕ) (t : Loaded) (class : ℕ) (full most : ℕ) (work
           room = g .ready .room;
         }
 
-    module _ (recordBytes : ℕ) (eb : recordBytes ≡ 2 + 2 * vectorBytes (t .survey .inputs)) (near : most < full + recordBytes) where
+    module _ (recordBytes : ℕ) (eb : recordBytes ≡ 2 + 2 * vectorBytes (t .shape .inputs)) (near : most < full + recordBytes) where
       length-is : (N : Netlist) → readNetlist netlist ≡ value N → recordBytes ≡ recordLength N
-      length-is = record-bytes netlist (g .ready .circuit) (t .survey .inputs) recordBytes (g .ready .tables .legal) (g .ready .tables .inputsAre) eb
+      length-is = record-bytes netlist (g .ready .circuit) (t .shape .inputs) recordBytes (g .ready .tables .legal) (g .ready .tables .inputsAre) eb
 
       pub listed-over : 9223372036854775807 < bytes → PiecesListed bytes place netlist t class space ws work₀ work out
       listed-over h = record {

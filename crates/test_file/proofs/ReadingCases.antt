@@ -17,10 +17,10 @@ use Rattle.model.specs.Store.{emptyStore}
 use Rattle.model.specs.Calls.{workWords}
 use Rattle.model.specs.Report.{fileRecords, testAll}
 use Rattle.netlist.specs.declared.inner.Loaded.{Loaded}
-use Rattle.report.specs.TestFile.{fileOf, leftStore, takenOf}
-use Rattle.report.specs.declared.inner.test_file.FileAnswer.{FileAnswer}
-use Rattle.report.specs.declared.inner.test_file.FileAnswer.the-variants as file
-use Rattle.report.specs.declared.inner.test_file.TakenRecords.{TakenRecords}
+use Rattle.audit.specs.TestFile.{fileOf, leftStore, takenOf}
+use Rattle.coverage.specs.declared.inner.StageAnswer.{StageAnswer}
+use Rattle.coverage.specs.declared.inner.StageAnswer.the-variants as stage
+use Rattle.audit.specs.declared.inner.TakenRecords.{TakenRecords}
 use Rattle.pieces.specs.Steps.{Ready, PieceTaken, withPiece, takenWith, pieceStore}
 use Rattle.pieces.specs.Together.{noRecords}
 use Rattle.pieces.proofs.StepCases.{ready-inputs}
@@ -30,11 +30,11 @@ use Rattle.test_file.specs.Walked.{recordsTaken, Walked}
 use Rattle.test_file.proofs.ReadLaws.{record-bytes, FileSoFar, file-start, file-more, file-over, file-next, file-last}
 
 -- the store after a piece, by the state before it
-store-with : (N : Netlist) (c : Class) (a : FileAnswer) (piece ws : List ℕ) → ws ≡ leftStore (fileOf a ws)
+store-with : (N : Netlist) (c : Class) (a : StageAnswer) (piece ws : List ℕ) → ws ≡ leftStore (fileOf a ws)
     → pieceStore N c a piece ws ≡ leftStore (withPiece N c piece (fileOf a ws))
 unfolding pieceStore withPiece leftStore
-store-with N c file.Taken piece ws e = refl
-store-with N c (file.Refused w) piece ws e = e
+store-with N c stage.Taken piece ws e = refl
+store-with N c (stage.Refused w) piece ws e = e
 
 -- the number of records taken from an empty store, and none before
 taken-from : (N : Netlist) (c : Class) (testFile : List ℕ) → takenWith N c testFile (value emptyStore) 0 ≡ takenOf N c (fileRecords N testFile) emptyStore
@@ -72,13 +72,13 @@ module _ (netlist : List ℕ) (loaded : Loaded) (class : ℕ) (full most : ℕ) 
     pastWork = refl;
   }
 
-  module _ (recordBytes : ℕ) (eb : recordBytes ≡ 2 + 2 * vectorBytes (loaded .survey .inputs)) (near : most < full + recordBytes)
+  module _ (recordBytes : ℕ) (eb : recordBytes ≡ 2 + 2 * vectorBytes (loaded .shape .inputs)) (near : most < full + recordBytes)
       (records : TakenRecords) (bytes : ℕ) (space ws work : List ℕ) (g : Reading records bytes space ws work) where
     abbrev f : List ℕ
     f = g .testFile
 
     length-is : (N : Netlist) → readNetlist netlist ≡ value N → recordBytes ≡ recordLength N
-    length-is = record-bytes netlist (g .ready .circuit) (loaded .survey .inputs) recordBytes (g .ready .tables .legal) (g .ready .tables .inputsAre) eb
+    length-is = record-bytes netlist (g .ready .circuit) (loaded .shape .inputs) recordBytes (g .ready .tables .legal) (g .ready .tables .inputsAre) eb
 
     pub reading-over : 77309411310 < bytes → (b : Bool) → Walked recordsTaken (record { bytes = bytes; records = records; whole = b }) netlist loaded class space ws work₀ work
     reading-over h b = record {

@@ -23,11 +23,11 @@ use Rattle.model.proofs.BoolLaws.{and-right}
 use Rattle.model.proofs.ReportLaws.{length-records}
 use Rattle.netlist.specs.declared.inner.Loaded.{Loaded}
 use Rattle.report.specs.Answers.{writtenOf, WriteTrue}
-use Rattle.report.specs.TestFile.{fileOf, oneMore, takenOf}
+use Rattle.audit.specs.TestFile.{fileOf, oneMore, takenOf}
 use Rattle.report.specs.declared.WriteAnswer.{WriteAnswer}
 use Rattle.report.specs.declared.WriteAnswer.the-variants as write
-use Rattle.report.specs.declared.inner.test_file.FileAnswer.{FileAnswer}
-use Rattle.report.specs.declared.inner.test_file.FileAnswer.the-variants as file
+use Rattle.coverage.specs.declared.inner.StageAnswer.{StageAnswer}
+use Rattle.coverage.specs.declared.inner.StageAnswer.the-variants as stage
 use Rattle.test_file.specs.declared.walking.Walk.{Walk}
 use Rattle.test_file.specs.declared.writing.Written.{Written}
 use Rattle.test_file.specs.Walked.{fileTaken, Walked, Wrote, lengthIn, withReport, writerAfter}
@@ -86,9 +86,9 @@ module _ (a : WriteAnswer) where
 pub ruleset answer-cases = (same-refused, length-refused, same-written, length-written, needs)
 
 -- a number of tests that its caller bounds
-pub tests-fit : (answer : FileAnswer) (ws : List ℕ) (taken : ℕ) → ((left : List ℕ) → fileOf answer ws ≡ value left → taken < 4294967296)
-    → answer ≡ file.Taken → Fits w32 taken
-tests-fit answer ws taken h q = record { fits = h ws (ap (λ (a : FileAnswer). fileOf a ws) q) }
+pub tests-fit : (answer : StageAnswer) (ws : List ℕ) (taken : ℕ) → ((left : List ℕ) → fileOf answer ws ≡ value left → taken < 4294967296)
+    → answer ≡ stage.Taken → Fits w32 taken
+tests-fit answer ws taken h q = record { fits = h ws (ap (λ (a : StageAnswer). fileOf a ws) q) }
 
 -- the report lies in the buffer
 within : (x : Answer (List ℕ)) (found : List ℕ) → lengthIn (x >>= λ w. value (length w)) ≤ length (withReport x found)
@@ -98,8 +98,8 @@ within (value w) found = omega (arith, length-append w (drop (length w) found))
 wrote-within : (r : Written) (x : Answer (List ℕ)) (found left : List ℕ) → Wrote r x found left → r .length ≤ length left
 wrote-within r x found left t = subst (λ (l : List ℕ). r .length ≤ length l) (sym (t .bytes)) (omega (arith, t .size, within x found))
 
-module _ (netlist ws : List ℕ) (answer : FileAnswer) (taken : ℕ) (r : Written) (truth : List ℕ) where
-  pub wrote-none : (w : Refusal) → answer ≡ file.Refused w → r .answer ≡ write.Refused w → r .length ≡ lengthIn (writtenOf (write.Refused w))
+module _ (netlist ws : List ℕ) (answer : StageAnswer) (taken : ℕ) (r : Written) (truth : List ℕ) where
+  pub wrote-none : (w : Refusal) → answer ≡ stage.Refused w → r .answer ≡ write.Refused w → r .length ≡ lengthIn (writtenOf (write.Refused w))
       → Wrote r (writerAfter netlist (fileOf answer ws) taken truth) truth truth
   unfolding writerAfter
   wrote-none w q a l = record {
@@ -108,7 +108,7 @@ module _ (netlist ws : List ℕ) (answer : FileAnswer) (taken : ℕ) (r : Writte
     bytes = rw q refl;
   }
 
-  pub wrote-some : (truth′ : List ℕ) (a : WriteAnswer) → answer ≡ file.Taken → WriteTrue a netlist ws taken truth truth′ → r .answer ≡ a
+  pub wrote-some : (truth′ : List ℕ) (a : WriteAnswer) → answer ≡ stage.Taken → WriteTrue a netlist ws taken truth truth′ → r .answer ≡ a
       → r .length ≡ lengthIn (writtenOf a) → Wrote r (writerAfter netlist (fileOf answer ws) taken truth) truth truth′
   unfolding writerAfter writerAnswer writerBuffer
   wrote-some truth′ a q t s l = record {
@@ -117,11 +117,11 @@ module _ (netlist ws : List ℕ) (answer : FileAnswer) (taken : ℕ) (r : Writte
     bytes = rw q (t .buffer);
   }
 
-  pub none-within : (w : Refusal) → answer ≡ file.Refused w → r .answer ≡ write.Refused w → r .length ≡ lengthIn (writtenOf (write.Refused w))
+  pub none-within : (w : Refusal) → answer ≡ stage.Refused w → r .answer ≡ write.Refused w → r .length ≡ lengthIn (writtenOf (write.Refused w))
       → r .length ≤ length truth
   none-within w q a l = wrote-within r (writerAfter netlist (fileOf answer ws) taken truth) truth truth (wrote-none w q a l)
 
-  pub some-within : (truth′ : List ℕ) (a : WriteAnswer) → answer ≡ file.Taken → WriteTrue a netlist ws taken truth truth′ → r .answer ≡ a
+  pub some-within : (truth′ : List ℕ) (a : WriteAnswer) → answer ≡ stage.Taken → WriteTrue a netlist ws taken truth truth′ → r .answer ≡ a
       → r .length ≡ lengthIn (writtenOf a) → r .length ≤ length truth′
   some-within truth′ a q t s l = wrote-within r (writerAfter netlist (fileOf answer ws) taken truth) truth truth′ (wrote-some truth′ a q t s l)
 

@@ -18,11 +18,11 @@ use Rattle.model.specs.Report.{fileRecords, wholeRecords, testAll, writerCall, 
 use Rattle.model.specs.Demand3.{Acceptable}
 use Rattle.model.specs.declared.Refusal.{Refusal}
 use Rattle.model.proofs.AnswerLaws.{not-refused}
-use Rattle.report.specs.TestFile.{fileOf, leftStore, takenOf}
-use Rattle.report.specs.declared.AuditAnswer.{AuditAnswer}
-use Rattle.report.specs.declared.AuditAnswer.the-variants as audit
+use Rattle.audit.specs.TestFile.{fileOf, leftStore, takenOf}
+use Rattle.audit.specs.declared.AuditAnswer.{AuditAnswer}
+use Rattle.audit.specs.declared.AuditAnswer.the-variants as audit
 use Rattle.report.specs.declared.WriteAnswer.the-variants as write
-use Rattle.report.proofs.PromisesHold.{calls-true}
+use Rattle.audit.proofs.PromisesHold.{calls-true}
 use Rattle.pieces.specs.declared.BeginAnswer.the-variants as beginning
 use Rattle.pieces.specs.declared.inner.Begun.{Begun}
 use Rattle.pieces.specs.Steps.{begunOf, lentRules, beginAnswer, beginStore, BeginTrue, Ended, withPiece, endBy, endOf}

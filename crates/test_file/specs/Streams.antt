@@ -11,8 +11,9 @@ use Rattle.model.specs.Read.{classOf}
 use Rattle.model.specs.Store.{emptyStore}
 use Rattle.model.specs.Calls.{beforeTest, WorkAfter}
 use Rattle.model.specs.Report.{fileRecords, writerCall}
-use Rattle.report.specs.Answers.{writtenOf, AuditTrue}
-use Rattle.report.specs.TestFile.{leftStore, takenOf}
+use Rattle.report.specs.Answers.{writtenOf}
+use Rattle.audit.specs.Answers.{AuditTrue}
+use Rattle.audit.specs.TestFile.{leftStore, takenOf}
 use Rattle.pieces.specs.Steps.{lentRules}
 use Rattle.test_file.specs.declared.Judged.{Judged}
 use Rattle.test_file.specs.declared.Reported.{Reported}

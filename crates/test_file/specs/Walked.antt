@@ -14,7 +14,7 @@ use Rattle.model.specs.Calls.{workWords}
 use Rattle.model.specs.Report.{fileRecords, wholeRecords, testAll, writerCall}
 use Rattle.netlist.specs.declared.inner.Loaded.{Loaded}
 use Rattle.report.specs.Answers.{writtenOf}
-use Rattle.report.specs.TestFile.{fileOf, leftStore, takenOf}
+use Rattle.audit.specs.TestFile.{fileOf, leftStore, takenOf}
 use Rattle.pieces.specs.Steps.{Ready}
 use Rattle.test_file.specs.declared.walking.Walk.{Walk}
 use Rattle.test_file.specs.declared.writing.Written.{Written}

@@ -20,6 +20,12 @@ use simulation::inner::test_record::record_length;
 // No file has more bytes: it is the largest size that the system tells. What a pipe brings after so many is not read.
 const MOST_BYTES: u64 = 0x7FFF_FFFF_FFFF_FFFF;
 
+// The descriptors of a listing: the test file is read from one, the lines are written to the other.
+pub struct Descriptors {
+    pub from: i32,
+    pub to: i32,
+}
+
 // A test file whose records were listed: its bytes, the place after its last record, and whether it was read whole.
 pub struct ListedPieces {
     pub bytes: u64,
@@ -48,8 +54,7 @@ fn show_listed(to: i32, place: u64) {
 // The lines of the records of a file, all in one class, piece by piece, each piece's in one write. A piece that is not full is the last; the file was then read
 // whole, unless a read failed, more bytes came or its size is another.
 fn list_pieces(
-    fd: i32,
-    to: i32,
+    files: Descriptors,
     netlist: &[u8],
     loaded: Loaded,
     class: u32,
@@ -58,30 +63,26 @@ fn list_pieces(
     work: &mut [u64],
     out: &mut [u8],
 ) -> ListedPieces
-    requires { ⌜ ListReady (now netlist) loaded (now store) (now work) (now out) ⌝ }
-    requires { ⌜ now store ≡ emptyStore ⌝ }
-    requires { ⌜ length (now space) ≤ pieceBytes ⌝ }
+    requires { ⌜ ListReady (now netlist) loaded (now store) (now work) (now out) × (now store ≡ emptyStore) × (length (now space) ≤ pieceBytes) ⌝ }
     ensures { λ r. ⌜ PiecesListed (r .bytes) (r .place) (now (netlist .entry)) loaded class (now (space .exit)) (now (store .exit)) (now (work .entry)) (now (work .exit)) (now (out .exit)) ⌝ }
 {
-    let bytes = record_length(loaded.survey.inputs);
-    let full = whole_part(space.len(), bytes);
-    let least = full_piece(full);
-    let size = file_size(fd);
+    let Descriptors { from, to } = files;
+    let full = whole_part(space.len(), record_length(loaded.shape.inputs));
+    let size = file_size(from);
     let mut place: u64 = 1;
     let mut so_far: u64 = 0;
     while so_far <= MOST_BYTES {
-        let n = read_part(fd, full, space);
+        let n = read_part(from, full, space);
         let listed = list_piece(netlist, loaded, place, &space[..n], class, store, work, out);
         let end = listed.bytes;
         io::write_all(to, &out[..end]);
         place = listed.place;
         so_far += n as u64;
-        if n < least {
-            let whole = at_end(fd, size);
+        if n < full_piece(full) {
             return ListedPieces {
                 bytes: so_far,
                 place,
-                whole,
+                whole: at_end(from, size),
             };
         }
         show_listed(to, place);
@@ -95,8 +96,7 @@ fn list_pieces(
 
 // Writes the lines of the records of a file to a descriptor, from an empty store on; the buffer then begins with the lines after them.
 pub fn list_file(
-    fd: i32,
-    to: i32,
+    files: Descriptors,
     netlist: &[u8],
     loaded: Loaded,
     class: u32,
@@ -105,12 +105,10 @@ pub fn list_file(
     work: &mut [u64],
     out: &mut [u8],
 ) -> ListedFile
-    requires { ⌜ ListReady (now netlist) loaded (now store) (now work) (now out) ⌝ }
-    requires { ⌜ now store ≡ emptyStore ⌝ }
-    requires { ⌜ length (now space) ≤ pieceBytes ⌝ }
+    requires { ⌜ ListReady (now netlist) loaded (now store) (now work) (now out) × (now store ≡ emptyStore) × (length (now space) ≤ pieceBytes) ⌝ }
     ensures { λ r. ⌜ FileListed r (now (netlist .entry)) loaded class (now (space .exit)) (now (store .exit)) (now (work .entry)) (now (work .exit)) (now (out .exit)) ⌝ }
 {
-    let listed = list_pieces(fd, to, netlist, loaded, class, space, store, work, out);
+    let listed = list_pieces(files, netlist, loaded, class, space, store, work, out);
     end_progress();
     let end = put_store(out, store);
     ListedFile {

@@ -8,10 +8,10 @@ ghost use Rattle.io.specs.Counts.{Counts};
 ghost use Rattle.test_file.specs.Streams.{StreamAudited, StreamReported};
 use crate::walking::walk_file;
 use crate::writing::true_report;
+use audit::AuditAnswer;
 use pieces::BeginAnswer;
 use pieces::inner::begin;
 use pieces::inner::finish;
-use report::AuditAnswer;
 use report::WriteAnswer;
 pub use walking::Walk;
 pub use writing::Written;
@@ -47,8 +47,8 @@ pub fn audit_stream(
     store: &mut [u64],
     work: &mut [u64],
 ) -> Judged
-    ensures { λ r. ⌜ StreamAudited r (now (netlist .entry)) (now (report .entry)) «test_class» (now (truth .entry)) (now (truth .exit)) (now (space .exit)) (now (store .entry)) (now (store .exit)) (now (work .entry)) (now (work .exit)) ⌝ }
-    ensures { λ r. ⌜ Counts (r .length) (now (truth .exit)) ⌝ }
+    ensures { λ r. ⌜ StreamAudited r (now (netlist .entry)) (now (report .entry)) «test_class» (now (truth .entry)) (now (truth .exit))
+        (now (space .exit)) (now (store .entry)) (now (store .exit)) (now (work .entry)) (now (work .exit)) × Counts (r .length) (now (truth .exit)) ⌝ }
 {
     let begun = begin(netlist, test_class, store, work);
     let beginning = begun.answer;
@@ -88,8 +88,8 @@ pub fn report_stream(
     store: &mut [u64],
     work: &mut [u64],
 ) -> Reported
-    ensures { λ r. ⌜ StreamReported r (now (netlist .entry)) «test_class» (now (truth .entry)) (now (truth .exit)) (now (space .exit)) (now (store .entry)) (now (store .exit)) (now (work .entry)) (now (work .exit)) ⌝ }
-    ensures { λ r. ⌜ Counts (r .length) (now (truth .exit)) ⌝ }
+    ensures { λ r. ⌜ StreamReported r (now (netlist .entry)) «test_class» (now (truth .entry)) (now (truth .exit))
+        (now (space .exit)) (now (store .entry)) (now (store .exit)) (now (work .entry)) (now (work .exit)) × Counts (r .length) (now (truth .exit)) ⌝ }
 {
     let begun = begin(netlist, test_class, store, work);
     let beginning = begun.answer;

@@ -6,17 +6,17 @@ ghost use Rattle.io.specs.Counts.{Counts};
 ghost use Rattle.model.specs.Store.{emptyStore};
 ghost use Rattle.pieces.specs.Steps.{Ready};
 ghost use Rattle.test_file.specs.Walked.{Walked, recordsTaken, fileTaken};
+use audit::inner::MAX_RECORDS;
+use audit::inner::TakenRecords;
+use audit::inner::whole_length;
 use command::at_end;
 use command::end_progress;
 use command::file_size;
 use command::show_progress;
+use coverage::inner::StageAnswer;
 use model::Refusal;
 use netlist::inner::Loaded;
-use pieces::inner::MAX_RECORDS;
-use pieces::inner::take_piece;
-use pieces::inner::whole_length;
-use report::inner::test_file::FileAnswer;
-use report::inner::test_file::TakenRecords;
+use pieces::inner::apply_piece;
 use simulation::inner::test_record::record_length;
 use store::inner::clear;
 
@@ -59,7 +59,7 @@ pub(crate) fn read_part(fd: i32, most: usize, space: &mut [u8]) -> usize
 
 // The test calls with the records of a file, all in one class, piece by piece. A piece that is not full is the last; the file was then read whole, unless a read
 // failed, more bytes came or its size is another. A file of too many bytes is not read further: the rest changes nothing.
-fn take_pieces(
+fn apply_pieces(
     fd: i32,
     netlist: &[u8],
     loaded: Loaded,
@@ -68,29 +68,27 @@ fn take_pieces(
     store: &mut [u64],
     work: &mut [u64],
 ) -> Walk
-    requires { ⌜ Ready (now netlist) loaded (now store) (now work) ⌝ }
-    requires { ⌜ now store ≡ emptyStore ⌝ }
+    requires { ⌜ Ready (now netlist) loaded (now store) (now work) × (now store ≡ emptyStore) ⌝ }
     ensures { λ r. ⌜ Walked recordsTaken r (now (netlist .entry)) loaded class (now (space .exit)) (now (store .exit)) (now (work .entry)) (now (work .exit)) ⌝ }
 {
-    let bytes = record_length(loaded.survey.inputs);
+    let bytes = record_length(loaded.shape.inputs);
     let full = whole_part(space.len(), bytes);
     let least = full_piece(full);
     let size = file_size(fd);
     let mut records = TakenRecords {
         taken: 0,
-        answer: FileAnswer::Taken,
+        answer: StageAnswer::Taken,
     };
     let mut so_far: u64 = 0;
     while so_far <= MAX_BYTES {
         let n = read_part(fd, full, space);
-        records = take_piece(netlist, loaded, records, &space[..n], class, store, work);
+        records = apply_piece(netlist, loaded, records, &space[..n], class, store, work);
         so_far += n as u64;
         if n < least {
-            let whole = at_end(fd, size);
             return Walk {
                 bytes: so_far,
                 records,
-                whole,
+                whole: at_end(fd, size),
             };
         }
         show_progress(records.taken as u64);
@@ -112,20 +110,19 @@ pub(crate) fn walk_file(
     store: &mut [u64],
     work: &mut [u64],
 ) -> Walk
-    requires { ⌜ Ready (now netlist) loaded (now store) (now work) ⌝ }
-    requires { ⌜ now store ≡ emptyStore ⌝ }
+    requires { ⌜ Ready (now netlist) loaded (now store) (now work) × (now store ≡ emptyStore) ⌝ }
     ensures { λ r. ⌜ Walked fileTaken r (now (netlist .entry)) loaded class (now (space .exit)) (now (store .exit)) (now (work .entry)) (now (work .exit)) ⌝ }
 {
-    let walk = take_pieces(fd, netlist, loaded, class, space, store, work);
+    let walk = apply_pieces(fd, netlist, loaded, class, space, store, work);
     end_progress();
-    let each = record_length(loaded.survey.inputs) as u64;
+    let each = record_length(loaded.shape.inputs) as u64;
     if whole_length(walk.bytes, each) {
         return walk;
     }
     clear(store);
     let records = TakenRecords {
         taken: walk.records.taken,
-        answer: FileAnswer::Refused(Refusal::TestFileLength),
+        answer: StageAnswer::Refused(Refusal::TestFileLength),
     };
     Walk {
         bytes: walk.bytes,

@@ -5,11 +5,11 @@ ghost use Prim.Native.Nat.{ℕ, _<_};
 ghost use Rattle.io.specs.Counts.{Counts};
 ghost use Rattle.model.specs.Base.{value};
 ghost use Rattle.report.specs.Answers.{writtenOf};
-ghost use Rattle.report.specs.TestFile.{fileOf};
+ghost use Rattle.audit.specs.TestFile.{fileOf};
 ghost use Rattle.test_file.specs.Walked.{Wrote, writerAfter, lengthIn};
+use audit::inner::TakenRecords;
+use coverage::inner::StageAnswer;
 use report::WriteAnswer;
-use report::inner::test_file::FileAnswer;
-use report::inner::test_file::TakenRecords;
 use report::write_report;
 
 // What the writer answers, and the length of the report, 0 where it is refused.
@@ -47,8 +47,8 @@ pub(crate) fn true_report(
 {
     let answer = records.answer;
     match answer {
-        FileAnswer::Refused(why) => with_length(WriteAnswer::Refused(why)),
-        FileAnswer::Taken => {
+        StageAnswer::Refused(why) => with_length(WriteAnswer::Refused(why)),
+        StageAnswer::Taken => {
             let tests = records.taken as u32;
             with_length(write_report(netlist, store, tests, truth))
         }

@@ -10,9 +10,9 @@ use lib.ListN.{length, take, length-append}
 use lib.Seq.{take-all}
 use Rattle.model.specs.Refusals.{refusalNumber}
 use Rattle.model.specs.declared.Refusal.{Refusal}
-use Rattle.report.specs.Answers.{auditedOf}
-use Rattle.report.specs.declared.AuditAnswer.{AuditAnswer}
-use Rattle.report.specs.declared.AuditAnswer.the-variants as audit
+use Rattle.audit.specs.Answers.{auditedOf}
+use Rattle.audit.specs.declared.AuditAnswer.{AuditAnswer}
+use Rattle.audit.specs.declared.AuditAnswer.the-variants as audit
 use Rattle.text.specs.Decimal.{refusedWord, refusedText, decimalText}
 use Rattle.text.specs.Lines.{onLine}
 use Rattle.text.proofs.DecimalLaws.{at-most-20}

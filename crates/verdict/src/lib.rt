@@ -1,13 +1,13 @@
 // The verdict of an audit as a line of text: the first line that `audit_report` prints.
 ghost use mathlib.Core.Path.{_≡_};
 ghost use Rattle.model.specs.Refusals.{refusalNumber};
-ghost use Rattle.report.specs.Answers.{auditedOf};
+ghost use Rattle.audit.specs.Answers.{auditedOf};
 ghost use Rattle.text.specs.Lines.{textOf};
 ghost use Rattle.verdict.specs.Verdict.{verdictText, ofRecord, classText};
+use audit::AuditAnswer;
 use model::ROBUST;
 use model::Refusal;
 use model::refusal_number;
-use report::AuditAnswer;
 use text::Line;
 use text::empty_line;
 use text::with_refusal;

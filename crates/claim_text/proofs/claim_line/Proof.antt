@@ -34,13 +34,18 @@ with-paths-requires c κs = search needs
 returns : tie.Need-returns
 unfolding claimText
 returns c =
-    let a = c .before .before .before .before .before .before .before .before .args in
-    let start = c .before .before .before .before .before .before .before .empty-line in
-    let named = c .before .before .before .before .before .before .with-kind in
+    let at-with-text2 = c .before in
+    let at-with-edge = at-with-text2 .before .before in
+    let at-with-text = at-with-edge .before in
+    let at-with-kind = at-with-text .before .before in
+    let at-empty-line = at-with-kind .before in
+    let a = at-empty-line .before .args in
+    let start = at-empty-line .empty-line in
+    let named = at-with-kind .with-kind in
     let p1 = first-part _ _ _ (start .ensures) (named .ensures) in
-    let p2 = then-part _ _ _ _ _ p1 (c .before .before .before .before .with-text .ensures) in
-    let p3 = then-part _ _ _ _ _ p2 (c .before .before .before .with-edge .ensures) in
-    let p4 = then-part _ _ _ _ _ p3 (c .before .with-text2 .ensures) in
+    let p2 = then-part _ _ _ _ _ p1 (at-with-text .with-text .ensures) in
+    let p3 = then-part _ _ _ _ _ p2 (at-with-edge .with-edge .ensures) in
+    let p4 = then-part _ _ _ _ _ p3 (at-with-text2 .with-text2 .ensures) in
     let p5 = then-part _ _ _ _ _ p4 (c .with-paths .ensures) in
     whole-line _ _ (claim-short (a .kind) (a .edge) (a .low) (a .high)) p5
 

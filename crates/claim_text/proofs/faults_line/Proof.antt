@@ -40,15 +40,22 @@ with-true-share-requires c κs = search needs
 returns : tie.Need-returns
 unfolding faultsText
 returns c =
-    let a = c .before .before .before .before .before .before .before .before .before .before .args in
-    let start = c .before .before .before .before .before .before .before .before .before .empty-line in
-    let named = c .before .before .before .before .before .before .before .before .with-edge in
+    let at-with-number2 = c .before in
+    let at-with-text2 = at-with-number2 .before in
+    let at-with-claimed-share = at-with-text2 .before .before in
+    let at-with-number = at-with-claimed-share .before in
+    let at-with-text = at-with-number .before in
+    let at-with-edge = at-with-text .before .before in
+    let at-empty-line = at-with-edge .before in
+    let a = at-empty-line .before .args in
+    let start = at-empty-line .empty-line in
+    let named = at-with-edge .with-edge in
     let p1 = first-part _ _ _ (start .ensures) (named .ensures) in
-    let p2 = then-part _ _ _ _ _ p1 (c .before .before .before .before .before .before .with-text .ensures) in
-    let p3 = then-part _ _ _ _ _ p2 (c .before .before .before .before .before .with-number .ensures) in
-    let p4 = then-part _ _ _ _ _ p3 (c .before .before .before .before .with-claimed-share .ensures) in
-    let p5 = then-part _ _ _ _ _ p4 (c .before .before .with-text2 .ensures) in
-    let p6 = then-part _ _ _ _ _ p5 (c .before .with-number2 .ensures) in
+    let p2 = then-part _ _ _ _ _ p1 (at-with-text .with-text .ensures) in
+    let p3 = then-part _ _ _ _ _ p2 (at-with-number .with-number .ensures) in
+    let p4 = then-part _ _ _ _ _ p3 (at-with-claimed-share .with-claimed-share .ensures) in
+    let p5 = then-part _ _ _ _ _ p4 (at-with-text2 .with-text2 .ensures) in
+    let p6 = then-part _ _ _ _ _ p5 (at-with-number2 .with-number2 .ensures) in
     let p7 = then-part _ _ _ _ _ p6 (c .with-true-share .ensures) in
     whole-line _ _ (faults-short (a .edge) (a .claimed) (a .truth) (a .paths)) p7
 

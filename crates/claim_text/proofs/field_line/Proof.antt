@@ -34,13 +34,18 @@ with-number-requires-2 c κs = search needs
 returns : tie.Need-returns
 unfolding fieldText
 returns c =
-    let a = c .before .before .before .before .before .before .before .before .args in
-    let start = c .before .before .before .before .before .before .before .empty-line in
-    let named = c .before .before .before .before .before .before .with-field in
+    let at-with-text2 = c .before in
+    let at-with-number = at-with-text2 .before .before in
+    let at-with-text = at-with-number .before in
+    let at-with-field = at-with-text .before .before in
+    let at-empty-line = at-with-field .before in
+    let a = at-empty-line .before .args in
+    let start = at-empty-line .empty-line in
+    let named = at-with-field .with-field in
     let p1 = first-part _ _ _ (start .ensures) (named .ensures) in
-    let p2 = then-part _ _ _ _ _ p1 (c .before .before .before .before .with-text .ensures) in
-    let p3 = then-part _ _ _ _ _ p2 (c .before .before .before .with-number .ensures) in
-    let p4 = then-part _ _ _ _ _ p3 (c .before .with-text2 .ensures) in
+    let p2 = then-part _ _ _ _ _ p1 (at-with-text .with-text .ensures) in
+    let p3 = then-part _ _ _ _ _ p2 (at-with-number .with-number .ensures) in
+    let p4 = then-part _ _ _ _ _ p3 (at-with-text2 .with-text2 .ensures) in
     let p5 = then-part _ _ _ _ _ p4 (c .with-number2 .ensures) in
     whole-line _ _ (field-line-short (a .field) (a .claimed) (a .truth)) p5
 

@@ -31,10 +31,14 @@ with-plural-requires c κs = search needs
 returns : tie.Need-returns
 unfolding moreText
 returns c =
-    let a = c .before .before .before .before .before .before .before .args in
-    let p1 = first-part _ _ _ (c .before .before .before .before .before .before .empty-line .ensures) (c .before .before .before .before .with-text .ensures) in
-    let p2 = then-part _ _ _ _ _ p1 (c .before .before .before .with-number .ensures) in
-    let p3 = then-part _ _ _ _ _ p2 (c .before .with-text2 .ensures) in
+    let at-with-text2 = c .before in
+    let at-with-number = at-with-text2 .before .before in
+    let at-with-text = at-with-number .before in
+    let at-empty-line = at-with-text .before .before in
+    let a = at-empty-line .before .args in
+    let p1 = first-part _ _ _ (at-empty-line .empty-line .ensures) (at-with-text .with-text .ensures) in
+    let p2 = then-part _ _ _ _ _ p1 (at-with-number .with-number .ensures) in
+    let p3 = then-part _ _ _ _ _ p2 (at-with-text2 .with-text2 .ensures) in
     let p4 = then-part _ _ _ _ _ p3 (c .with-plural .ensures) in
     whole-line _ _ (more-short (a .kind) (a .count)) p4
 

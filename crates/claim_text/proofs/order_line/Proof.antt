@@ -49,16 +49,24 @@ with-text-requires-4 c κs = search needs
 returns : tie.Need-returns
 unfolding orderText
 returns c =
-    let a = c .before .before .before .before .before .before .before .before .before .before .before .before .before .args in
-    let start = c .before .before .before .before .before .before .before .before .before .before .before .before .empty-line in
-    let named = c .before .before .before .before .before .before .before .before .before .before .before .with-edge in
+    let at-with-number3 = c .before .before in
+    let at-with-text3 = at-with-number3 .before in
+    let at-with-number2 = at-with-text3 .before .before in
+    let at-with-text2 = at-with-number2 .before in
+    let at-with-number = at-with-text2 .before .before in
+    let at-with-text = at-with-number .before in
+    let at-with-edge = at-with-text .before .before in
+    let at-empty-line = at-with-edge .before in
+    let a = at-empty-line .before .args in
+    let start = at-empty-line .empty-line in
+    let named = at-with-edge .with-edge in
     let p1 = first-part _ _ _ (start .ensures) (named .ensures) in
-    let p2 = then-part _ _ _ _ _ p1 (c .before .before .before .before .before .before .before .before .before .with-text .ensures) in
-    let p3 = then-part _ _ _ _ _ p2 (c .before .before .before .before .before .before .before .before .with-number .ensures) in
-    let p4 = then-part _ _ _ _ _ p3 (c .before .before .before .before .before .before .with-text2 .ensures) in
-    let p5 = then-part _ _ _ _ _ p4 (c .before .before .before .before .before .with-number2 .ensures) in
-    let p6 = then-part _ _ _ _ _ p5 (c .before .before .before .with-text3 .ensures) in
-    let p7 = then-part _ _ _ _ _ p6 (c .before .before .with-number3 .ensures) in
+    let p2 = then-part _ _ _ _ _ p1 (at-with-text .with-text .ensures) in
+    let p3 = then-part _ _ _ _ _ p2 (at-with-number .with-number .ensures) in
+    let p4 = then-part _ _ _ _ _ p3 (at-with-text2 .with-text2 .ensures) in
+    let p5 = then-part _ _ _ _ _ p4 (at-with-number2 .with-number2 .ensures) in
+    let p6 = then-part _ _ _ _ _ p5 (at-with-text3 .with-text3 .ensures) in
+    let p7 = then-part _ _ _ _ _ p6 (at-with-number3 .with-number3 .ensures) in
     let p8 = then-part _ _ _ _ _ p7 (c .with-text4 .ensures) in
     whole-line _ _ (order-short (a .edge) (a .number) (a .low) (a .high)) p8
 

@@ -1,6 +1,5 @@
 -- `differences::ascends_at` meets its contract: each return is one case of the run.
 -- Assumes nothing.
-use borrow.Author.Needs.{needs}
 use native.Mathlib.Omega.{arith}
 use Rattle.differences.proofs.OrderCases.{empty-run, first-run, later-run}
 use Rattle.differences.proofs.ascends_at.Statement.{statement}

@@ -42,11 +42,15 @@ ascends-at-requires c κs = search needs
 
 returns : tie.Need-returns Inv-loop μ-loop
 returns c =
-    let bytes = c .before .before .before .before .before .before .before .args .runs .now in
-    let l = c .before .before .before .before .before .loop in
-    let low = c .before .before .before .number-at in
-    let high = c .before .before .number-at2 in
-    let told = c .before .ascends-at in
+    let at-ascends-at = c .before in
+    let at-number-at2 = at-ascends-at .before in
+    let at-number-at = at-number-at2 .before in
+    let at-loop = at-number-at .before .before in
+    let bytes = at-loop .before .before .args .runs .now in
+    let l = at-loop .loop in
+    let low = at-number-at .number-at in
+    let high = at-number-at2 .number-at2 in
+    let told = at-ascends-at .ascends-at in
     out-of-order bytes (l .at) (l .last) (l .inv .1) (l .inv .2) (omega arith) (low .result) (high .result) (low .ensures) (high .ensures)
     (told .result) (told .ensures) (c .if1 .taken)
 
@@ -58,11 +62,15 @@ loop-less c = search needs
 
 loop-again : tie.Need-loop-again Inv-loop μ-loop
 loop-again c =
-    let bytes = c .before .before .before .before .before .before .before .args .runs .now in
-    let l = c .before .before .before .before .before .loop in
-    let low = c .before .before .before .number-at in
-    let high = c .before .before .number-at2 in
-    let told = c .before .ascends-at in (
+    let at-ascends-at = c .before in
+    let at-number-at2 = at-ascends-at .before in
+    let at-number-at = at-number-at2 .before in
+    let at-loop = at-number-at .before .before in
+    let bytes = at-loop .before .before .args .runs .now in
+    let l = at-loop .loop in
+    let low = at-number-at .number-at in
+    let high = at-number-at2 .number-at2 in
+    let told = at-ascends-at .ascends-at in (
       omega arith,
       one-more bytes (l .at) (l .last) (l .inv .1) (l .inv .2) (omega arith) (low .result) (high .result) (low .ensures) (high .ensures)
           (told .result) (told .ensures) (c .if1 .left),

@@ -5,8 +5,8 @@ use borrow.Author.Needs.{needs}
 use Rattle.listing.proofs.list_circuit.Statement.{statement}
 use Rattle.listing.proofs.list_circuit.Tie as tie
 
-load-requires : tie.Need-load-requires
-load-requires c κs = search needs
+load-by-value-requires : tie.Need-load-by-value-requires
+load-by-value-requires c κs = search needs
 
 text-bytes-requires : tie.Need-text-bytes-requires
 text-bytes-requires c κs = search needs
@@ -51,7 +51,7 @@ pub list-circuit-spec : {M : Type 1} → statement M
 list-circuit-spec =
     tie.close
     (tie.spec
-    load-requires
+    load-by-value-requires
     text-bytes-requires
     enum-known-answer
     slice-aggregate-refuse

@@ -36,7 +36,7 @@ slice-aggregate-list-file : tie.Need-slice-aggregate-list-file
 slice-aggregate-list-file c = search needs
 
 list-file-requires : tie.Need-list-file-requires
-list-file-requires c κs = (search list-cases, (search list-cases, search needs))
+list-file-requires c κs = (search list-cases, search list-cases, search needs)
 
 array-share-prefix-name-2 : tie.Need-array-share-prefix-name-2
 array-share-prefix-name-2 c = search needs

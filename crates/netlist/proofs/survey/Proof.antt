@@ -1,24 +1,24 @@
--- `netlist::survey` meets its contract: a refused header refuses the netlist, a header that was found leaves the body to answer.
+-- `netlist::survey` meets its contract: the survey is made of the tables of a legal netlist.
 -- Assumes nothing.
-use Rattle.netlist.proofs.SurveyCases.{survey-cases}
+use Rattle.netlist.proofs.LoadCases.{survey-cases}
 use borrow.Author.Needs.{needs}
 use Rattle.netlist.proofs.survey.Statement.{statement}
 use Rattle.netlist.proofs.survey.Tie as tie
 
-read-header-requires : tie.Need-read-header-requires
-read-header-requires c κs = search needs
+load-requires : tie.Need-load-requires
+load-requires c κs = search survey-cases
 
-enum-known-header : tie.Need-enum-known-header
-enum-known-header c = search needs
+enum-known-answer : tie.Need-enum-known-answer
+enum-known-answer c = search needs
 
 refuse-requires : tie.Need-refuse-requires
 refuse-requires c κs = search needs
 
-enum-known-header-2 : tie.Need-enum-known-header-2
-enum-known-header-2 c = search needs
+enum-known-answer-2 : tie.Need-enum-known-answer-2
+enum-known-answer-2 c = search needs
 
-survey-body-requires : tie.Need-survey-body-requires
-survey-body-requires c κs = search survey-cases
+sub-gates : tie.Need-sub-gates
+sub-gates c = search survey-cases
 
 returns : tie.Need-returns
 returns c = search survey-cases
@@ -30,10 +30,10 @@ pub survey-spec : {M : Type 1} → statement M
 survey-spec =
     tie.close
     (tie.spec
-    read-header-requires
-    enum-known-header
+    load-requires
+    enum-known-answer
     refuse-requires
-    enum-known-header-2
-    survey-body-requires
+    enum-known-answer-2
+    sub-gates
     returns
     returns-2)

@@ -9,13 +9,13 @@ returns : tie.Need-returns
 returns c = search number-to-path-cases
 
 load-requires : tie.Need-load-requires
-load-requires c κs = search needs
+load-requires c κs = search number-to-path-cases
 
 enum-known-answer : tie.Need-enum-known-answer
 enum-known-answer c = search needs
 
-enum-told : tie.Need-enum-told
-enum-told c = search needs
+enum-known-answer-2 : tie.Need-enum-known-answer-2
+enum-known-answer-2 c = search needs
 
 returns-2 : tie.Need-returns-2
 returns-2 c = search number-to-path-cases
@@ -42,7 +42,7 @@ number-to-path-spec =
     returns
     load-requires
     enum-known-answer
-    enum-told
+    enum-known-answer-2
     returns-2
     returns-3
     write-path-requires

@@ -6,13 +6,13 @@ use Rattle.paths.proofs.path_to_number.Statement.{statement}
 use Rattle.paths.proofs.path_to_number.Tie as tie
 
 load-requires : tie.Need-load-requires
-load-requires c κs = search needs
+load-requires c κs = search path-to-number-cases
 
 enum-known-answer : tie.Need-enum-known-answer
 enum-known-answer c = search needs
 
-enum-told : tie.Need-enum-told
-enum-told c = search needs
+enum-known-answer-2 : tie.Need-enum-known-answer-2
+enum-known-answer-2 c = search needs
 
 read-path-requires : tie.Need-read-path-requires
 read-path-requires c κs = search path-to-number-cases
@@ -32,7 +32,7 @@ path-to-number-spec =
     (tie.spec
     load-requires
     enum-known-answer
-    enum-told
+    enum-known-answer-2
     read-path-requires
     returns
     returns-2

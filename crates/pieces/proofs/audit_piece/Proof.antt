@@ -1,6 +1,6 @@
 -- `pieces::audit_piece` meets its contract: each return is one case of a piece.
 -- Assumes nothing.
-use Rattle.pieces.proofs.CallCases.{call-piece-cases}
+use Rattle.pieces.proofs.PieceCases.{call-piece-cases}
 use borrow.Author.Needs.{needs}
 use Rattle.pieces.proofs.audit_piece.Statement.{statement}
 use Rattle.pieces.proofs.audit_piece.Tie as tie
@@ -11,8 +11,8 @@ returns c = search call-piece-cases
 returns-2 : tie.Need-returns-2
 returns-2 c = search call-piece-cases
 
-load-requires : tie.Need-load-requires
-load-requires c κs = search needs
+load-by-value-requires : tie.Need-load-by-value-requires
+load-by-value-requires c κs = search needs
 
 enum-known-answer : tie.Need-enum-known-answer
 enum-known-answer c = search needs
@@ -59,7 +59,7 @@ audit-piece-spec =
     (tie.spec
     returns
     returns-2
-    load-requires
+    load-by-value-requires
     enum-known-answer
     clear-requires
     enum-told

@@ -1,6 +1,6 @@
 -- `pieces::piece_on` meets its contract: each return is one case of a piece on a legal netlist.
 -- Assumes nothing.
-use Rattle.pieces.proofs.CallCases.{on-cases}
+use Rattle.pieces.proofs.PieceCases.{on-cases}
 use borrow.Author.Needs.{needs}
 use Rattle.pieces.proofs.piece_on.Statement.{statement}
 use Rattle.pieces.proofs.piece_on.Tie as tie
@@ -17,8 +17,8 @@ clear-requires c κs = search needs
 enum-told : tie.Need-enum-told
 enum-told c = search needs
 
-take-piece-requires : tie.Need-take-piece-requires
-take-piece-requires c κs = (search on-cases, search needs)
+apply-piece-requires : tie.Need-apply-piece-requires
+apply-piece-requires c κs = (search on-cases, search needs)
 
 enum-told-2 : tie.Need-enum-told-2
 enum-told-2 c = search needs
@@ -58,7 +58,7 @@ piece-on-spec =
     enum-known-checked
     clear-requires
     enum-told
-    take-piece-requires
+    apply-piece-requires
     enum-told-2
     enum-known-answer
     same-length

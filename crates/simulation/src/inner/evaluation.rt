@@ -8,18 +8,11 @@ ghost use Rattle.model.specs.Base.{bit};
 ghost use Rattle.model.specs.Detect as detect;
 ghost use Rattle.model.specs.Read.{kindOf, classOf};
 ghost use Rattle.simulation.specs.Packed.{oneWhere};
-ghost use Rattle.simulation.specs.States.{evaluationOf, stillBy, wordOf, pinsIn, PackedStates, StatesAt, PacksStates, lowLane, midLane, highLane};
+ghost use Rattle.simulation.specs.States.{stillBy, stateOf, wordOf, pinsIn, PackedStates, StatesAt, PacksStates, lowLane, midLane, highLane};
 use crate::inner::gates;
-use records::inner;
+use netlist::inner::pin_net;
 
-// What evaluating a net yields: its value under V1, its value under V2, and whether it is steady.
-pub struct NetState {
-    pub v1: bool,
-    pub v2: bool,
-    pub steady: bool,
-}
-
-// The same of all pins of a gate, a bit for each, pin 0 in the lowest.
+// What evaluating the nets at the pins of a gate yielded, a bit for each pin, pin 0 in the lowest.
 pub struct PinStates {
     pub v1: u8,
     pub v2: u8,
@@ -34,22 +27,22 @@ fn one_where(value: bool) -> u32
 }
 
 // A net's state as a word.
-pub fn state_word(state: NetState) -> u32
-    ensures { λ r. ⌜ r ≡ wordOf (evaluationOf state) ⌝ }
+pub fn state_word(v1: bool, v2: bool, steady: bool) -> u32
+    ensures { λ r. ⌜ r ≡ wordOf (stateOf v1 v2 steady) ⌝ }
 {
-    one_where(state.v2) + 256 * one_where(state.v1) + 65536 * one_where(state.steady)
+    one_where(v2) + 256 * one_where(v1) + 65536 * one_where(steady)
 }
 
-// The states at the pins of the gate whose record begins at `at`, packed.
-pub fn pack_states(netlist: &[u8], at: usize, pins: usize, states: &[u32; 512]) -> u32
-    requires { ⌜ StatesAt (now netlist) at pins (now states) ⌝ }
-    ensures { λ r. ⌜ PacksStates (now (netlist .entry)) at pins (now (states .entry)) r ⌝ }
+// The states at the pins of the gate's record with which the part begins, packed.
+pub fn pack_states(part: &[u8], pins: usize, states: &[u32; 512]) -> u32
+    requires { ⌜ StatesAt (now part) pins (now states) ⌝ }
+    ensures { λ r. ⌜ PacksStates (now (part .entry)) pins (now (states .entry)) r ⌝ }
 {
     let mut packed: u32 = 0;
     let mut k = pins;
     while 0 < k {
         k -= 1;
-        let net = inner::u16_at(netlist, at + 4 + 2 * k);
+        let net = pin_net(part, k);
         packed = 2 * packed + states[net];
     }
     packed
@@ -75,56 +68,24 @@ fn still(all: u8, steady: u8, controlling: u8) -> bool
     one_where(steady == all) | one_where(steady & controlling != 0) != 0
 }
 
-// What evaluating the gate's net yields.
-pub fn evaluate(kind: u8, pins: u8, states: PinStates) -> NetState
+// What evaluating the gate's net yields, as a word.
+pub fn evaluate(kind: u8, pins: u8, states: PinStates) -> u32
     requires { ⌜ PackedStates kind pins states ⌝ }
-    ensures { λ r. ⌜ evaluationOf r ≡ detect.gateEvaluation (kindOf kind) (pinsIn pins (states .v1) (states .v2) (states .steady)) ⌝ }
+    ensures { λ r. ⌜ r ≡ wordOf (detect.gateEvaluation (kindOf kind) (pinsIn pins (states .v1) (states .v2) (states .steady))) ⌝ }
 {
     let v1 = states.v1;
     let v2 = states.v2;
     let steady = states.steady;
     let all = gates::all_pins(pins);
     match kind {
-        1 => NetState {
-            v1: v1 != 0,
-            v2: v2 != 0,
-            steady: steady != 0,
-        },
-        2 => NetState {
-            v1: v1 == 0,
-            v2: v2 == 0,
-            steady: steady != 0,
-        },
-        3 => NetState {
-            v1: v1 == all,
-            v2: v2 == all,
-            steady: still(all, steady, all - v2),
-        },
-        4 => NetState {
-            v1: v1 != all,
-            v2: v2 != all,
-            steady: still(all, steady, all - v2),
-        },
-        5 => NetState {
-            v1: v1 != 0,
-            v2: v2 != 0,
-            steady: still(all, steady, v2),
-        },
-        6 => NetState {
-            v1: v1 == 0,
-            v2: v2 == 0,
-            steady: still(all, steady, v2),
-        },
-        7 => NetState {
-            v1: gates::is_odd(v1),
-            v2: gates::is_odd(v2),
-            steady: steady == all,
-        },
-        _ => NetState {
-            v1: !gates::is_odd(v1),
-            v2: !gates::is_odd(v2),
-            steady: steady == all,
-        },
+        1 => state_word(v1 != 0, v2 != 0, steady != 0),
+        2 => state_word(v1 == 0, v2 == 0, steady != 0),
+        3 => state_word(v1 == all, v2 == all, still(all, steady, all - v2)),
+        4 => state_word(v1 != all, v2 != all, still(all, steady, all - v2)),
+        5 => state_word(v1 != 0, v2 != 0, still(all, steady, v2)),
+        6 => state_word(v1 == 0, v2 == 0, still(all, steady, v2)),
+        7 => state_word(gates::is_odd(v1), gates::is_odd(v2), steady == all),
+        _ => state_word(!gates::is_odd(v1), !gates::is_odd(v2), steady == all),
     }
 }
 

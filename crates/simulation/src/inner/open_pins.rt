@@ -1,15 +1,18 @@
 // The open pins of all gates in a class: one pass over the gates, each net from the nets at its pins.
 ghost use mathlib.Core.Path.{_≡_};
+ghost use mathlib.Core.List.{List};
 ghost use Prim.Native.Nat.{ℕ, _≤_, _<_};
 ghost use lib.Dec.{eqb};
 ghost use Rattle.model.specs.Base.{bit};
 ghost use Rattle.model.specs.Netlist.{Netlist};
 ghost use Rattle.model.specs.Detect.{Test};
 ghost use Rattle.simulation.specs.States.{wordOf};
-ghost use Rattle.simulation.specs.Circuit.{CircuitAt, SomeCircuit, TestIs, InputStates, inputState, OpenMasks};
+ghost use Rattle.netlist.specs.Tables.{CircuitTables, SomeCircuit};
+ghost use Rattle.simulation.specs.Circuit.{TestIs, InputStates, inputState, OpenMasks};
 use crate::inner::evaluation;
-use crate::inner::evaluation::NetState;
-use records::inner;
+use netlist::inner::Shape;
+use netlist::inner::gate_part;
+use records::inner::wide;
 
 // The bit of an input.
 fn input_value(vector: u64, input: usize) -> u8
@@ -26,11 +29,7 @@ fn input_state(v1: u64, v2: u64, input: usize) -> u32
 {
     let first = input_value(v1, input);
     let last = input_value(v2, input);
-    evaluation::state_word(NetState {
-        v1: first == 1,
-        v2: last == 1,
-        steady: first == last,
-    })
+    evaluation::state_word(first == 1, last == 1, first == last)
 }
 
 // The states of the inputs, 0 for the other nets.
@@ -52,26 +51,25 @@ fn input_states(v1: u64, v2: u64, inputs: usize) -> [u32; 512]
 pub fn open_masks(
     netlist: &[u8],
     positions: &[u16; 512],
-    inputs: usize,
-    nets: usize,
+    shape: Shape,
     v1: u64,
     v2: u64,
     class: u32,
 ) -> [u8; 512]
-    requires { ⌜ SomeCircuit (now netlist) (now positions) inputs nets ⌝ }
-    ensures { λ r. ⌜ ((N : Netlist) (t : Test) → CircuitAt N (now (netlist .entry)) (now (positions .entry)) inputs nets → TestIs N t class v1 v2 → OpenMasks N t r) ⌝ }
+    requires { ⌜ SomeCircuit (now netlist) (now positions) shape ⌝ }
+    ensures { λ r. ⌜ ((N : Netlist) (cs : List ℕ) (t : Test) → CircuitTables N (now (netlist .entry)) (now (positions .entry)) cs shape → TestIs N t class v1 v2 → OpenMasks N t r) ⌝ }
 {
-    let mut states = input_states(v1, v2, inputs);
+    let mut states = input_states(v1, v2, shape.inputs);
     let mut masks = [0u8; 512];
-    let mut net = inputs;
-    while net < nets {
-        let at = inner::wide_word(positions[net]);
-        let kind = netlist[at + 2];
-        let pins = netlist[at + 3];
-        let packed = evaluation::pack_states(netlist, at, inner::wide(pins), &states);
+    let mut net = shape.inputs;
+    while net < shape.nets {
+        let part = gate_part(netlist, positions, net);
+        let kind = part[2];
+        let pins = part[3];
+        let packed = evaluation::pack_states(part, wide(pins), &states);
         let at_pins = evaluation::pin_states(packed);
         masks[net] = evaluation::class_pins(class, kind, pins, at_pins);
-        states[net] = evaluation::state_word(evaluation::evaluate(kind, pins, at_pins));
+        states[net] = evaluation::evaluate(kind, pins, at_pins);
         net += 1;
     }
     masks

@@ -10,12 +10,10 @@ sub-result : tie.Need-sub-result
 sub-result c = search needs
 
 returns : tie.Need-returns
-returns c =
-    room-left (c .before .args .others) (omega arith)
+returns c = room-left (c .before .args .others) (omega arith)
 
 returns-2 : tie.Need-returns-2
-returns-2 c =
-    room-least (c .before .args .others) (omega arith)
+returns-2 c = room-least (c .before .args .others) (omega arith)
 
 pub room-beside-spec : {M : Type 1} → statement M
 room-beside-spec = tie.close (tie.spec sub-result returns returns-2)

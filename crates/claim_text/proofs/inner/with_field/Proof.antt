@@ -44,20 +44,16 @@ with-text-requires-4 : tie.Need-with-text-requires-4
 with-text-requires-4 c κs = search needs
 
 returns : tie.Need-returns
-returns c =
-    as-part _ _ _ _ (c .with-text .ensures) (sym (ap fieldName (c .before .before .enum-told .given .1)))
+returns c = as-part _ _ _ _ (c .with-text .ensures) (sym (ap fieldName (c .before .before .enum-told .given .1)))
 
 returns-2 : tie.Need-returns-2
-returns-2 c =
-    as-part _ _ _ _ (c .with-text2 .ensures) (sym (ap fieldName (c .before .before .enum-told2 .given .1)))
+returns-2 c = as-part _ _ _ _ (c .with-text2 .ensures) (sym (ap fieldName (c .before .before .enum-told2 .given .1)))
 
 returns-3 : tie.Need-returns-3
-returns-3 c =
-    as-part _ _ _ _ (c .with-text3 .ensures) (sym (ap fieldName (c .before .before .enum-told3 .given .1)))
+returns-3 c = as-part _ _ _ _ (c .with-text3 .ensures) (sym (ap fieldName (c .before .before .enum-told3 .given .1)))
 
 returns-4 : tie.Need-returns-4
-returns-4 c =
-    as-part _ _ _ _ (c .with-text4 .ensures) (sym (ap fieldName (c .before .before .enum-told4 .given .1)))
+returns-4 c = as-part _ _ _ _ (c .with-text4 .ensures) (sym (ap fieldName (c .before .before .enum-told4 .given .1)))
 
 pub with-field-spec : {M : Type 1} → statement M
 with-field-spec =

@@ -35,16 +35,13 @@ with-text-requires-3 : tie.Need-with-text-requires-3
 with-text-requires-3 c κs = search needs
 
 returns : tie.Need-returns
-returns c =
-    as-part _ _ _ _ (c .with-text .ensures) (sym (ap kindText (c .before .before .enum-told .given .1)))
+returns c = as-part _ _ _ _ (c .with-text .ensures) (sym (ap kindText (c .before .before .enum-told .given .1)))
 
 returns-2 : tie.Need-returns-2
-returns-2 c =
-    as-part _ _ _ _ (c .with-text2 .ensures) (sym (ap kindText (c .before .before .enum-told2 .given .1)))
+returns-2 c = as-part _ _ _ _ (c .with-text2 .ensures) (sym (ap kindText (c .before .before .enum-told2 .given .1)))
 
 returns-3 : tie.Need-returns-3
-returns-3 c =
-    as-part _ _ _ _ (c .with-text3 .ensures) (sym (ap kindText (c .before .before .enum-told3 .given .1)))
+returns-3 c = as-part _ _ _ _ (c .with-text3 .ensures) (sym (ap kindText (c .before .before .enum-told3 .given .1)))
 
 pub with-kind-spec : {M : Type 1} → statement M
 with-kind-spec =

@@ -40,9 +40,13 @@ with-number-requires-3 c κs = search needs
 
 returns-2 : tie.Need-returns-2
 returns-2 c =
-    let a = c .before .before .before .before .before .before .before .args in
-    let first = then-part _ _ _ _ _ (c .before .before .before .before .with-text2 .ensures) (c .before .before .before .with-number2 .ensures) in
-    let second = then-part _ _ _ _ _ (then-part _ _ _ _ _ first (c .before .with-text3 .ensures)) (c .with-number3 .ensures) in
+    let at-with-text3 = c .before in
+    let at-with-number2 = at-with-text3 .before .before in
+    let at-with-text2 = at-with-number2 .before in
+    let a = at-with-text2 .before .before .before .args in
+    let first = then-part _ _ _ _ _ (at-with-text2 .with-text2 .ensures) (at-with-number2 .with-number2 .ensures) in
+    let second =
+    then-part _ _ _ _ _ (then-part _ _ _ _ _ first (at-with-text3 .with-text3 .ensures)) (c .with-number3 .ensures) in
     as-part _ _ _ _ second (some-paths (a .low) (a .high) (λ e. omega (arith, e)))
 
 pub with-paths-spec : {M : Type 1} → statement M

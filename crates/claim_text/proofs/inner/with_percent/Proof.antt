@@ -28,10 +28,14 @@ with-text-requires-2 c κs = search needs
 
 returns : tie.Need-returns
 returns c =
-    let a = c .before .before .before .before .before .before .before .args in
-    let share = c .before .before .before .before .before .before .thousandths in
-    let p1 = then-part _ _ _ _ _ (c .before .before .before .before .before .with-number .ensures) (c .before .before .before .with-text .ensures) in
-    let p2 = then-part _ _ _ _ _ p1 (c .before .before .with-number2 .ensures) in
+    let at-with-number2 = c .before .before in
+    let at-with-text = at-with-number2 .before in
+    let at-with-number = at-with-text .before .before in
+    let at-thousandths = at-with-number .before in
+    let a = at-thousandths .before .args in
+    let share = at-thousandths .thousandths in
+    let p1 = then-part _ _ _ _ _ (at-with-number .with-number .ensures) (at-with-text .with-text .ensures) in
+    let p2 = then-part _ _ _ _ _ p1 (at-with-number2 .with-number2 .ensures) in
     let p3 = then-part _ _ _ _ _ p2 (c .with-text2 .ensures) in
     as-part _ _ _ _ p3 (percent-parts (share .result) (a .part) (a .whole) (share .ensures))
 

@@ -31,11 +31,15 @@ with-text-requires-2 c κs = search needs
 
 returns : tie.Need-returns
 returns c =
-    let a = c .before .before .before .before .before .before .before .args in
-    let told = c .before .before .before .before .before .before .is-part in
-    let p1 = then-part _ _ _ _ _ (c .before .before .before .with-text .ensures) (c .before .before .with-percent .ensures) in
+    let at-with-percent = c .before .before in
+    let at-with-text = at-with-percent .before in
+    let at-if1 = at-with-text .before .before in
+    let at-is-part = at-if1 .before in
+    let a = at-is-part .before .args in
+    let told = at-is-part .is-part in
+    let p1 = then-part _ _ _ _ _ (at-with-text .with-text .ensures) (at-with-percent .with-percent .ensures) in
     let p2 = then-part _ _ _ _ _ p1 (c .with-text2 .ensures) in
-    as-part _ _ _ _ p2 (true-part (a .truth) (a .paths) (told .result) (told .ensures) (c .before .before .before .before .before .if1 .taken))
+    as-part _ _ _ _ p2 (true-part (a .truth) (a .paths) (told .result) (told .ensures) (at-if1 .if1 .taken))
 
 slice-aggregate-with-text-3 : tie.Need-slice-aggregate-with-text-3
 slice-aggregate-with-text-3 c = search needs

@@ -1,31 +1,45 @@
-use Rattle.coverage.proofs.BothLaws.{edge-again, covers-both}
-use Rattle.coverage.specs.Both.{caseOf, up, down}
-use Rattle.runs.specs.Runs.{runsInWords}
-use mathlib.Core.Path.{_≡_, refl, sym}
-use Prim.Native.Nat.{_*_}
+-- `coverage::edges::cover_both` meets its contract: the runs made of the rising edge stay while the falling edge is covered.
+-- Assumes nothing.
+use mathlib.Core.Path.{refl, _∙_}
 use native.Mathlib.Omega.{arith}
+use Rattle.model.specs.Path.{rising, falling}
+use Rattle.coverage.proofs.EdgesLaws.{work-few, some-edge, join-ready, both-covered}
 use borrow.Author.Needs.{needs}
 use Rattle.coverage.proofs.edges.cover_both.Statement.{statement}
 use Rattle.coverage.proofs.edges.cover_both.Tie as tie
-use Rattle.coverage.proofs.edges.cover_both.Reads as reads
-use Rattle.coverage.proofs.edges.cover_both.Lts as lts
-use Rattle.coverage.proofs.edges.cover_edge.Reads as cover-edge-reads
-use Rattle.coverage.proofs.edges.join_answers.Reads as join-answers-reads
 
-cover-edge-requires : tie.Need-cover-edge-requires
-cover-edge-requires c κs = let a = c .before .before .before .before .args in
-    let p = c .before .before .before .before .pre in (
-      record { case = caseOf (p .0 .netlist) (p .0 .test) up; at-edge = p .0 .at-both .risingAt },
-      ((p .1 .0 .0, omega (arith, p .1 .0), omega arith, omega (arith, p .1 .0)), p .1 .1 .0),
-    )
+detected-runs-requires : tie.Need-detected-runs-requires
+detected-runs-requires c κs = some-edge (c .before .before .before .before .pre) rising refl
 
-cover-edge-requires-2 : tie.Need-cover-edge-requires-2
-cover-edge-requires-2 c κs = let a = c .before .before .before .before .before .before .before .before .args in
-    let p = c .before .before .before .before .before .before .before .before .pre in
-    let l = c .before .before .before .cover-edge .kept .1 .1 .1 .1 .1 .1 .1 .1 .1 .1 .1 .1 .0 in (
-      record { case = caseOf (p .0 .netlist) (p .0 .test) down; at-edge = edge-again (caseOf (p .0 .netlist) (p .0 .test) down) (a .netlist .now) (a .positions .now) (a .counts .now) (a .masks .now) (a .falls) (a .inputs) (a .nets) (a .at) (a .outputs) (a .words .now) (c .before .before .before .cover-edge .last .1 .1 .1 .1 .1 .1 .1 .1 .1 .1 .1 .1 .0) l (p .0 .at-both .fallingAt) },
-      ((p .1 .0 .1, omega (arith, p .1 .0), omega arith, omega (arith, p .1 .0, l)), p .1 .1 .1),
-    )
+edge-runs-requires : tie.Need-edge-runs-requires
+edge-runs-requires c κs = search (work-few, needs)
+
+join-edge-requires : tie.Need-join-edge-requires
+join-edge-requires c κs =
+    let held = c .before .edge-runs .ensures in
+    let at-found = c .before .before .before .before in
+    let found = at-found .detected-runs in
+    let ready = at-found .before .before .before .before .before .pre in
+    join-ready ready rising refl (found .kept .1 .1 .1 .1 .1 .1 .0) (found .ensures) held (omega arith) (omega arith)
+
+detected-runs-requires-2 : tie.Need-detected-runs-requires-2
+detected-runs-requires-2 c κs =
+    let joins = c .before .before .before .join-edge .kept .1 .1 .0 in
+    let at-found = c .before .before .before .before .before .before .before .before in
+    some-edge (at-found .before .before .before .before .before .pre) falling (joins ∙ at-found .detected-runs .kept .1 .1 .1 .1 .1 .1 .0)
+
+edge-runs-requires-2 : tie.Need-edge-runs-requires-2
+edge-runs-requires-2 c κs = search (work-few, needs)
+
+join-edge-requires-2 : tie.Need-join-edge-requires-2
+join-edge-requires-2 c κs =
+    let held = c .before .edge-runs2 .ensures in
+    let found = c .before .before .before .before .detected-runs2 in
+    let at-joins = c .before .before .before .before .before .before .before .before in
+    let at-found = at-joins .before .before .before .before .before in
+    let ready = at-found .before .before .before .before .before .pre in
+    let so-far = at-joins .join-edge .kept .1 .1 .0 ∙ at-found .detected-runs .kept .1 .1 .1 .1 .1 .1 .0 in
+    join-ready ready falling so-far (found .kept .1 .1 .1 .1 .1 .1 .0 ∙ so-far) (found .ensures) held (omega arith) (omega arith)
 
 join-answers-requires : tie.Need-join-answers-requires
 join-answers-requires c κs = search needs
@@ -34,15 +48,29 @@ same-length : tie.Need-same-length
 same-length c = search needs
 
 returns : tie.Need-returns
-returns c = let a = c .before .before .before .before .before .before .before .before .before .before .before .before .args in
-    let l = c .before .before .before .before .before .before .before .cover-edge .kept .1 .1 .1 .1 .1 .1 .1 .1 .1 .1 .1 .1 .0 in
-    λ N t b s u.
-    covers-both (caseOf N t up) (caseOf N t down) (runsInWords (a .places .now) 0 (a .rising)) (runsInWords (a .places .now) 1024 (a .falling)) (a .words .now) (c .before .before .before .before .before .before .before .cover-edge .last .1 .1 .1 .1 .1 .1 .1 .1 .1 .1 .1 .1 .0) (c .before .before .before .cover-edge2 .last .1 .1 .1 .1 .1 .1 .1 .1 .1 .1 .1 .1 .0) (c .before .before .before .before .before .before .before .cover-edge .result) (c .before .before .before .cover-edge2 .result) (c .join-answers .result)
-    (c .before .before .before .before .before .before .before .cover-edge .ensures (caseOf N t up) (b .risingAt) s)
-    (c .before .before .before .cover-edge2 .ensures (caseOf N t down) (edge-again (caseOf N t down) (a .netlist .now) (a .positions .now) (a .counts .now) (a .masks .now) (a .falls) (a .inputs) (a .nets) (a .at) (a .outputs) (a .words .now) (c .before .before .before .before .before .before .before .cover-edge .last .1 .1 .1 .1 .1 .1 .1 .1 .1 .1 .1 .1 .0) l (b .fallingAt)) u)
-    (c .join-answers .ensures)
+returns c =
+    let falling-joins = c .before .before .before .join-edge2 .ensures in
+    let falling-held = c .before .before .before .before .before .edge-runs2 .ensures in
+    let falling-found = c .before .before .before .before .before .before .before .before .detected-runs2 .ensures in
+    let at-joins = c .before .before .before .before .before .before .before .before .before .before .before .before in
+    let rising-joins = at-joins .join-edge in
+    let rising-held = at-joins .before .before .edge-runs .ensures in
+    let at-found = at-joins .before .before .before .before .before in
+    let rising-found = at-found .detected-runs in
+    let so-far = rising-joins .kept .1 .1 .0 ∙ rising-found .kept .1 .1 .1 .1 .1 .1 .0 in
+    both-covered (at-found .before .before .before .before .before .pre) so-far (rising-found .ensures) rising-held (rising-joins .ensures)
+    falling-found falling-held falling-joins (c .join-answers .ensures)
 
 pub cover-both-spec : {M : Type 1} → statement M
 cover-both-spec =
     tie.close
-    (tie.spec cover-edge-requires cover-edge-requires-2 join-answers-requires same-length returns)
+    (tie.spec
+    detected-runs-requires
+    edge-runs-requires
+    join-edge-requires
+    detected-runs-requires-2
+    edge-runs-requires-2
+    join-edge-requires-2
+    join-answers-requires
+    same-length
+    returns)

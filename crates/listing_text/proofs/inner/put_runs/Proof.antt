@@ -2,7 +2,7 @@
 -- Assumes nothing.
 use mathlib.Core.Path.{_≡_, ap, sym, _∙_}
 use mathlib.Core.List.{List}
-use Prim.Native.Nat.{ℕ, _+_, _-_, _*_, _≤_}
+use Prim.Native.Nat.{ℕ, _+_, _*_, _/_, _≤_}
 use native.Mathlib.Omega.{arith}
 use borrow.Author.Needs.{needs}
 use lib.ListN.{length}
@@ -13,13 +13,13 @@ use Rattle.listing_text.proofs.inner.put_runs.Statement.{statement}
 use Rattle.listing_text.proofs.inner.put_runs.Tie as tie
 
 abbrev Inv-loop : tie.InvT-loop
-Inv-loop out₀ start letter words from n at₀ place₀ left₀ out at place left =
-    (length out ≡ length out₀) × (place + 2 * left ≡ from + 2 * n) × (at + 44 * left ≤ start + 44 * n)
-    × (sets out at (runsLeft letter words place left) ≡ sets out₀ start (runsLeft letter words from n))
-    × (at + length (runsLeft letter words place left) ≡ start + length (runsLeft letter words from n))
+Inv-loop out₀ start letter runs at₀ place₀ left₀ out at place left =
+    (length out ≡ length out₀) × (place + 2 * left ≡ 2 * (length runs / 2)) × (at + 44 * left ≤ start + 44 * (length runs / 2))
+    × (sets out at (runsLeft letter runs place left) ≡ sets out₀ start (runsLeft letter runs 0 (length runs / 2)))
+    × (at + length (runsLeft letter runs place left) ≡ start + length (runsLeft letter runs 0 (length runs / 2)))
 
 abbrev μ-loop : tie.MeasureT-loop
-μ-loop out₀ start letter words from n at₀ place₀ left₀ out at place left = left
+μ-loop out₀ start letter runs at₀ place₀ left₀ out at place left = left
 
 loop-holds : tie.Need-loop-holds Inv-loop μ-loop
 loop-holds c = (search needs, search needs, search needs, search needs, search needs)
@@ -53,12 +53,13 @@ loop-less c = search needs
 
 loop-again : tie.Need-loop-again Inv-loop μ-loop
 loop-again c =
-    let s = c .before .before .before .before .before .before .before .before .before .before .before in
-    let l = c .before .before .before .before .before .before .before .loop in
     let p = c .before .before .put-run in
+    let test = c .before .before .before .before .before .before in
+    let l = test .before .loop in
+    let s = test .before .before .before .before .before in
     let letter = s .args .letter .now in
-    let words = s .args .words .now in
-    let some = c .before .before .before .before .before .before .loop-test .taken in (
+    let words = s .args .runs .now in
+    let some = test .loop-test .taken in (
       put-length (p .ensures) ∙ l .inv .0,
       omega arith,
       omega (arith, p .ensures .place, run-length letter words (l .place) (l .left) (s .pre .0), l .inv .2),
@@ -74,12 +75,12 @@ returns c =
     let s = c .before .before .before .before .before in
     let l = c .before .loop in
     let letter = s .args .letter .now in
-    let words = s .args .words .now in
+    let words = s .args .runs .now in
     let none = runs-end letter words (l .place) (l .left) (omega arith) in (
       record {
         bytes = ap (λ (t : List ℕ). sets (l .out) (l .at) t) (sym none) ∙ l .inv .3;
         place = omega (arith, l .inv .4, ap (length {A = ℕ}) none);
-        inside = omega (arith, l .inv .2, l .inv .0, s .pre .2);
+        inside = omega (arith, l .inv .2, l .inv .0, s .pre .1);
       },
       omega (arith, l .inv .2),
     )

@@ -23,5 +23,4 @@ returns : tie.Need-returns
 returns c = mark-put (c .args .records .now) (c .args .at)
 
 pub put-mark-spec : {M : Type 1} → statement M
-put-mark-spec =
-    tie.close (tie.spec slice-write-records add-records slice-write-records-2 same-length returns)
+put-mark-spec = tie.close (tie.spec slice-write-records add-records slice-write-records-2 same-length returns)

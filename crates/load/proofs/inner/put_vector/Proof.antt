@@ -9,7 +9,8 @@ use Rattle.load.proofs.inner.put_vector.Statement.{statement}
 use Rattle.load.proofs.inner.put_vector.Tie as tie
 
 abbrev Inv-loop : tie.InvT-loop
-Inv-loop state inputs records₀ at drawn vector bytes size place₀ input₀ records place input = Writing inputs state size at records₀ records place input
+Inv-loop state inputs records₀ at drawn vector bytes size place₀ input₀ records place input =
+    Writing inputs state size at records₀ records place input
 
 abbrev μ-loop : tie.MeasureT-loop
 μ-loop state inputs records₀ at drawn vector bytes size place₀ input₀ records place input = inputs - input

@@ -7,7 +7,8 @@ use Rattle.load.proofs.inner.put_vectors.Statement.{statement}
 use Rattle.load.proofs.inner.put_vectors.Tie as tie
 
 abbrev Inv-loop : tie.InvT-loop
-Inv-loop state inputs vectors records₀ size last₀ place₀ left₀ records last place left = Gathering inputs state vectors size records₀ records last place left
+Inv-loop state inputs vectors records₀ size last₀ place₀ left₀ records last place left =
+    Gathering inputs state vectors size records₀ records last place left
 
 abbrev μ-loop : tie.MeasureT-loop
 μ-loop state inputs vectors records₀ size last₀ place₀ left₀ records last place left = left

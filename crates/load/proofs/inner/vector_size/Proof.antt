@@ -20,10 +20,12 @@ mul-result-2 : tie.Need-mul-result-2
 mul-result-2 c = search needs
 
 mul-result-3 : tie.Need-mul-result-3
-mul-result-3 c = omega (arith, size-small (c .before .args .inputs) (c .vector-bytes .result) (c .before .pre) (c .vector-bytes .ensures .1))
+mul-result-3 c =
+    omega (arith, size-small (c .before .args .inputs) (c .vector-bytes .result) (c .before .pre) (c .vector-bytes .ensures .1))
 
 returns : tie.Need-returns
-returns c = (rw (c .vector-bytes .ensures .0) refl, size-small (c .before .args .inputs) (c .vector-bytes .result) (c .before .pre) (c .vector-bytes .ensures .1))
+returns c =
+    (rw (c .vector-bytes .ensures .0) refl, size-small (c .before .args .inputs) (c .vector-bytes .result) (c .before .pre) (c .vector-bytes .ensures .1))
 
 pub vector-size-spec : {M : Type 1} → statement M
 vector-size-spec =

@@ -1,69 +1,82 @@
--- `netlist::gates::read_gates` meets its contract: the readings that are left, from the state so far, give the whole.
+-- `netlist::gates::read_gates` meets its contract: the readings and the positions that are left, from the state so far, give the whole.
 -- Assumes nothing.
-use Prim.Native.Nat.{_≤_, _+_}
-use borrow.Author.Needs.{needs}
-use lib.ListN.{length, drop, replicate}
-use Rattle.model.specs.Read.{readGates}
-use Rattle.netlist.proofs.GateSteps.{GatesLeft, gates-start, gates-stop, gates-size, gates-fit, gates-again, gates-end}
+use Prim.Native.Nat.{_≤_, _+_, _*_}
+use mathlib.Core.List.{_++_}
+use lib.ListN.{length, replicate}
+use Rattle.netlist.specs.Places.{starts}
+use Rattle.netlist.proofs.PositionSteps.{PositionsLeft}
+use Rattle.netlist.proofs.GateSteps.{GatesLeft, read-gates-cases}
 use Rattle.netlist.proofs.gates.read_gates.Statement.{statement}
 use Rattle.netlist.proofs.gates.read_gates.Tie as tie
 
 abbrev Inv-loop : tie.InvT-loop
-Inv-loop netlist inputs gates counts₀ left₀ net₀ at₀ counts left net at =
+Inv-loop netlist inputs gates counts₀ positions₀ left₀ net₀ at₀ counts positions left net at =
     (net + left ≤ 512)
+    × (gates ≤ 512)
     × (at ≤ length netlist)
-    × GatesLeft left net at counts netlist (replicate inputs 1) (readGates gates (replicate inputs 1) (drop 8 netlist))
+    × (at + 20 * left ≤ 8 + 20 * gates)
+    × GatesLeft left net at counts netlist inputs gates
+    × PositionsLeft left net at positions netlist (replicate inputs 0 ++ starts gates 8 netlist)
 
 abbrev μ-loop : tie.MeasureT-loop
-μ-loop netlist inputs gates counts₀ left₀ net₀ at₀ counts left net at = left
+μ-loop netlist inputs gates counts₀ positions₀ left₀ net₀ at₀ counts positions left net at = left
 
 loop-holds : tie.Need-loop-holds Inv-loop μ-loop
-loop-holds c = search (gates-start, needs)
+loop-holds c = search read-gates-cases
 
 sub-part : tie.Need-sub-part Inv-loop μ-loop
-sub-part c = search needs
+sub-part c = search read-gates-cases
 
 part-part-start : tie.Need-part-part-start Inv-loop μ-loop
-part-part-start c = search needs
+part-part-start c = search read-gates-cases
 
 part-part-end : tie.Need-part-part-end Inv-loop μ-loop
-part-part-end c = search needs
+part-part-end c = search read-gates-cases
 
 read-gate-requires : tie.Need-read-gate-requires Inv-loop μ-loop
-read-gate-requires c κs = search needs
+read-gate-requires c κs = search read-gates-cases
 
 enum-known-gate : tie.Need-enum-known-gate Inv-loop μ-loop
-enum-known-gate c = search needs
+enum-known-gate c = search read-gates-cases
 
 mul-counts : tie.Need-mul-counts Inv-loop μ-loop
-mul-counts c = search needs
+mul-counts c = search read-gates-cases
 
 element-write-counts : tie.Need-element-write-counts Inv-loop μ-loop
-element-write-counts c = search needs
+element-write-counts c = search read-gates-cases
+
+cast-positions : tie.Need-cast-positions Inv-loop μ-loop
+cast-positions c = search read-gates-cases
+
+mul-positions : tie.Need-mul-positions Inv-loop μ-loop
+mul-positions c = search read-gates-cases
+
+element-write-positions : tie.Need-element-write-positions Inv-loop μ-loop
+element-write-positions c = search read-gates-cases
 
 add-at : tie.Need-add-at Inv-loop μ-loop
-add-at c = search (gates-fit, needs)
+add-at c = search read-gates-cases
 
 enum-known-gate-2 : tie.Need-enum-known-gate-2 Inv-loop μ-loop
-enum-known-gate-2 c = search needs
+enum-known-gate-2 c = search read-gates-cases
 
 returns : tie.Need-returns Inv-loop μ-loop
-returns c = search (gates-stop, needs)
+returns c = search read-gates-cases
 
 add-net : tie.Need-add-net Inv-loop μ-loop
-add-net c = search needs
+add-net c = search read-gates-cases
 
 sub-left : tie.Need-sub-left Inv-loop μ-loop
-sub-left c = search needs
+sub-left c = search read-gates-cases
 
 loop-less : tie.Need-loop-less Inv-loop μ-loop
-loop-less c = search needs
+loop-less c = search read-gates-cases
 
 loop-again : tie.Need-loop-again Inv-loop μ-loop
-loop-again c = search (gates-size, gates-again, needs)
+loop-again c = (search read-gates-cases, search read-gates-cases, search read-gates-cases, search read-gates-cases, search read-gates-cases, search read-gates-cases)
 
 returns-2 : tie.Need-returns-2 Inv-loop μ-loop
-returns-2 c = search (gates-end, needs)
+returns-2 c = search read-gates-cases
 
 pub read-gates-spec : {M : Type 1} → statement M
 read-gates-spec =
@@ -79,6 +92,9 @@ read-gates-spec =
     enum-known-gate
     mul-counts
     element-write-counts
+    cast-positions
+    mul-positions
+    element-write-positions
     add-at
     enum-known-gate-2
     returns

@@ -1,35 +1,35 @@
--- `netlist::inner::load` meets its contract: the survey's own, and the positions of a netlist known to be legal.
+-- `netlist::inner::load` meets its contract: a refused header refuses the netlist, a header that was found leaves the body to answer.
 -- Assumes nothing.
-use Rattle.netlist.proofs.LoadLaws.{load-cases}
+use Rattle.netlist.proofs.LoadCases.{load-cases}
 use borrow.Author.Needs.{needs}
 use Rattle.netlist.proofs.inner.load.Statement.{statement}
 use Rattle.netlist.proofs.inner.load.Tie as tie
 
-survey-requires : tie.Need-survey-requires
-survey-requires c κs = search needs
+read-header-requires : tie.Need-read-header-requires
+read-header-requires c κs = search needs
 
-enum-told : tie.Need-enum-told
-enum-told c = search needs
+enum-known-header : tie.Need-enum-known-header
+enum-known-header c = search needs
 
-gate-positions-requires : tie.Need-gate-positions-requires
-gate-positions-requires c κs = search load-cases
+enum-known-header-2 : tie.Need-enum-known-header-2
+enum-known-header-2 c = search needs
 
-enum-known-answer : tie.Need-enum-known-answer
-enum-known-answer c = search needs
+load-body-requires : tie.Need-load-body-requires
+load-body-requires c κs = search load-cases
 
 returns : tie.Need-returns
 returns c = search load-cases
 
 returns-2 : tie.Need-returns-2
-returns-2 c = search load-cases
+returns-2 c = search needs
 
 pub load-spec : {M : Type 1} → statement M
 load-spec =
     tie.close
     (tie.spec
-    survey-requires
-    enum-told
-    gate-positions-requires
-    enum-known-answer
+    read-header-requires
+    enum-known-header
+    enum-known-header-2
+    load-body-requires
     returns
     returns-2)

@@ -1,27 +1,36 @@
--- `paths::outputs::outputs_before` meets its contract: the sum so far and that over the outputs left before the place make the whole. Assumes nothing.
-use lib.ListN.{take}
-use Rattle.model.specs.Base.{sumOf}
-use Rattle.netlist.specs.Places.{OutputsIn}
-use Rattle.paths.specs.Outputs.{countsFrom}
-use Rattle.paths.proofs.OutputCases.{BeforeLeft, outputs-before-cases}
+-- `paths::outputs::outputs_before` meets its contract: the sum so far is that of the counts of the outputs before the one at hand.
+-- Assumes nothing.
+use mathlib.Core.Path.{_≡_}
+use Prim.Native.Nat.{_-_, _≤_}
+use Rattle.model.specs.Path.{countsBefore}
+use Rattle.paths.specs.Picks.{outputCountsIn}
+use Rattle.paths.proofs.OutputPicks.{outputs-before-cases}
 use Rattle.paths.proofs.outputs.outputs_before.Statement.{statement}
 use Rattle.paths.proofs.outputs.outputs_before.Tie as tie
 
 abbrev Inv-loop : tie.InvT-loop
-Inv-loop netlist counts inputs from outputs place left₀ more₀ at₀ total₀ left more at total =
-    OutputsIn netlist at more × BeforeLeft netlist inputs counts left more at total (sumOf (take place (countsFrom netlist inputs counts outputs from)))
+Inv-loop part counts inputs place total₀ before₀ total before = (before ≤ place) × (total ≡ countsBefore before (outputCountsIn part place inputs counts))
 
 abbrev μ-loop : tie.MeasureT-loop
-μ-loop netlist counts inputs from outputs place left₀ more₀ at₀ total₀ left more at total = left
+μ-loop part counts inputs place total₀ before₀ total before = place - before
 
 loop-holds : tie.Need-loop-holds Inv-loop μ-loop
 loop-holds c = search outputs-before-cases
 
-add-u16-at : tie.Need-add-u16-at Inv-loop μ-loop
-add-u16-at c = search outputs-before-cases
+mul-output-net : tie.Need-mul-output-net Inv-loop μ-loop
+mul-output-net c = search outputs-before-cases
 
-u16-at-requires : tie.Need-u16-at-requires Inv-loop μ-loop
-u16-at-requires c κs = search outputs-before-cases
+sub-output-net : tie.Need-sub-output-net Inv-loop μ-loop
+sub-output-net c = search outputs-before-cases
+
+part-output-net-start : tie.Need-part-output-net-start Inv-loop μ-loop
+part-output-net-start c = search outputs-before-cases
+
+part-output-net-end : tie.Need-part-output-net-end Inv-loop μ-loop
+part-output-net-end c = search outputs-before-cases
+
+output-net-requires : tie.Need-output-net-requires Inv-loop μ-loop
+output-net-requires c κs = search outputs-before-cases
 
 output-paths-requires : tie.Need-output-paths-requires Inv-loop μ-loop
 output-paths-requires c κs = search outputs-before-cases
@@ -29,14 +38,8 @@ output-paths-requires c κs = search outputs-before-cases
 add-total : tie.Need-add-total Inv-loop μ-loop
 add-total c = search outputs-before-cases
 
-add-at : tie.Need-add-at Inv-loop μ-loop
-add-at c = search outputs-before-cases
-
-sub-more : tie.Need-sub-more Inv-loop μ-loop
-sub-more c = search outputs-before-cases
-
-sub-left : tie.Need-sub-left Inv-loop μ-loop
-sub-left c = search outputs-before-cases
+add-before : tie.Need-add-before Inv-loop μ-loop
+add-before c = search outputs-before-cases
 
 loop-less : tie.Need-loop-less Inv-loop μ-loop
 loop-less c = search outputs-before-cases
@@ -54,13 +57,14 @@ outputs-before-spec =
     Inv-loop
     μ-loop
     loop-holds
-    add-u16-at
-    u16-at-requires
+    mul-output-net
+    sub-output-net
+    part-output-net-start
+    part-output-net-end
+    output-net-requires
     output-paths-requires
     add-total
-    add-at
-    sub-more
-    sub-left
+    add-before
     loop-less
     loop-again
     returns)

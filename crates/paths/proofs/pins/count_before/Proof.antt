@@ -2,16 +2,17 @@
 -- Assumes nothing.
 use mathlib.Core.Path.{_≡_}
 use Prim.Native.Nat.{_-_, _≤_}
-use Rattle.paths.specs.Walk.{beforePin}
+use Rattle.model.specs.Path.{countsBefore}
+use Rattle.paths.specs.Picks.{pinCountsIn}
 use Rattle.paths.proofs.PinCases.{pins-before-cases}
 use Rattle.paths.proofs.pins.count_before.Statement.{statement}
 use Rattle.paths.proofs.pins.count_before.Tie as tie
 
 abbrev Inv-loop : tie.InvT-loop
-Inv-loop netlist counts pos net k sum₀ j₀ sum j = (j ≤ k) × (sum ≡ beforePin netlist counts pos j)
+Inv-loop part counts pin sum₀ before₀ sum before = (before ≤ pin) × (sum ≡ countsBefore before (pinCountsIn part counts))
 
 abbrev μ-loop : tie.MeasureT-loop
-μ-loop netlist counts pos net k sum₀ j₀ sum j = k - j
+μ-loop part counts pin sum₀ before₀ sum before = pin - before
 
 loop-holds : tie.Need-loop-holds Inv-loop μ-loop
 loop-holds c = search pins-before-cases
@@ -28,8 +29,8 @@ element-copy-out-sum c = search pins-before-cases
 add-sum : tie.Need-add-sum Inv-loop μ-loop
 add-sum c = search pins-before-cases
 
-add-j : tie.Need-add-j Inv-loop μ-loop
-add-j c = search pins-before-cases
+add-before : tie.Need-add-before Inv-loop μ-loop
+add-before c = search pins-before-cases
 
 loop-less : tie.Need-loop-less Inv-loop μ-loop
 loop-less c = search pins-before-cases
@@ -51,7 +52,7 @@ count-before-spec =
     mul-sum
     element-copy-out-sum
     add-sum
-    add-j
+    add-before
     loop-less
     loop-again
     returns)

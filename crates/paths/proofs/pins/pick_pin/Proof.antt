@@ -1,20 +1,18 @@
 -- `paths::pins::pick_pin` meets its contract: the choice among the pins that are left, at the number that is left, is the whole choice.
 -- Assumes nothing.
-use mathlib.Core.Path.{_≡_}
-use Prim.Native.Nat.{_-_, _<_}
-use Rattle.paths.specs.Walk.{pinCount, pickFrom, pickAt}
+use Prim.Native.Nat.{_-_, _<_, _≤_}
+use Rattle.netlist.specs.Tables.{pinCountIn}
+use Rattle.paths.specs.Picks.{pinCountsIn}
+use Rattle.paths.proofs.SplitLaws.{Passed}
 use Rattle.paths.proofs.PinCases.{pick-cases}
 use Rattle.paths.proofs.pins.pick_pin.Statement.{statement}
 use Rattle.paths.proofs.pins.pick_pin.Tie as tie
 
 abbrev Inv-loop : tie.InvT-loop
-Inv-loop netlist counts pos net number n k₀ rest₀ k rest = (n ≡ pinCount netlist pos) × (k < n) × (pickFrom netlist counts pos (n - 1 - k) k rest ≡ pickAt netlist counts pos number)
+Inv-loop part counts number pins pin₀ rest₀ pin rest = (pins ≤ pinCountIn part) × (pinCountIn part ≤ pins) × (pin < pins) × Passed (pinCountsIn part counts) number pin rest
 
 abbrev μ-loop : tie.MeasureT-loop
-μ-loop netlist counts pos net number n k₀ rest₀ k rest = n - k
-
-add-wide : tie.Need-add-wide Inv-loop μ-loop
-add-wide c = search pick-cases
+μ-loop part counts number pins pin₀ rest₀ pin rest = pins - pin
 
 shared-slice-read-wide : tie.Need-shared-slice-read-wide Inv-loop μ-loop
 shared-slice-read-wide c = search pick-cases
@@ -31,11 +29,11 @@ add-loop c = search pick-cases
 pin-net-requires : tie.Need-pin-net-requires Inv-loop μ-loop
 pin-net-requires c κs = search pick-cases
 
-mul-c : tie.Need-mul-c Inv-loop μ-loop
-mul-c c = search pick-cases
+mul-count : tie.Need-mul-count Inv-loop μ-loop
+mul-count c = search pick-cases
 
-element-copy-out-c : tie.Need-element-copy-out-c Inv-loop μ-loop
-element-copy-out-c c = search pick-cases
+element-copy-out-count : tie.Need-element-copy-out-count Inv-loop μ-loop
+element-copy-out-count c = search pick-cases
 
 returns : tie.Need-returns Inv-loop μ-loop
 returns c = search pick-cases
@@ -43,8 +41,8 @@ returns c = search pick-cases
 sub-rest : tie.Need-sub-rest Inv-loop μ-loop
 sub-rest c = search pick-cases
 
-add-k : tie.Need-add-k Inv-loop μ-loop
-add-k c = search pick-cases
+add-pin : tie.Need-add-pin Inv-loop μ-loop
+add-pin c = search pick-cases
 
 loop-less : tie.Need-loop-less Inv-loop μ-loop
 loop-less c = search pick-cases
@@ -64,17 +62,16 @@ pick-pin-spec =
     (tie.spec
     Inv-loop
     μ-loop
-    add-wide
     shared-slice-read-wide
     wide-requires
     loop-holds
     add-loop
     pin-net-requires
-    mul-c
-    element-copy-out-c
+    mul-count
+    element-copy-out-count
     returns
     sub-rest
-    add-k
+    add-pin
     loop-less
     loop-again
     pin-net-requires-2

@@ -29,23 +29,32 @@ wide-word-requires-2 c κs = search needs
 returns-3 : tie.Need-returns-3
 returns-3 c = search reading-cases
 
-mul-from : tie.Need-mul-from
-mul-from c = search reading-cases
+outputs-part-requires : tie.Need-outputs-part-requires
+outputs-part-requires c κs = search reading-cases
 
-sub-from : tie.Need-sub-from
-sub-from c = search reading-cases
+mul-output-net : tie.Need-mul-output-net
+mul-output-net c = search needs
 
-mul-u16-at : tie.Need-mul-u16-at
-mul-u16-at c = search needs
+sub-output-net : tie.Need-sub-output-net
+sub-output-net c = search reading-cases
 
-add-u16-at : tie.Need-add-u16-at
-add-u16-at c = search needs
+part-output-net-start : tie.Need-part-output-net-start
+part-output-net-start c = search reading-cases
 
-add-u16-at-2 : tie.Need-add-u16-at-2
-add-u16-at-2 c = search needs
+part-output-net-end : tie.Need-part-output-net-end
+part-output-net-end c = search needs
 
-u16-at-requires : tie.Need-u16-at-requires
-u16-at-requires c κs = search reading-cases
+output-net-requires : tie.Need-output-net-requires
+output-net-requires c κs = search reading-cases
+
+sub-number-of : tie.Need-sub-number-of
+sub-number-of c = search needs
+
+part-number-of-start : tie.Need-part-number-of-start
+part-number-of-start c = search needs
+
+part-number-of-end : tie.Need-part-number-of-end
+part-number-of-end c = search needs
 
 number-of-requires : tie.Need-number-of-requires
 number-of-requires c κs = search reading-cases
@@ -74,12 +83,15 @@ read-path-spec =
     shared-slice-read-wide-word-2
     wide-word-requires-2
     returns-3
-    mul-from
-    sub-from
-    mul-u16-at
-    add-u16-at
-    add-u16-at-2
-    u16-at-requires
+    outputs-part-requires
+    mul-output-net
+    sub-output-net
+    part-output-net-start
+    part-output-net-end
+    output-net-requires
+    sub-number-of
+    part-number-of-start
+    part-number-of-end
     number-of-requires
     returns-4
     outputs-before-requires

@@ -7,13 +7,13 @@ use borrow.Fn.PlainCycle.{Measures, is, falls, and}
 use Rattle.paths.proofs.writing.descend.Reads as descend
 use Rattle.paths.proofs.writing.descend.Kinds as descend-kinds
 use Rattle.paths.proofs.writing.+descend.Lts-descend as descend-lts
+use Rattle.netlist.proofs.inner.gate_part.Reads as gate-part-reads
 use Rattle.paths.proofs.pins.pick_pin.Reads as pick-pin-reads
-use Rattle.records.proofs.inner.wide_word.Reads as wide-word-reads
 use Rattle.paths.proofs.writing.+descend.{statement}
 use Rattle.paths.proofs.writing.+descend.Tie.{close}
 
 abbrev μ-descend : Measures 4 descend-kinds.ps ℕ
-μ-descend κs a = a .1 .1 .1 .0
+μ-descend κs a = a .1 .1 .1 .1 .0
 
 abbrev descend-at : ℕ → In 4 descend-kinds.ps
 descend-at t = and 4 descend-kinds.ps (is 4 descend-kinds.ps μ-descend t) descend.Pre
@@ -24,25 +24,19 @@ descend-below t = and 4 descend-kinds.ps (falls 4 descend-kinds.ps _<_ μ-descen
 -- what the calls of the body are asked and give
 abbrev descend-claims : ℕ → descend-lts.Claims
 descend-claims t = (
-  wide-word-reads.Asked,
-  wide-word-reads.Learnt,
+  gate-part-reads.Asked,
+  gate-part-reads.Learnt,
   pick-pin-reads.Asked,
   pick-pin-reads.Learnt,
   descend-below t,
   descend.Post,
 )
 
-descend-mul-wide-word : (t : ℕ) → descend-lts.Need-mul-wide-word (descend-claims t) (descend-at t) descend.Post
-descend-mul-wide-word t c = search descend-cases
-
-descend-element-copy-out-wide-word : (t : ℕ) → descend-lts.Need-element-copy-out-wide-word (descend-claims t) (descend-at t) descend.Post
-descend-element-copy-out-wide-word t c = search descend-cases
-
-descend-wide-word-requires : (t : ℕ) → descend-lts.Need-wide-word-requires (descend-claims t) (descend-at t) descend.Post
-descend-wide-word-requires t c κs = search descend-cases
-
 descend-returns : (t : ℕ) → descend-lts.Need-returns (descend-claims t) (descend-at t) descend.Post
 descend-returns t c = search descend-cases
+
+descend-gate-part-requires : (t : ℕ) → descend-lts.Need-gate-part-requires (descend-claims t) (descend-at t) descend.Post
+descend-gate-part-requires t c κs = search descend-cases
 
 descend-pick-pin-requires : (t : ℕ) → descend-lts.Need-pick-pin-requires (descend-claims t) (descend-at t) descend.Post
 descend-pick-pin-requires t c κs = search descend-cases
@@ -72,10 +66,8 @@ pub +descend-spec : {M : Type 1} → statement M
 +descend-spec = close μ-descend λ t. descend-lts.spec (descend-claims t)
     (descend-at t)
     descend.Post
-    (descend-mul-wide-word t)
-    (descend-element-copy-out-wide-word t)
-    (descend-wide-word-requires t)
     (descend-returns t)
+    (descend-gate-part-requires t)
     (descend-pick-pin-requires t)
     (descend-cast-path t)
     (descend-mul-path t)

@@ -1,15 +1,13 @@
 -- `paths::writing::write_path` meets its contract: output, pins and number of pins, over zeros, are the words of the path.
 -- Assumes nothing.
-use Rattle.paths.proofs.WritingCases.{writing-cases, end-room}
+use Rattle.paths.proofs.WordLaws.{end-room, same-words}
+use Rattle.paths.proofs.WritingCases.{writing-cases, picked-pin, end-back, end-fits}
 use borrow.Author.Needs.{needs}
 use Rattle.paths.proofs.writing.write_path.Statement.{statement}
 use Rattle.paths.proofs.writing.write_path.Tie as tie
 
-mul-from : tie.Need-mul-from
-mul-from c = search writing-cases
-
-sub-from : tie.Need-sub-from
-sub-from c = search writing-cases
+outputs-part-requires : tie.Need-outputs-part-requires
+outputs-part-requires c κs = search writing-cases
 
 pick-output-requires : tie.Need-pick-output-requires
 pick-output-requires c κs = search writing-cases
@@ -18,7 +16,10 @@ clear-requires : tie.Need-clear-requires
 clear-requires c κs = search needs
 
 cast-path : tie.Need-cast-path
-cast-path c = search writing-cases
+cast-path c =
+    let picked = c .before .before .before .before .before in
+    let start = picked .before .before .before .before in
+    picked-pin _ _ _ _ _ (start .pre .0) _ (picked .before .outputs-part .ensures) _ (picked .pick-output .ensures)
 
 slice-write-path : tie.Need-slice-write-path
 slice-write-path c = search needs
@@ -27,18 +28,36 @@ descend-requires : tie.Need-descend-requires
 descend-requires c κs = search writing-cases
 
 sub-path : tie.Need-sub-path
-sub-path c = search needs
+sub-path c =
+    let written = c .before .before in
+    let cleared = written .before .before .before .before .before in
+    let picked = cleared .before .before in
+    let start = picked .before .before .before .before in
+    end-back _ _ _ _ _ (start .pre .0) _ (picked .before .outputs-part .ensures) _ (picked .pick-output .ensures) (cleared .clear .last .0) _ _ (written .descend .ensures)
 
 cast-path-2 : tie.Need-cast-path-2
-cast-path-2 c = search writing-cases
+cast-path-2 c =
+    let written = c .before .before in
+    let cleared = written .before .before .before .before .before in
+    let picked = cleared .before .before in
+    let start = picked .before .before .before .before in
+    end-fits _ _ _ _ _ (start .pre .0) _ (picked .before .outputs-part .ensures) _ (picked .pick-output .ensures) (cleared .clear .last .0) _ _ (written .descend .ensures)
 
 slice-write-path-2 : tie.Need-slice-write-path-2
 slice-write-path-2 c =
-    let now = c .before .before .descend .last .1 .1 .1 .1 .1 .0 in
-    end-room _ _ now (c .before .before .before .before .before .before .before .before .before .pick-output .result .pin) (c .before .before .before .before .before .before .before .before .before .before .before .before .pre .1) (c .before .before .before .before .before .before .before .clear .ensures) (c .before .path2 .given)
+    let written = c .before .before in
+    let cleared = written .before .before .before .before .before in
+    let picked = cleared .before .before in
+    let start = picked .before .before .before .before in
+    end-room _ _ (written .descend .last .1 .1 .1 .1 .1 .1 .0) (picked .pick-output .result .pin) (start .pre .1) (cleared .clear .ensures) (c .before .path2 .given)
 
 same-length : tie.Need-same-length
-same-length c = search writing-cases
+same-length c =
+    let written = c .before .before in
+    let cleared = written .before .before .before .before .before in
+    let picked = cleared .before .before in
+    let start = picked .before .before .before .before in
+    same-words _ _ (written .descend .last .1 .1 .1 .1 .1 .1 .0) (picked .pick-output .result .pin) _ (start .pre .1) (cleared .clear .ensures) (c .before .path2 .given)
 
 returns : tie.Need-returns
 returns c = search writing-cases
@@ -47,8 +66,7 @@ pub write-path-spec : {M : Type 1} → statement M
 write-path-spec =
     tie.close
     (tie.spec
-    mul-from
-    sub-from
+    outputs-part-requires
     pick-output-requires
     clear-requires
     cast-path

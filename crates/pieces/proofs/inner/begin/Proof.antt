@@ -5,8 +5,8 @@ use borrow.Author.Needs.{needs}
 use Rattle.pieces.proofs.inner.begin.Statement.{statement}
 use Rattle.pieces.proofs.inner.begin.Tie as tie
 
-load-requires : tie.Need-load-requires
-load-requires c κs = search needs
+load-by-value-requires : tie.Need-load-by-value-requires
+load-by-value-requires c κs = search needs
 
 returns : tie.Need-returns
 returns c = search begin-cases
@@ -48,7 +48,7 @@ pub begin-spec : {M : Type 1} → statement M
 begin-spec =
     tie.close
     (tie.spec
-    load-requires
+    load-by-value-requires
     returns
     returns-2
     clear-requires

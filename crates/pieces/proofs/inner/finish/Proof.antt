@@ -29,20 +29,11 @@ clear-requires-2 c κs = search needs
 enum-told : tie.Need-enum-told
 enum-told c = search needs
 
-div-compare : tie.Need-div-compare
-div-compare c = search needs
+div-judge : tie.Need-div-judge
+div-judge c = search needs
 
-compare-requires : tie.Need-compare-requires
-compare-requires c κs = search end-cases
-
-enum-told-2 : tie.Need-enum-told-2
-enum-told-2 c = search needs
-
-enum-known-compared : tie.Need-enum-known-compared
-enum-known-compared c = search needs
-
-clear-requires-3 : tie.Need-clear-requires-3
-clear-requires-3 c κs = search needs
+judge-requires : tie.Need-judge-requires
+judge-requires c κs = search end-cases
 
 same-length-2 : tie.Need-same-length-2
 same-length-2 c = search needs
@@ -56,12 +47,6 @@ same-length-3 c = search needs
 returns-3 : tie.Need-returns-3
 returns-3 c = search end-cases
 
-same-length-4 : tie.Need-same-length-4
-same-length-4 c = search needs
-
-returns-4 : tie.Need-returns-4
-returns-4 c = search end-cases
-
 pub finish-spec : {M : Type 1} → statement M
 finish-spec =
     tie.close
@@ -74,14 +59,9 @@ finish-spec =
     enum-known-taken
     clear-requires-2
     enum-told
-    div-compare
-    compare-requires
-    enum-told-2
-    enum-known-compared
-    clear-requires-3
+    div-judge
+    judge-requires
     same-length-2
     returns-2
     same-length-3
-    returns-3
-    same-length-4
-    returns-4)
+    returns-3)

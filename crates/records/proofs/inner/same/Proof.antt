@@ -13,7 +13,8 @@ use Rattle.records.proofs.inner.same.Tie as tie
 
 abbrev Inv-loop : tie.InvT-loop
 Inv-loop s at k number place₀ left₀ rest₀ place left rest =
-    (place + left ≡ at + k) × (sameBytes (take left (drop place s)) (littleEndian left rest) ≡ sameBytes (take k (drop at s)) (littleEndian k number))
+    (place + left ≡ at + k)
+    × (sameBytes (take left (drop place s)) (littleEndian left rest) ≡ sameBytes (take k (drop at s)) (littleEndian k number))
 
 abbrev μ-loop : tie.MeasureT-loop
 μ-loop s at k number place₀ left₀ rest₀ place left rest = left

@@ -1,5 +1,8 @@
 -- `report::inner::same_report` meets its contract: the first part that differs decides.
 -- Assumes nothing.
+use native.Mathlib.Omega.{arith}
+use Rattle.model.specs.Path.{rising, falling}
+use Rattle.report.proofs.PartLaws.{edge-few}
 use Rattle.report.proofs.ReportCases.{report-cases}
 use borrow.Author.Needs.{needs}
 use Rattle.report.proofs.inner.same_report.Statement.{statement}
@@ -8,11 +11,11 @@ use Rattle.report.proofs.inner.same_report.Tie as tie
 totals-of-requires : tie.Need-totals-of-requires
 totals-of-requires c κs = search needs
 
-shared-slice-read-rising : tie.Need-shared-slice-read-rising
-shared-slice-read-rising c = search needs
+edge-runs-requires : tie.Need-edge-runs-requires
+edge-runs-requires c κs = search needs
 
-shared-slice-read-falling : tie.Need-shared-slice-read-falling
-shared-slice-read-falling c = search needs
+edge-runs-requires-2 : tie.Need-edge-runs-requires-2
+edge-runs-requires-2 c κs = search needs
 
 mul-at : tie.Need-mul-at
 mul-at c = search needs
@@ -24,7 +27,9 @@ mul-if1 : tie.Need-mul-if1
 mul-if1 c = search needs
 
 add-if1 : tie.Need-add-if1
-add-if1 c = search needs
+add-if1 c =
+    let sound = c .before .before .before .before .before .pre in
+    omega (arith, edge-few sound rising (c .before .edge-runs .ensures), edge-few sound falling (c .edge-runs2 .ensures))
 
 returns : tie.Need-returns
 returns c = search report-cases
@@ -35,14 +40,14 @@ same-head-requires c κs = search needs
 returns-2 : tie.Need-returns-2
 returns-2 c = search report-cases
 
-same-runs-requires : tie.Need-same-runs-requires
-same-runs-requires c κs = search needs
+same-words-requires : tie.Need-same-words-requires
+same-words-requires c κs = search needs
 
 returns-3 : tie.Need-returns-3
 returns-3 c = search report-cases
 
-same-runs-requires-2 : tie.Need-same-runs-requires-2
-same-runs-requires-2 c κs = search needs
+same-words-requires-2 : tie.Need-same-words-requires-2
+same-words-requires-2 c κs = search needs
 
 returns-4 : tie.Need-returns-4
 returns-4 c = search report-cases
@@ -52,8 +57,8 @@ same-report-spec =
     tie.close
     (tie.spec
     totals-of-requires
-    shared-slice-read-rising
-    shared-slice-read-falling
+    edge-runs-requires
+    edge-runs-requires-2
     mul-at
     add-at
     mul-if1
@@ -61,7 +66,7 @@ same-report-spec =
     returns
     same-head-requires
     returns-2
-    same-runs-requires
+    same-words-requires
     returns-3
-    same-runs-requires-2
+    same-words-requires-2
     returns-4)

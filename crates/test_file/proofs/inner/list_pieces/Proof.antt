@@ -10,12 +10,12 @@ use Rattle.test_file.proofs.inner.list_pieces.Statement.{statement}
 use Rattle.test_file.proofs.inner.list_pieces.Tie as tie
 
 abbrev Inv-loop : tie.InvT-loop
-Inv-loop fd to netlist loaded class space₀ store₀ work₀ out₀ bytes full least size place₀ so-far₀ space store work out place so-far =
+Inv-loop netlist loaded class space₀ store₀ work₀ out₀ from to full size place₀ so-far₀ space store work out place so-far =
     ListedSoFar netlist loaded class full (length space₀) work₀ place so-far space store work out
     × (length space ≡ length space₀) × (length store ≡ length store₀) × (length work ≡ length work₀) × (length out ≡ length out₀)
 
 abbrev μ-loop : tie.MeasureT-loop
-μ-loop fd to netlist loaded class space₀ store₀ work₀ out₀ bytes full least size place₀ so-far₀ space store work out place so-far =
+μ-loop netlist loaded class space₀ store₀ work₀ out₀ from to full size place₀ so-far₀ space store work out place so-far =
     9223372036854775808 - so-far
 
 record-length-requires : tie.Need-record-length-requires Inv-loop μ-loop
@@ -23,9 +23,6 @@ record-length-requires c κs = search listing-cases
 
 whole-part-requires : tie.Need-whole-part-requires Inv-loop μ-loop
 whole-part-requires c κs = search needs
-
-full-piece-requires : tie.Need-full-piece-requires Inv-loop μ-loop
-full-piece-requires c κs = search needs
 
 file-size-requires : tie.Need-file-size-requires Inv-loop μ-loop
 file-size-requires c κs = search needs
@@ -57,9 +54,12 @@ write-all-requires c κs = search needs
 add-so-far : tie.Need-add-so-far Inv-loop μ-loop
 add-so-far c =
     let here = c .before .before .before .before .before .before .before .before .before .before .before .before .before .before .before in
-    let before = here .before .before .before .before .before .before in
-    let start = before .before .before .before .before .before .before .before in
-    omega (arith, here .read-part .ensures .1, here .before .before .loop-test .taken, before .whole-part .ensures .0, start .pre .1 .1)
+    let before = here .before .before .before .before .before in
+    let start = before .before .before .before .before .before .before .before .before .before in
+    omega (arith, here .read-part .ensures .1, here .before .before .loop-test .taken, before .whole-part .ensures .0, start .pre .2)
+
+full-piece-requires : tie.Need-full-piece-requires Inv-loop μ-loop
+full-piece-requires c κs = search needs
 
 at-end-requires : tie.Need-at-end-requires Inv-loop μ-loop
 at-end-requires c κs = search needs
@@ -111,7 +111,6 @@ list-pieces-spec =
     μ-loop
     record-length-requires
     whole-part-requires
-    full-piece-requires
     file-size-requires
     loop-holds
     read-part-requires
@@ -122,6 +121,7 @@ list-pieces-spec =
     slice-aggregate-write-all
     write-all-requires
     add-so-far
+    full-piece-requires
     at-end-requires
     same-length
     same-length-2

@@ -5,8 +5,8 @@ use borrow.Author.Needs.{needs}
 use Rattle.test_file.proofs.walking.walk_file.Statement.{statement}
 use Rattle.test_file.proofs.walking.walk_file.Tie as tie
 
-take-pieces-requires : tie.Need-take-pieces-requires
-take-pieces-requires c κs = search needs
+apply-pieces-requires : tie.Need-apply-pieces-requires
+apply-pieces-requires c κs = search needs
 
 end-progress-requires : tie.Need-end-progress-requires
 end-progress-requires c κs = search needs
@@ -30,7 +30,7 @@ returns : tie.Need-returns
 returns c =
     let tested = c .before .whole-length in
     let each = c .before .before .record-length in
-    let walked = c .before .before .before .before .before .before .before .before .before .before .take-pieces in
+    let walked = c .before .before .before .before .before .before .before .before .before .before .apply-pieces in
     file-whole (walked .result) _ _ _ _ _ _ _ (walked .ensures) (each .result) (each .ensures .0) (tested .result) (tested .ensures) (c .if1 .taken)
 
 clear-requires : tie.Need-clear-requires
@@ -51,14 +51,14 @@ returns-2 c =
     let other = c .before .before .before .before .if1 .left in
     let tested = c .before .before .before .before .before .whole-length in
     let each = c .before .before .before .before .before .before .record-length in
-    let walked = c .before .before .before .before .before .before .before .before .before .before .before .before .before .before .take-pieces in
+    let walked = c .before .before .before .before .before .before .before .before .before .before .before .before .before .before .apply-pieces in
     file-cut (walked .result) _ _ _ _ _ _ _ (walked .ensures) (each .result) (each .ensures .0) (tested .result) (tested .ensures) other _ (cleared .ensures)
 
 pub walk-file-spec : {M : Type 1} → statement M
 walk-file-spec =
     tie.close
     (tie.spec
-    take-pieces-requires
+    apply-pieces-requires
     end-progress-requires
     record-length-requires
     whole-length-requires

@@ -27,27 +27,28 @@ loop-holds c =
     (s .0, s .1, p .0, p .1)
 
 seek-requires : tie.Need-seek-requires Inv-loop μ-loop
-seek-requires c κs =
-    c .loop .inv .2
+seek-requires c κs = c .loop .inv .2
 
 seek-requires-2 : tie.Need-seek-requires-2 Inv-loop μ-loop
-seek-requires-2 c κs =
-    c .before .loop .inv .3
+seek-requires-2 c κs = c .before .loop .inv .3
 
 compare-at-requires : tie.Need-compare-at-requires Inv-loop μ-loop
-compare-at-requires c κs =
-    (c .before .seek .ensures, c .seek2 .ensures)
+compare-at-requires c κs = (c .before .seek .ensures, c .seek2 .ensures)
 
 enum-told : tie.Need-enum-told Inv-loop μ-loop
 enum-told c = search needs
 
 returns : tie.Need-returns Inv-loop μ-loop
 returns c =
-    let a = c .before .before .before .before .before .before .before .before .args in
-    let l = c .before .before .before .before .before .loop in
-    let x = c .before .before .compare-at in
-    let here = c .before .before .before .before .seek in
-    let there = c .before .before .before .seek2 in
+    let at-compare-at = c .before .before in
+    let at-seek2 = at-compare-at .before in
+    let at-seek = at-seek2 .before in
+    let at-loop = at-seek .before in
+    let a = at-loop .before .before .before .args in
+    let l = at-loop .loop in
+    let x = at-compare-at .compare-at in
+    let here = at-seek .seek in
+    let there = at-seek2 .seek2 in
     (first-found (a .a .now) (a .b .now) (a .from) (l .number) (l .inv .0) (l .inv .1) (x .result) (x .ensures) _ (c .enum-told .given .1), here .ensures .0, there .ensures .0)
 
 enum-known-found : tie.Need-enum-known-found Inv-loop μ-loop
@@ -55,24 +56,36 @@ enum-known-found c = search needs
 
 loop-less : tie.Need-loop-less Inv-loop μ-loop
 loop-less c =
-    let a = c .before .before .before .before .before .before .before .before .before .args in
-    let l = c .before .before .before .before .before .before .loop in
-    let x = c .before .before .before .compare-at in
-    let here = c .before .before .before .before .before .seek in
-    let there = c .before .before .before .before .seek2 in
-    let g = c .before .found .given in
-    let t = first-later (a .a .now) (a .b .now) (a .from) (l .number) (l .inv .0) (l .inv .1) (x .result) (x .ensures) (g .0 .0) (g .1) in
+    let at-found = c .before in
+    let at-compare-at = at-found .before .before in
+    let at-seek2 = at-compare-at .before in
+    let at-seek = at-seek2 .before in
+    let at-loop = at-seek .before in
+    let a = at-loop .before .before .before .args in
+    let l = at-loop .loop in
+    let x = at-compare-at .compare-at in
+    let here = at-seek .seek in
+    let there = at-seek2 .seek2 in
+    let g = at-found .found .given in
+    let t =
+    first-later (a .a .now) (a .b .now) (a .from) (l .number) (l .inv .0) (l .inv .1) (x .result) (x .ensures) (g .0 .0) (g .1) in
     omega (arith, t .0, c .known-told .given .0 .1)
 
 loop-again : tie.Need-loop-again Inv-loop μ-loop
 loop-again c =
-    let a = c .before .before .before .before .before .before .before .before .before .args in
-    let l = c .before .before .before .before .before .before .loop in
-    let x = c .before .before .before .compare-at in
-    let here = c .before .before .before .before .before .seek in
-    let there = c .before .before .before .before .seek2 in
-    let g = c .before .found .given in
-    let t = first-later (a .a .now) (a .b .now) (a .from) (l .number) (l .inv .0) (l .inv .1) (x .result) (x .ensures) (g .0 .0) (g .1) in
+    let at-found = c .before in
+    let at-compare-at = at-found .before .before in
+    let at-seek2 = at-compare-at .before in
+    let at-seek = at-seek2 .before in
+    let at-loop = at-seek .before in
+    let a = at-loop .before .before .before .args in
+    let l = at-loop .loop in
+    let x = at-compare-at .compare-at in
+    let here = at-seek .seek in
+    let there = at-seek2 .seek2 in
+    let g = at-found .found .given in
+    let t =
+    first-later (a .a .now) (a .b .now) (a .from) (l .number) (l .inv .0) (l .inv .1) (x .result) (x .ensures) (g .0 .0) (g .1) in
     let i : l .number ≤ g .0 .0 = omega (arith, t .0) in (
       t .1,
       t .2,
@@ -85,11 +98,15 @@ enum-told-2 c = search needs
 
 returns-2 : tie.Need-returns-2 Inv-loop μ-loop
 returns-2 c =
-    let a = c .before .before .before .before .before .before .before .before .args in
-    let l = c .before .before .before .before .before .loop in
-    let x = c .before .before .compare-at in
-    let here = c .before .before .before .before .seek in
-    let there = c .before .before .before .seek2 in
+    let at-compare-at = c .before .before in
+    let at-seek2 = at-compare-at .before in
+    let at-seek = at-seek2 .before in
+    let at-loop = at-seek .before in
+    let a = at-loop .before .before .before .args in
+    let l = at-loop .loop in
+    let x = at-compare-at .compare-at in
+    let here = at-seek .seek in
+    let there = at-seek2 .seek2 in
     first-none (a .a .now) (a .b .now) (a .from) (l .number) (l .inv .0) (l .inv .1) (x .result) (x .ensures) (c .enum-told2 .given .1)
 
 pub first-only-spec : {M : Type 1} → statement M

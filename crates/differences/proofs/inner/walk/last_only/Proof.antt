@@ -34,46 +34,55 @@ add-seek : tie.Need-add-seek Inv-loop μ-loop
 add-seek c = search needs
 
 seek-requires : tie.Need-seek-requires Inv-loop μ-loop
-seek-requires c κs =
-    c .before .loop .inv .2
+seek-requires c κs = c .before .loop .inv .2
 
 add-seek-2 : tie.Need-add-seek-2 Inv-loop μ-loop
 add-seek-2 c = search needs
 
 seek-requires-2 : tie.Need-seek-requires-2 Inv-loop μ-loop
-seek-requires-2 c κs =
-    c .before .before .loop .inv .3
+seek-requires-2 c κs = c .before .before .loop .inv .3
 
 add-compare-at : tie.Need-add-compare-at Inv-loop μ-loop
 add-compare-at c = search needs
 
 compare-at-requires : tie.Need-compare-at-requires Inv-loop μ-loop
-compare-at-requires c κs =
-    (c .before .seek .ensures, c .seek2 .ensures)
+compare-at-requires c κs = (c .before .seek .ensures, c .seek2 .ensures)
 
 enum-known-found : tie.Need-enum-known-found Inv-loop μ-loop
 enum-known-found c = search needs
 
 loop-less : tie.Need-loop-less Inv-loop μ-loop
 loop-less c =
-    let a = c .before .before .before .before .before .before .before .before .before .before .args in
-    let l = c .before .before .before .before .before .before .before .loop in
-    let x = c .before .before .before .compare-at in
-    let here = c .before .before .before .before .before .seek in
-    let there = c .before .before .before .before .seek2 in
-    let g = c .before .found .given in
-    let t = last-later (a .a .now) (a .b .now) (a .low) (l .high) (l .inv .0) (l .inv .1) (x .result) (x .ensures) (g .0 .0) (g .1) in
+    let at-found = c .before in
+    let at-compare-at = at-found .before .before in
+    let at-seek2 = at-compare-at .before in
+    let at-seek = at-seek2 .before in
+    let at-loop = at-seek .before .before in
+    let a = at-loop .before .before .before .args in
+    let l = at-loop .loop in
+    let x = at-compare-at .compare-at in
+    let here = at-seek .seek in
+    let there = at-seek2 .seek2 in
+    let g = at-found .found .given in
+    let t =
+    last-later (a .a .now) (a .b .now) (a .low) (l .high) (l .inv .0) (l .inv .1) (x .result) (x .ensures) (g .0 .0) (g .1) in
     omega (arith, t .0, c .known-told .given .0 .1)
 
 loop-again : tie.Need-loop-again Inv-loop μ-loop
 loop-again c =
-    let a = c .before .before .before .before .before .before .before .before .before .before .args in
-    let l = c .before .before .before .before .before .before .before .loop in
-    let x = c .before .before .before .compare-at in
-    let here = c .before .before .before .before .before .seek in
-    let there = c .before .before .before .before .seek2 in
-    let g = c .before .found .given in
-    let t = last-later (a .a .now) (a .b .now) (a .low) (l .high) (l .inv .0) (l .inv .1) (x .result) (x .ensures) (g .0 .0) (g .1) in
+    let at-found = c .before in
+    let at-compare-at = at-found .before .before in
+    let at-seek2 = at-compare-at .before in
+    let at-seek = at-seek2 .before in
+    let at-loop = at-seek .before .before in
+    let a = at-loop .before .before .before .args in
+    let l = at-loop .loop in
+    let x = at-compare-at .compare-at in
+    let here = at-seek .seek in
+    let there = at-seek2 .seek2 in
+    let g = at-found .found .given in
+    let t =
+    last-later (a .a .now) (a .b .now) (a .low) (l .high) (l .inv .0) (l .inv .1) (x .result) (x .ensures) (g .0 .0) (g .1) in
     let i : l .high + 1 ≤ g .0 .0 + 1 = omega (arith, t .0) in (
       t .1,
       t .2,
@@ -95,20 +104,28 @@ returns c =
 
 returns-2 : tie.Need-returns-2 Inv-loop μ-loop
 returns-2 c =
-    let a = c .before .before .before .before .before .before .before .before .before .args in
-    let l = c .before .before .before .before .before .before .loop in
-    let x = c .before .before .compare-at in
-    let here = c .before .before .before .before .seek in
-    let there = c .before .before .before .seek2 in
+    let at-compare-at = c .before .before in
+    let at-seek2 = at-compare-at .before in
+    let at-seek = at-seek2 .before in
+    let at-loop = at-seek .before .before in
+    let a = at-loop .before .before .before .args in
+    let l = at-loop .loop in
+    let x = at-compare-at .compare-at in
+    let here = at-seek .seek in
+    let there = at-seek2 .seek2 in
     (last-before (a .a .now) (a .b .now) (a .low) (l .high) (l .inv .0) (l .inv .1) (x .result) (x .ensures) _ (c .enum-told .given .1), here .ensures .0, there .ensures .0)
 
 returns-3 : tie.Need-returns-3 Inv-loop μ-loop
 returns-3 c =
-    let a = c .before .before .before .before .before .before .before .before .before .args in
-    let l = c .before .before .before .before .before .before .loop in
-    let x = c .before .before .compare-at in
-    let here = c .before .before .before .before .seek in
-    let there = c .before .before .before .seek2 in
+    let at-compare-at = c .before .before in
+    let at-seek2 = at-compare-at .before in
+    let at-seek = at-seek2 .before in
+    let at-loop = at-seek .before .before in
+    let a = at-loop .before .before .before .args in
+    let l = at-loop .loop in
+    let x = at-compare-at .compare-at in
+    let here = at-seek .seek in
+    let there = at-seek2 .seek2 in
     (last-end (a .a .now) (a .b .now) (a .low) (l .high) (l .inv .0) (l .inv .1) (x .result) (x .ensures) (c .enum-told2 .given .1), here .ensures .0, there .ensures .0)
 
 pub last-only-spec : {M : Type 1} → statement M

@@ -17,25 +17,32 @@ enum-known-first c = search needs
 
 last-only-requires : tie.Need-last-only-requires
 last-only-requires c κs =
-    let a = c .before .before .before .before .before .before .args in
-    let f = c .before .before .before .first-only in
-    let g = c .before .first .given in
-    let t = start-as (f .result .i) (f .result .j) (a .a .now) (a .b .now) (a .from) (f .result .first) (first.At (g .0 .0)) (f .ensures) (g .1) in
+    let at-first = c .before in
+    let at-first-only = at-first .before .before in
+    let a = at-first-only .before .before .before .args in
+    let f = at-first-only .first-only in
+    let g = at-first .first .given in
+    let t =
+    start-as (f .result .i) (f .result .j) (a .a .now) (a .b .now) (a .from) (f .result .first) (first.At (g .0 .0)) (f .ensures) (g .1) in
     (t .1, t .2, t .0 .2)
 
 returns : tie.Need-returns
 returns c =
     let a = c .before .before .before .before .before .args in
     let f = c .before .before .first-only in
-    let t = start-as (f .result .i) (f .result .j) (a .a .now) (a .b .now) (a .from) (f .result .first) first.Nothing (f .ensures) (c .enum-told .given .1) in
+    let t =
+    start-as (f .result .i) (f .result .j) (a .a .now) (a .b .now) (a .from) (f .result .first) first.Nothing (f .ensures) (c .enum-told .given .1) in
     t
 
 returns-2 : tie.Need-returns-2
 returns-2 c =
-    let a = c .before .before .before .before .before .before .before .args in
-    let f = c .before .before .before .before .first-only in
-    let g = c .before .before .first .given in
-    let t = start-as (f .result .i) (f .result .j) (a .a .now) (a .b .now) (a .from) (f .result .first) (first.At (g .0 .0)) (f .ensures) (g .1) in
+    let at-first = c .before .before in
+    let at-first-only = at-first .before .before in
+    let a = at-first-only .before .before .before .args in
+    let f = at-first-only .first-only in
+    let g = at-first .first .given in
+    let t =
+    start-as (f .result .i) (f .result .j) (a .a .now) (a .b .now) (a .from) (f .result .first) (first.At (g .0 .0)) (f .ensures) (g .1) in
     let l = c .last-only .ensures in
     ((t .0 .0, t .0 .1, l .0), l .1, l .2)
 

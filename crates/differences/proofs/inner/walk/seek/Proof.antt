@@ -2,7 +2,6 @@
 -- Assumes nothing.
 use borrow.Author.Needs.{needs}
 use Prim.Native.Nat.{_-_}
-use native.Mathlib.Omega.{arith}
 use Rattle.differences.specs.Differences.{Passed}
 use Rattle.differences.proofs.RunCases.{passed-run, reached-run, reached-end}
 use Rattle.differences.proofs.inner.walk.seek.Statement.{statement}

@@ -1,7 +1,6 @@
 -- `differences::inner::walk::standing_at` meets its contract: the run at the place tells.
 -- Assumes nothing.
 use borrow.Author.Needs.{needs}
-use native.Mathlib.Omega.{arith}
 use Rattle.differences.proofs.RunCases.{past-all, before-run, inside-run}
 use Rattle.differences.proofs.inner.walk.standing_at.Statement.{statement}
 use Rattle.differences.proofs.inner.walk.standing_at.Tie as tie

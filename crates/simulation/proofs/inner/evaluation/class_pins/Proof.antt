@@ -13,15 +13,13 @@ robust-pins-requires : tie.Need-robust-pins-requires
 robust-pins-requires c κs = search needs
 
 returns : tie.Need-returns
-returns c =
-    class-robust _ _ _ (c .before .before .pre) (c .before .before .args .class) (c .robust-pins .result) (c .before .if1 .taken) (c .robust-pins .ensures)
+returns c = search (class-robust, needs)
 
 open-pins-requires : tie.Need-open-pins-requires
 open-pins-requires c κs = search needs
 
 returns-2 : tie.Need-returns-2
-returns-2 c =
-    class-other _ _ _ (c .before .before .pre) (c .before .before .args .class) (c .open-pins .result) (c .before .if1 .left) (c .open-pins .ensures)
+returns-2 c = search (class-other, needs)
 
 pub class-pins-spec : {M : Type 1} → statement M
 class-pins-spec = tie.close (tie.spec robust-pins-requires returns open-pins-requires returns-2)

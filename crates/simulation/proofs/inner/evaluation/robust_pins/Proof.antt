@@ -10,7 +10,7 @@ use Rattle.simulation.proofs.inner.gates.all_pins.Reads as all-pins-rea
 use Rattle.simulation.proofs.inner.gates.open_set.Reads as open-set-reads
 
 all-pins-requires : tie.Need-all-pins-requires
-all-pins-requires c κs = pins-few (c .before .args .kind) (c .before .args .pins) (c .before .args .states) (c .before .pre)
+all-pins-requires c κs = search (pins-few, needs)
 
 sub-open-set : tie.Need-sub-open-set
 sub-open-set c = search needs
@@ -43,30 +43,19 @@ sub-result-2 : tie.Need-sub-result-2
 sub-result-2 c = search needs
 
 returns : tie.Need-returns
-returns c =
-    robust-3 _ _ _ (c .before .before .before .before .before .before .pre) (c .before .before .before .before .all-pins .result) (c .before .before .before .before .all-pins .ensures)
-    (c .before .before .open-set .result) (c .before .before .open-set .ensures) (c .open-set2 .result) (c .open-set2 .ensures) (c .before .match .keys1)
+returns c = search (robust-3, needs)
 
 returns-2 : tie.Need-returns-2
-returns-2 c =
-    robust-4 _ _ _ (c .before .before .before .before .before .before .pre) (c .before .before .before .before .all-pins .result) (c .before .before .before .before .all-pins .ensures)
-    (c .before .before .open-set .result) (c .before .before .open-set .ensures) (c .open-set3 .result) (c .open-set3 .ensures) (c .before .match .keys2)
+returns-2 c = search (robust-4, needs)
 
 returns-3 : tie.Need-returns-3
-returns-3 c =
-    robust-5 _ _ _ (c .before .before .before .before .before .before .pre) (c .before .before .before .before .all-pins .result) (c .before .before .before .before .all-pins .ensures)
-    (c .before .before .open-set .result) (c .before .before .open-set .ensures) (c .open-set4 .result) (c .open-set4 .ensures) (c .before .match .keys3)
+returns-3 c = search (robust-5, needs)
 
 returns-4 : tie.Need-returns-4
-returns-4 c =
-    robust-6 _ _ _ (c .before .before .before .before .before .before .pre) (c .before .before .before .before .all-pins .result) (c .before .before .before .before .all-pins .ensures)
-    (c .before .before .open-set .result) (c .before .before .open-set .ensures) (c .open-set5 .result) (c .open-set5 .ensures) (c .before .match .keys4)
+returns-4 c = search (robust-6, needs)
 
 returns-5 : tie.Need-returns-5
-returns-5 c =
-    let r = c .match .rest in
-    robust-rest _ _ _ (c .before .before .before .before .before .pre) (c .before .before .before .all-pins .result) (c .before .before .before .all-pins .ensures)
-    (c .before .open-set .result) (c .before .open-set .ensures) (r .0 .0 .0 .1) (r .0 .0 .1) (r .0 .1) (r .1)
+returns-5 c = search (robust-rest, needs)
 
 pub robust-pins-spec : {M : Type 1} → statement M
 robust-pins-spec =

@@ -10,75 +10,57 @@ use Rattle.records.proofs.inner.begins_with.Reads as begins-with-reads
 use Rattle.records.proofs.inner.spare_zero.Reads as spare-zero-reads
 use Rattle.simulation.proofs.inner.test_record.vector_bytes.Reads as vector-bytes-reads
 
--- src/test_record.rt:43:9
 vector-bytes-requires : tie.Need-vector-bytes-requires
 vector-bytes-requires c κs = search needs
 
--- src/test_record.rt:44:26
 mul-if1 : tie.Need-mul-if1
 mul-if1 c = search needs
 
--- src/test_record.rt:44:22
 add-if1 : tie.Need-add-if1
 add-if1 c = search needs
 
--- src/test_record.rt:45:9
 returns : tie.Need-returns
 returns c = search record-cases
 
--- src/test_record.rt:47:9
 begins-with-requires : tie.Need-begins-with-requires
 begins-with-requires c κs = search needs
 
--- src/test_record.rt:49:9
 returns-2 : tie.Need-returns-2
 returns-2 c = search record-cases
 
--- src/test_record.rt:51:37
 sub-spare-zero : tie.Need-sub-spare-zero
 sub-spare-zero c = search needs
 
--- src/test_record.rt:51:37
 part-spare-zero-start : tie.Need-part-spare-zero-start
 part-spare-zero-start c = search needs
 
--- src/test_record.rt:51:37
 part-spare-zero-end : tie.Need-part-spare-zero-end
 part-spare-zero-end c = search needs
 
--- src/test_record.rt:51:9
 spare-zero-requires : tie.Need-spare-zero-requires
 spare-zero-requires c κs = search needs
 
--- src/test_record.rt:53:9
 returns-3 : tie.Need-returns-3
 returns-3 c = search record-cases
 
--- src/test_record.rt:55:43
 add-spare-zero : tie.Need-add-spare-zero
 add-spare-zero c = search needs
 
--- src/test_record.rt:55:37
 sub-spare-zero-2 : tie.Need-sub-spare-zero-2
 sub-spare-zero-2 c = search needs
 
--- src/test_record.rt:55:37
 part-spare-zero-start-2 : tie.Need-part-spare-zero-start-2
 part-spare-zero-start-2 c = search needs
 
--- src/test_record.rt:55:37
 part-spare-zero-end-2 : tie.Need-part-spare-zero-end-2
 part-spare-zero-end-2 c = search needs
 
--- src/test_record.rt:55:9
 spare-zero-requires-2 : tie.Need-spare-zero-requires-2
 spare-zero-requires-2 c κs = search needs
 
--- src/test_record.rt:57:9
 returns-4 : tie.Need-returns-4
 returns-4 c = search record-cases
 
--- src/test_record.rt:39:1
 returns-5 : tie.Need-returns-5
 returns-5 c = search record-cases
 

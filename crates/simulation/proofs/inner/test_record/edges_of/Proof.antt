@@ -6,7 +6,6 @@ use Rattle.simulation.proofs.inner.test_record.edges_of.Tie as tie
 use Rattle.simulation.proofs.inner.test_record.edges_of.Reads as reads
 use Rattle.simulation.proofs.inner.test_record.edges_of.Lts as lts
 
--- src/test_record.rt:88:1
 returns : tie.Need-returns
 returns c = edges-true (c .args .tested)
 

@@ -42,8 +42,9 @@ word-of-requires-2 c κs = search needs
 
 returns : tie.Need-returns
 returns c =
-    let a = c .before .before .before .before .before .before in
-    vectors-true (a .args .test .now) (a .args .inputs) (c .before .before .before .before .vector-bytes .result) (λ i. omega (arith, c .before .before .before .before .before .shared-slice-known .given i)) (c .before .before .before .before .vector-bytes .ensures .0) (a .pre .1) _
+    let bytes = c .before .before .before .before in
+    let known = bytes .before in
+    vectors-true (λ i. omega (arith, known .shared-slice-known .given i)) (bytes .vector-bytes .ensures .0) (known .before .pre .1)
     (c .before .before .word-of .ensures) (c .word-of2 .ensures)
 
 pub read-vectors-spec : {M : Type 1} → statement M

@@ -22,7 +22,9 @@ sub-k : tie.Need-sub-k Inv-loop μ-loop
 sub-k c = search needs
 
 mul-word : tie.Need-mul-word Inv-loop μ-loop
-mul-word c = omega (arith, read-room (c .before .before .before .args .part .now) (c .before .before .before .args .bytes) (c .before .before .before .pre .0) (c .before .before .before .pre .1) (c .before .loop .word) (c .before .loop .k) (c .before .loop .inv) (c .loop-test .taken))
+mul-word c =
+    let a = c .before .before .before in
+    omega (arith, read-room (a .pre .0) (a .pre .1) (c .before .loop .inv) (c .loop-test .taken))
 
 shared-slice-read-wide : tie.Need-shared-slice-read-wide Inv-loop μ-loop
 shared-slice-read-wide c = omega (arith, c .before .before .loop .inv .within, c .before .before .before .before .pre .1)
@@ -31,16 +33,24 @@ wide-requires : tie.Need-wide-requires Inv-loop μ-loop
 wide-requires c κs = search needs
 
 add-word : tie.Need-add-word Inv-loop μ-loop
-add-word c = omega (arith, c .wide .ensures .1, read-room (c .before .before .before .before .before .args .part .now) (c .before .before .before .before .before .args .bytes) (c .before .before .before .before .before .pre .0) (c .before .before .before .before .before .pre .1) (c .before .before .before .loop .word) (c .before .before .before .loop .k) (c .before .before .before .loop .inv) (c .before .before .loop-test .taken))
+add-word c =
+    let l = c .before .before .before in
+    let a = l .before .before in
+    omega (arith, c .wide .ensures .1, read-room (a .pre .0) (a .pre .1) (l .loop .inv) (c .before .before .loop-test .taken))
 
 loop-less : tie.Need-loop-less Inv-loop μ-loop
 loop-less c = search needs
 
 loop-again : tie.Need-loop-again Inv-loop μ-loop
-loop-again c = read-step (c .before .before .before .before .before .args .part .now) (c .before .before .before .before .before .args .bytes) (c .before .before .before .before .before .pre .0) (c .before .before .before .before .before .pre .1) (c .before .before .before .loop .word) (c .before .before .before .loop .k) (c .before .before .before .loop .inv) (c .wide .result) (c .before .before .loop-test .taken) (c .wide .ensures .1) (c .wide .ensures .0)
+loop-again c =
+    let l = c .before .before .before in
+    let a = l .before .before in
+    read-step (a .pre .0) (a .pre .1) (l .loop .inv) (c .before .before .loop-test .taken) (c .wide .ensures .1) (c .wide .ensures .0)
 
 returns : tie.Need-returns Inv-loop μ-loop
-returns c = read-done (c .before .before .before .args .part .now) (c .before .before .before .args .bytes) (c .before .before .before .pre .0) (c .before .before .before .pre .1) (c .before .loop .word) (c .before .loop .k) (c .before .loop .inv) (search needs)
+returns c =
+    let a = c .before .before .before in
+    read-done (a .pre .0) (a .pre .1) (c .before .loop .inv) (search needs)
 
 pub word-of-spec : {M : Type 1} → statement M
 word-of-spec =

@@ -1,0 +1,121 @@
+-- What was made of both edges, as the place Work.
+-- Assumes nothing.
+use mathlib.Core.Path.{_≡_, refl, ap, ap₂, sym, _∙_}
+use mathlib.Core.List.{List}
+use Prim.Native.Nat.{ℕ, _+_, _*_, _≤_}
+use native.Mathlib.Omega.{arith}
+use lib.Dec.{leb, leb→le}
+use lib.ListN.{length}
+use Rattle.model.specs.Base.{refused, value, checks}
+use Rattle.model.specs.Netlist.{Netlist, pathTotal}
+use Rattle.model.specs.Path.{Edge, rising, falling}
+use Rattle.model.specs.Detect.{Test}
+use Rattle.model.specs.Runs.{Run}
+use Rattle.model.specs.Store.{ByEdge, byEdge, ofEdge, maxRuns, storeOf, storeRuns, runsByEdge}
+use Rattle.model.specs.Calls.{workWords, workRules, tested, runsThen}
+use Rattle.model.specs.Refusals.{refusalNumber}
+use Rattle.model.specs.declared.Refusal.{Refusal}
+use Rattle.model.specs.declared.Refusal.the-variants as why
+use Rattle.model.proofs.AnswerLaws.{checks→}
+use Rattle.model.proofs.HoldingLaws.{at-edge}
+use Rattle.netlist.specs.Tables.{CircuitTables}
+use Rattle.netlist.specs.declared.inner.Shape.{Shape}
+use Rattle.runs.proofs.RunWordLaws.{length-runs}
+use Rattle.simulation.specs.declared.inner.test_record.InputEdges.{InputEdges}
+use Rattle.store.specs.Writing.{changed, withRuns, StoreHas, MadeAt, Writable, Rewritten}
+use Rattle.store.specs.declared.inner.writing.Change.{Change}
+use Rattle.store.specs.declared.inner.writing.Change.the-variants.{Made}
+use Rattle.store.proofs.EdgeWriteCases.{sound-has}
+use Rattle.coverage.specs.Both.{bothOf, CoversBoth}
+use Rattle.coverage.specs.Stage.{PinsOf, MemoryReady, WorkReady, storeAfter, workStage, StageIs}
+use Rattle.coverage.specs.declared.edges.BothAnswer.{BothAnswer}
+use Rattle.coverage.specs.declared.edges.BothAnswer.the-variants.{Fits, WorkOver, StoreOver}
+use Rattle.coverage.specs.declared.inner.StageAnswer.the-variants.{Taken, Refused}
+use Rattle.coverage.proofs.EdgesLaws.{same-memory}
+
+store-has : {N : Netlist} {ws work : List ℕ} → MemoryReady N ws work → StoreHas ws (runsByEdge ws)
+store-has {N = N} {ws = ws} m = sound-has (pathTotal N) ws (m .storeLength) (m .sound)
+
+-- runs that are made are as many as they are said to be
+made-at : (d : Change) (words : List ℕ) (from : ℕ) (old new : List Run) → changed d words from old ≡ new → length new ≤ maxRuns → 2 * (from + maxRuns) ≤ length words
+    → (n : ℕ) → d ≡ Made n → MadeAt words from n
+made-at d words from old new is few room n e =
+    let l : n ≡ length new = sym (length-runs words from n) ∙ ap (length {A = Run}) (ap (λ (x : Change). changed x words from old) (sym e) ∙ is) in
+    record { few = omega arith; inside = omega arith }
+
+module _ {N : Netlist} {t : Test} {ws work work′ : List ℕ} (m : MemoryReady N ws work) (same : length work′ ≡ length work) {b : BothAnswer}
+    (x : CoversBoth N t ws work work′ b) where
+  refused-stage : (w : Refusal) → bothOf b ≡ refused (refusalNumber w) → StageIs (workStage N t ws) ws ws work work′ (Refused w)
+  unfolding workStage storeAfter
+  refused-stage w r =
+      let e : checks (workRules N (runsByEdge ws) t) ≡ refused (refusalNumber w) = sym (x .answers) ∙ r in
+      record { answer = rw e refl; store = rw e refl; sameLength = same; pastWork = x .kept workWords (omega arith) }
+
+  module _ {r f : Change} (fits : b ≡ Fits r f) where
+    passing : checks (workRules N (runsByEdge ws) t) ≡ value tt
+    passing = sym (x .answers) ∙ ap bothOf fits
+
+    few-then : (e : Edge) → length (runsThen N (runsByEdge ws) t e) ≤ maxRuns
+    few-then e =
+        leb→le (length (runsThen N (runsByEdge ws) t e)) maxRuns
+        (at-edge (λ d. leb (length (runsThen N (runsByEdge ws) t d)) maxRuns) (checks→ (workRules N (runsByEdge ws) t) (record { got = tt; is = passing }) .1 .0) e)
+
+    first-writable : Writable work′ (2 * maxRuns) r ws
+    first-writable = record {
+      runs = runsByEdge ws;
+      has = store-has m;
+      made = made-at r work′ (2 * maxRuns) (storeRuns ws rising) (runsThen N (runsByEdge ws) t rising) (x .risingRuns r f fits) (few-then rising) (omega (arith, m .workLength));
+    }
+
+    module _ {ws₁ : List ℕ} (w₁ : Rewritten work′ (2 * maxRuns) r rising ws ws₁) where
+      runs₁ : ByEdge (List Run)
+      runs₁ = withRuns rising (changed r work′ (2 * maxRuns) (storeRuns ws rising)) (runsByEdge ws)
+
+      has₁ : StoreHas ws₁ runs₁
+      unfolding runs₁
+      has₁ = record { is = w₁ (runsByEdge ws) (store-has m); few = few₁ }
+        where
+          few₁ : (e : Edge) → length (ofEdge (withRuns rising (changed r work′ (2 * maxRuns) (storeRuns ws rising)) (runsByEdge ws)) e) ≤ maxRuns
+          few₁ rising = omega (arith, few-then rising, ap (length {A = Run}) (x .risingRuns r f fits))
+          few₁ falling = store-has m .few falling
+
+      second-writable : Writable work′ (3 * maxRuns) f ws₁
+      second-writable = record {
+        runs = runs₁;
+        has = has₁;
+        made = made-at f work′ (3 * maxRuns) (storeRuns ws falling) (runsThen N (runsByEdge ws) t falling) (x .fallingRuns r f fits) (few-then falling) (omega (arith, m .workLength));
+      }
+
+      taken-stage : {ws₂ : List ℕ} → Rewritten work′ (3 * maxRuns) f falling ws₁ ws₂ → StageIs (workStage N t ws) ws ws₂ work work′ Taken
+      unfolding workStage storeAfter tested runs₁
+      taken-stage {ws₂ = ws₂} w₂ =
+          let c : checks (workRules N (runsByEdge ws) t) ≡ value tt = passing in
+          let made : ws₂ ≡ storeOf (byEdge (runsThen N (runsByEdge ws) t)) =
+          w₂ runs₁ has₁ ∙ ap₂ (λ (u v : List Run). storeOf (record { onRising = u; onFalling = v })) (x .risingRuns r f fits) (x .fallingRuns r f fits) in
+          record { answer = rw c refl; store = made ∙ rw c refl; sameLength = same; pastWork = x .kept workWords (omega arith) }
+
+-- The same for every netlist that the tables are of
+module _ {file ps cs masks : List ℕ} {edges : InputEdges} {shape : Shape} {ws work : List ℕ} (h : WorkReady file ps cs masks edges shape ws work)
+    {b : BothAnswer} {work′ : List ℕ} (same : length work′ ≡ length work)
+    (covers : (N : Netlist) (t : Test) → CircuitTables N file ps cs shape → PinsOf N t masks edges → CoversBoth N t ws work work′ b) where
+  here : CoversBoth (h .stage .circuit) (h .test) ws work work′ b
+  here = covers (h .stage .circuit) (h .test) (h .stage .tables) (h .pins)
+
+  pub work-over : b ≡ WorkOver → (N : Netlist) (t : Test) → CircuitTables N file ps cs shape → PinsOf N t masks edges
+      → StageIs (workStage N t ws) ws ws work work′ (Refused why.WorkingRuns)
+  work-over e N t c p = refused-stage (same-memory (h .stage) c) same (covers N t c p) why.WorkingRuns (ap bothOf e)
+
+  pub work-full : b ≡ StoreOver → (N : Netlist) (t : Test) → CircuitTables N file ps cs shape → PinsOf N t masks edges
+      → StageIs (workStage N t ws) ws ws work work′ (Refused why.StoreRuns)
+  work-full e N t c p = refused-stage (same-memory (h .stage) c) same (covers N t c p) why.StoreRuns (ap bothOf e)
+
+  module _ {r f : Change} (fits : b ≡ Fits r f) where
+    pub work-writes : Writable work′ (2 * maxRuns) r ws
+    work-writes = first-writable (h .stage .memory) same here fits
+
+    pub work-writes-next : {ws₁ : List ℕ} → Rewritten work′ (2 * maxRuns) r rising ws ws₁ → Writable work′ (3 * maxRuns) f ws₁
+    work-writes-next w = second-writable (h .stage .memory) same here fits w
+
+    pub work-taken : {ws₁ ws₂ : List ℕ} → Rewritten work′ (2 * maxRuns) r rising ws ws₁ → Rewritten work′ (3 * maxRuns) f falling ws₁ ws₂
+        → (N : Netlist) (t : Test) → CircuitTables N file ps cs shape → PinsOf N t masks edges → StageIs (workStage N t ws) ws ws₂ work work′ Taken
+    work-taken w₁ w₂ N t c p = taken-stage (same-memory (h .stage) c) same (covers N t c p) fits w₁ w₂

@@ -1,0 +1,7 @@
+pub mod AddLaws
+pub mod PlaceRunLaws
+pub mod PlaceRunSteps
+pub mod StandLaws
+pub mod DetectedLaws
+pub mod NetSteps
+pub mod EdgeLaws

@@ -1,0 +1,3 @@
+pub mod PlaceRuns
+pub mod Edges
+pub mod Nets

@@ -1,0 +1,61 @@
+-- The runs of one net after the other in the first quarter of the working words.
+-- Assumes nothing.
+use Prim.Native.Nat.{ℕ, zero, suc, _+_, _*_, _≤_, _<_}
+use mathlib.Core.Path.{_≡_}
+use mathlib.Core.List.{List, [], _∷_}
+use lib.ListN.{length, getD, drop}
+use Rattle.model.specs.Base.{bit}
+use Rattle.model.specs.Store.{maxRuns}
+use Rattle.model.specs.Netlist.{nets, counts}
+use Rattle.model.specs.Detect.{inNetSet}
+use Rattle.model.specs.Runs.{Run, runsOf}
+use Rattle.netlist.specs.Tables.{CircuitTables}
+use Rattle.netlist.specs.declared.inner.Shape.{Shape}
+use Rattle.runs.specs.Runs.{run, onlyIf, runsInWords}
+use Rattle.runs.specs.declared.inner.Added.{Added}
+use Rattle.runs.specs.declared.inner.Added.the-variants.{Count, Full}
+use Rattle.simulation.specs.Circuit.{OpenMasks}
+use Rattle.intervals.specs.Edges.{Case, working}
+
+-- the runs of a net's set
+unfoldable pub setRuns : Case → ℕ → List Run
+setRuns K net = runsOf (inNetSet (K .netlist) (K .test) (K .edge) net) (getD (counts (K .netlist)) net 0)
+
+-- the runs of an input, by its bit: number 1 where it makes the edge
+unfoldable pub inputRuns : ℕ → ℕ → List Run
+inputRuns edges input = onlyIf (bit edges input) (run 1 1 ∷ [])
+
+-- how many runs the first n nets have
+abbrev pub runsBefore : (ℕ → List Run) → ℕ → ℕ
+runsBefore netRuns zero = 0
+runsBefore netRuns (suc n) = runsBefore netRuns n + length (netRuns n)
+
+-- the runs of the nets before `net` stand in the words, one net after the other; `starts` says where each net's begin, `start` is the place after them
+pub record Stand (netRuns : ℕ → List Run) (ws starts : List ℕ) (net start : ℕ) : Type 0 where
+  pub used : start ≡ runsBefore netRuns net
+  pub fits : start ≤ maxRuns
+  pub startRoom : length starts ≡ 513
+  pub startsAre : (q : ℕ) → q ≤ net → getD starts q 0 ≡ runsBefore netRuns q
+  pub runsAre : (q : ℕ) → q < net → runsInWords ws (runsBefore netRuns q) (length (netRuns q)) ≡ netRuns q
+
+-- no word past the first quarter is changed
+pub record Kept (ws ws′ : List ℕ) : Type 0 where
+  pub same : length ws′ ≡ length ws
+  pub above : (k : ℕ) → 2 * maxRuns ≤ k → drop k ws′ ≡ drop k ws
+
+-- the tables of a case, and the runs of its inputs, `first` of them
+pub record NetsAt (K : Case) (file positions pathCounts masks : List ℕ) (shape : Shape) (ws starts : List ℕ) (first : ℕ) : Type 0 where
+  pub tables : CircuitTables (K .netlist) file positions pathCounts shape
+  pub openPins : OpenMasks (K .netlist) (K .test) masks
+  pub room : 2 * maxRuns ≤ length ws
+  pub inputsStand : Stand (setRuns K) ws starts (shape .inputs) first
+
+pub record SomeNetsAt (file positions pathCounts masks : List ℕ) (shape : Shape) (ws starts : List ℕ) (first : ℕ) : Type 0 where
+  pub case : Case
+  pub at-nets : NetsAt case file positions pathCounts masks shape ws starts first
+
+-- the runs of all nets; Full only where they are over 1,024
+pub record NetsMade (K : Case) (ws ws′ starts′ : List ℕ) (r : Added) : Type 0 where
+  pub kept : Kept ws ws′
+  pub stand : (n : ℕ) → r ≡ Count n → Stand (setRuns K) ws′ starts′ (nets (K .netlist)) n
+  pub full : r ≡ Full → maxRuns < working K

@@ -1,0 +1,117 @@
+// The runs of every net, one net after the other from the first word on.
+ghost use mathlib.Core.Path.{_≡_};
+ghost use Prim.Native.Nat.{_-_, _*_, _≤_};
+ghost use lib.ListN.{length};
+ghost use Rattle.model.specs.Store.{maxRuns};
+ghost use Rattle.runs.specs.Answers.{Adds};
+ghost use Rattle.intervals.specs.PlaceRuns.{GateReady, gateRuns};
+ghost use Rattle.intervals.specs.Edges.{Case};
+ghost use Rattle.intervals.specs.Nets.{inputRuns, Stand, Kept, NetsAt, SomeNetsAt, NetsMade};
+use crate::adding::add_net;
+use crate::adding::digit;
+use model::MAX_RUNS;
+use netlist::inner::Shape;
+use netlist::inner::gate_part;
+use netlist::inner::pin_net;
+use records::inner::wide;
+use runs::inner::Added;
+
+// Makes the runs of the inputs, and where each input's begin. The run 1 to 1 is written for each input, and counts for one that makes the edge: a branch
+// would be mispredicted.
+pub(crate) fn input_runs(
+    edges: u64,
+    inputs: usize,
+    starts: &mut [u16; 513],
+    words: &mut [u64],
+) -> usize
+    requires { ⌜ (inputs ≤ 64) × (length (now starts) ≡ 513) × (2 * maxRuns ≤ length (now words)) ⌝ }
+    ensures { λ r. ⌜ Stand (inputRuns edges) (now (words .exit)) (now (starts .exit)) inputs r × Kept (now (words .entry)) (now (words .exit)) ⌝ }
+{
+    let mut input = 0;
+    let mut start = 0;
+    starts[0] = 0;
+    while input < inputs {
+        words[2 * start] = 1;
+        words[2 * start + 1] = 1;
+        start += digit(edges, input as u64);
+        input += 1;
+        starts[input] = start as u16;
+    }
+    start
+}
+
+// Makes the runs of a gate's net, pin by pin.
+fn gate_runs(
+    part: &[u8],
+    mask: u8,
+    counts: &[u64; 512],
+    starts: &[u16; 513],
+    words: &mut [u64],
+    start: usize,
+) -> Added
+    requires { ⌜ GateReady (now part) mask (now counts) (now starts) (now words) start ⌝ }
+    ensures { λ r. ⌜ Adds (now (words .entry)) (now (words .exit)) start (maxRuns - start)
+        (gateRuns (now (part .entry)) mask (now (counts .entry)) (now (starts .entry)) (now (words .entry))) r ⌝ }
+{
+    let pins = wide(part[3]);
+    let mut pin = 0;
+    let mut count = 0;
+    let mut offset: u64 = 0;
+    while pin < pins {
+        let net = pin_net(part, pin);
+        match add_net(
+            digit(mask as u64, pin as u64),
+            starts,
+            net,
+            words,
+            start,
+            count,
+            MAX_RUNS - start,
+            offset,
+        ) {
+            Added::Count(c) => {
+                count = c;
+            }
+            Added::Full => {
+                return Added::Full;
+            }
+        }
+        offset += counts[net];
+        pin += 1;
+    }
+    Added::Count(count)
+}
+
+// Makes the runs of the gates' nets after those of the inputs, and where each net's begin.
+pub(crate) fn net_runs(
+    netlist: &[u8],
+    positions: &[u16; 512],
+    counts: &[u64; 512],
+    masks: &[u8; 512],
+    shape: Shape,
+    starts: &mut [u16; 513],
+    words: &mut [u64],
+    first: usize,
+) -> Added
+    requires { ⌜ SomeNetsAt (now netlist) (now positions) (now counts) (now masks) shape (now words) (now starts) first ⌝ }
+    ensures { λ r. ⌜ ((K : Case)
+        → NetsAt K (now (netlist .entry)) (now (positions .entry)) (now (counts .entry)) (now (masks .entry)) shape (now (words .entry)) (now (starts .entry)) first
+        → NetsMade K (now (words .entry)) (now (words .exit)) (now (starts .exit)) r) ⌝ }
+{
+    let mut net = shape.inputs;
+    let mut start = first;
+    while net < shape.nets {
+        let part = gate_part(netlist, positions, net);
+        match gate_runs(part, masks[net], counts, starts, words, start) {
+            Added::Count(c) => {
+                start += c;
+            }
+            Added::Full => {
+                return Added::Full;
+            }
+        }
+        net += 1;
+        starts[net] = start as u16;
+    }
+    Added::Count(start)
+}

@@ -1,0 +1,2 @@
+-- Cases of the printing functions.
+pub mod PrintCases
