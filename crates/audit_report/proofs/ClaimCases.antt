@@ -12,8 +12,8 @@ use Rattle.differences.specs.Differences.{only, Passed, FirstPiece, PieceFrom}
 use Rattle.differences.specs.declared.inner.walk.Piece.{Piece}
 use Rattle.differences.specs.declared.inner.walk.Piece.the-variants as piece
 use Rattle.differences.proofs.RunCases.{passed-none, passed-later}
-use Rattle.differences.proofs.StepCases.{piece-as}
-use Rattle.audit_report.specs.Claims.{ClaimTrue}
+use Rattle.differences.proofs.StretchCases.{piece-as}
+use Rattle.audit_report.specs.ClaimedNumbers.{ClaimTrue}
 use Rattle.audit_report.specs.declared.claims.Claim.{Claim}
 
 module _ (i j : ℕ) (a plain : List ℕ) (low high : ℕ) (lh : low ≤ high) (hb : Fits w64 high) (x : Piece) (s : PieceFrom x i j a plain low) where

@@ -20,7 +20,7 @@ ghost use mathlib.Core.Bool.{true};
 ghost use Prim.Native.Nat.{_≤_};
 ghost use lib.ListN.{length};
 ghost use Rattle.differences.specs.Differences.{runsOfBytes, Ascends};
-ghost use Rattle.audit_report.specs.Claims.{ClaimTrue};
+ghost use Rattle.audit_report.specs.ClaimedNumbers.{ClaimTrue};
 
 // A line for one stretch of numbers, where it is shown.
 fn print_piece(kind: Kind, edge: Edge, low: u64, high: u64, is_shown: bool) {

@@ -17,7 +17,7 @@ use Rattle.bench_lines.specs.Text.{statementOf}
 use Rattle.bench_circuit.specs.Circuit.{GateLine, Circuit, emptyCircuit, netNames, inputFits, gateFits}
 use Rattle.bench_circuit.specs.Circuit.{outputFits, gateNamed, lineRules, added, lineByLine}
 use Rattle.bench_lines.proofs.KindLaws.{gate-kind}
-use Rattle.bench_lines.proofs.PlaceLaws.{in-lt, not-in, NotIn, Distinct, distinct-insert, place-left, place-right}
+use Rattle.bench_lines.proofs.NamePlaceLaws.{in-lt, not-in, NotIn, Distinct, distinct-insert, place-left, place-right}
 
 -- ---- pins on earlier lines
 

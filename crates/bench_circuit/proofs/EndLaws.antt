@@ -16,7 +16,7 @@ use mir.Syntax.{w64}
 use Rattle.bench_lines.specs.Text.{Statement, blank, input, gate, other, tokensOf, statementOf, linesFrom, linesOf}
 use Rattle.bench_lines.specs.Text.{lastLine, isIn}
 use Rattle.bench_circuit.specs.Circuit.{Circuit, netNames, outputDefined, undefinedFrom}
-use Rattle.bench_lines.specs.Reading.{part, Named, NameIn, LineIs}
+use Rattle.bench_lines.specs.LineReading.{part, Named, NameIn, LineIs}
 use Rattle.bench_lines.specs.Keys.{keyLow, keyHigh, keyWords, AllNamed}
 use Rattle.bench_lines.specs.Stating.{GateAt, InputAt, OutputAt, LineStated}
 use Rattle.bench_circuit.specs.Judging.{namePlace, pairNet, keyNet, keyKnown, Held}

@@ -13,7 +13,7 @@ use Rattle.model.specs.Base.{refused, value, checks, allOf}
 use Rattle.model.specs.Read.{pinsFit}
 use Rattle.model.proofs.BoolLaws.{le-or-lt}
 use Rattle.bench_lines.specs.Text.{input, output, gate, pinsFrom, place, isIn}
-use Rattle.bench_lines.specs.Reading.{part, Named, restAt}
+use Rattle.bench_lines.specs.LineReading.{part, Named, restAt}
 use Rattle.bench_lines.specs.Keys.{keyLow, keyHigh, keyOf, keyPlace, Holds, AllNamed}
 use Rattle.bench_circuit.specs.Circuit.{GateLine, Circuit, netNames, inputFits, gateFits, outputFits, gateNamed}
 use Rattle.bench_circuit.specs.Circuit.{lineRules}
@@ -25,7 +25,7 @@ use Rattle.bench_lines.specs.declared.inner.statements.GateParts.{GateParts}
 use Rattle.bench_circuit.specs.declared.inner.judging.NameCounts.{NameCounts}
 use Rattle.bench_circuit.specs.declared.inner.judging.NameAnswer.the-variants as answer
 use Rattle.bench_circuit.specs.declared.inner.judging.LineAnswer.the-variants as lineAnswer
-use Rattle.bench_lines.proofs.PlaceLaws.{place-left, place-right}
+use Rattle.bench_lines.proofs.NamePlaceLaws.{place-left, place-right}
 use Rattle.bench_lines.proofs.KeyLaws.{place-of, put-holds, named-snoc}
 use Rattle.bench_circuit.proofs.JudgeLaws.{net-first, net-second}
 

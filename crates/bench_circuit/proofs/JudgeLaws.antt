@@ -13,7 +13,7 @@ use mir.Syntax.{w64}
 use Rattle.model.specs.Base.{allOf}
 use Rattle.model.specs.Read.{pinsFit}
 use Rattle.bench_lines.specs.Text.{pinsFrom}
-use Rattle.bench_lines.specs.Reading.{part, NameIn, restAt}
+use Rattle.bench_lines.specs.LineReading.{part, NameIn, restAt}
 use Rattle.bench_lines.specs.Keys.{keyOf, keyPlace}
 use Rattle.bench_lines.specs.Stating.{pinsState, OnePin, NoPin, PinIs}
 use Rattle.bench_circuit.specs.Judging.{namePlace, pairNet, keyNet, keyKnown, NamesRoom, PinsJudged}

@@ -5,4 +5,4 @@ pub mod JudgeCases
 pub mod LineCases
 pub mod TextCases
 pub mod EndLaws
-pub mod EndCases
+pub mod TextEndCases

@@ -12,7 +12,7 @@ use Rattle.model.specs.Read.{pinsFit}
 use Rattle.model.proofs.BoolLaws.{and-left}
 use Rattle.model.proofs.AnswerLaws.{checks→}
 use Rattle.bench_lines.specs.Text.{Statement, blank, input, output, gate, other, tokensOf, statementOf}
-use Rattle.bench_lines.specs.Reading.{part, NameIn}
+use Rattle.bench_lines.specs.LineReading.{part, NameIn}
 use Rattle.bench_lines.specs.Keys.{AllNamed}
 use Rattle.bench_lines.specs.Stating.{GateAt, InputAt, OutputAt, LineStated}
 use Rattle.bench_circuit.specs.Circuit.{GateLine, Circuit, lineRules, added}

@@ -11,7 +11,7 @@ use mir.Syntax.{w64}
 use lib.ListN.{length, drop, take, drop-of-length-le}
 use Rattle.model.specs.Base.{refused, value, checks}
 use Rattle.bench_lines.specs.Text.{Statement, tokensOf, statementOf, linesFrom, linesOf, lastLine}
-use Rattle.bench_lines.specs.Reading.{LineIs}
+use Rattle.bench_lines.specs.LineReading.{LineIs}
 use Rattle.bench_lines.specs.Keys.{AllNamed, keyWords}
 use Rattle.bench_circuit.specs.Circuit.{Circuit, emptyCircuit, lineRules, added, lineByLine, badFrom}
 use Rattle.model.specs.Refusals.{refusalNumber}

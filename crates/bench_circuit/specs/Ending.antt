@@ -10,7 +10,7 @@ use Rattle.model.specs.Base.{checks, refused, value}
 use Rattle.model.specs.Refusals.{refusalNumber}
 use Rattle.bench_lines.specs.Text.{tokensOf, statementOf, linesOf, isIn}
 use Rattle.bench_circuit.specs.Circuit.{outputDefined, undefinedFrom, endRules, circuitOf, refusedLine}
-use Rattle.bench_lines.specs.Reading.{Named}
+use Rattle.bench_lines.specs.LineReading.{Named}
 use Rattle.bench_circuit.specs.Judging.{pairNet, keyKnown, TextTaken}
 use Rattle.bench_circuit.specs.declared.inner.judging.NameCounts.{NameCounts}
 use Rattle.bench_circuit.specs.declared.inner.ending.EndAnswer.{EndAnswer}

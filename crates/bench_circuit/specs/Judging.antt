@@ -9,7 +9,7 @@ use lib.ListN.{length, set}
 use Rattle.model.specs.Base.{Rule, allOf, checks, value, refused}
 use Rattle.model.specs.Read.{pinsFit}
 use Rattle.bench_lines.specs.Text.{Statement, gate, tokensOf, statementOf, pinsFrom, linesOf}
-use Rattle.bench_lines.specs.Reading.{part, restAt}
+use Rattle.bench_lines.specs.LineReading.{part, restAt}
 use Rattle.bench_circuit.specs.Circuit.{GateLine, Circuit, emptyCircuit, lineRules, added, lineByLine, badFrom}
 use Rattle.model.specs.Refusals.{refusalNumber}
 use Rattle.bench_lines.specs.Keys.{keyLow, keyHigh, keyPlace, Holds, AllNamed}

@@ -20,9 +20,9 @@ use Rattle.model.specs.Report.{sameBytes}
 use Rattle.model.proofs.BoolLaws.{T→true, not→false, true→T, or-cases, and-left, and-right, bool-cases}
 use Rattle.model.proofs.AnswerLaws.{same-refl, same→}
 use Rattle.bench_lines.specs.Text.{nameByte, place}
-use Rattle.bench_lines.specs.Reading.{Named}
+use Rattle.bench_lines.specs.LineReading.{Named}
 use Rattle.bench_lines.specs.Keys.{keyLow, keyHigh, keyWords, keyPlace, Holds, AllNamed}
-use Rattle.bench_lines.proofs.PartLaws.{both-left, both-right}
+use Rattle.bench_lines.proofs.BytePartLaws.{both-left, both-right}
 
 -- ---- equal keys are equal names
 

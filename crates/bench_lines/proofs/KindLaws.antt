@@ -9,7 +9,7 @@ use lib.Dec.{eqb}
 use lib.ListN.{length, length-append}
 use Rattle.bench_lines.specs.Text.{Token, name, sign, blank, gate, other, place, isIn, kindNames, ioNames}
 use Rattle.bench_lines.specs.Text.{statementOf, ending, pinsFrom, gateFrom, ioOf, ioFrom}
-use Rattle.bench_lines.proofs.PlaceLaws.{in-lt}
+use Rattle.bench_lines.proofs.NamePlaceLaws.{in-lt}
 
 pub other≢gate : {P : Type 0} (x : List ℕ) (k : ℕ) (ys : List (List ℕ)) → other ≡ gate x k ys → P
 other≢gate x k ys e = let z : _≡_ {A = ℕ} 0 1 = cc in absurd (omega arith)

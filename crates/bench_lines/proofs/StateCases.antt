@@ -9,12 +9,12 @@ use borrow.Author.Tests.{eq-eqb, ne-eqb, lt-ltb, le-ltb}
 use lib.Dec.{eqb}
 use Rattle.bench_lines.specs.Text.{Token, name, sign, Statement, blank, other, tokensOf, place, isIn, kindNames}
 use Rattle.bench_lines.specs.Text.{ioNames, ending, pinsFrom, gateFrom, ioOf, ioFrom, statementOf}
-use Rattle.bench_lines.specs.Reading.{part, NameIn, TokenIs, restAt, nameThen}
+use Rattle.bench_lines.specs.LineReading.{part, NameIn, TokenIs, restAt, nameThen}
 use Rattle.bench_lines.specs.Stating.{atEnd, InputAt, OutputAt, StatedIs}
 use Rattle.bench_lines.specs.declared.inner.tokens.NextToken.{NextToken}
 use Rattle.bench_lines.specs.declared.inner.tokens.NextToken.the-variants as token
 use Rattle.bench_lines.specs.declared.inner.statements.LineStatement.{LineStatement}
-use Rattle.bench_lines.proofs.StateLaws.{told-end, told-sign, told-name, ending-yes, ending-no}
+use Rattle.bench_lines.proofs.StatementLaws.{told-end, told-sign, told-name, ending-yes, ending-no}
 
 -- ---- INPUT and OUTPUT
 

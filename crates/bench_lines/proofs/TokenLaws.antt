@@ -11,8 +11,8 @@ use lib.ListN.{length, getD, drop}
 use Rattle.model.specs.Base.{allOf}
 use Rattle.model.proofs.BoolLaws.{le-or-lt}
 use Rattle.bench_lines.specs.Text.{Token, name, sign, nameByte, word, wordThen, signThen, tokensFrom}
-use Rattle.bench_lines.specs.Reading.{part, SpacesEnd, WordEnd, NameAt, SignAt}
-use Rattle.bench_lines.proofs.PartLaws.{part-none, part-more, drop-next, length-part, drop-end, all-snoc}
+use Rattle.bench_lines.specs.LineReading.{part, SpacesEnd, WordEnd, NameAt, SignAt}
+use Rattle.bench_lines.proofs.BytePartLaws.{part-none, part-more, drop-next, length-part, drop-end, all-snoc}
 
 -- one byte, by its test
 named-byte : (w : List ℕ) (b : ℕ) (bs : List ℕ) → nameByte b ≡ true

@@ -10,9 +10,9 @@ use lib.Seq.{getD-drop, drop-drop, take-take, take-all, take-add, drop-at, lengt
 use mir.Val.{Fits}
 use mir.Syntax.{w8, w64}
 use Rattle.model.specs.Base.{fromLittleEndian}
-use Rattle.bench_lines.specs.Reading.{part}
+use Rattle.bench_lines.specs.LineReading.{part}
 use Rattle.bench_lines.specs.Keys.{keyLow, keyHigh, keyOf}
-use Rattle.bench_lines.proofs.PartLaws.{drop-next, length-part, part-none}
+use Rattle.bench_lines.proofs.BytePartLaws.{drop-next, length-part, part-none}
 
 -- ---- the value of a few bytes
 

@@ -7,7 +7,7 @@ use Prim.Native.Nat.{ℕ, zero, suc, _+_}
 use lib.Dec.{eqb}
 use lib.ListN.{getD, take, drop}
 use Rattle.model.specs.Base.{fromLittleEndian}
-use Rattle.bench_lines.specs.Reading.{Named}
+use Rattle.bench_lines.specs.LineReading.{Named}
 use Rattle.bench_lines.specs.declared.inner.keys.NameKey.{NameKey}
 
 abbrev pub keyLow : List ℕ → ℕ

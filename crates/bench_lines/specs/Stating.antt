@@ -7,7 +7,7 @@ use mathlib.Core.List.{List, [], _∷_, _++_}
 use lib.ListN.{length}
 use Rattle.bench_lines.specs.Text.{Token, Statement, blank, input, output, gate, other, gateFrom, ioFrom, statementOf, tokensOf}
 use Rattle.bench_lines.specs.Text.{pinsFrom}
-use Rattle.bench_lines.specs.Reading.{part, NameIn, restAt, nameThen}
+use Rattle.bench_lines.specs.LineReading.{part, NameIn, restAt, nameThen}
 use Rattle.bench_lines.specs.Keys.{AllNamed}
 use Rattle.bench_lines.specs.declared.inner.statements.LineStatement.{LineStatement}
 use Rattle.bench_lines.specs.declared.inner.statements.LineStatement.the-variants as stated

@@ -17,8 +17,8 @@ use Rattle.model.proofs.ReadLaws.{pins-fit}
 use Rattle.bench_lines.specs.Text.{place, isIn}
 use Rattle.bench_circuit.specs.Circuit.{GateLine, Circuit, netNames}
 use Rattle.bench_text.specs.NetlistFile.{pinNets, gateRecords, outputNets, outputRecords, netlistBytes}
-use Rattle.bench_lines.proofs.PlaceLaws.{by-same, in-lt, lt-in, out-le, le-out, in-not, NotIn, Distinct, place-first}
-use Rattle.bench_lines.proofs.PlaceLaws.{place-next}
+use Rattle.bench_lines.proofs.NamePlaceLaws.{by-same, in-lt, lt-in, out-le, le-out, in-not, NotIn, Distinct, place-first}
+use Rattle.bench_lines.proofs.NamePlaceLaws.{place-next}
 use Rattle.bench_circuit.proofs.CircuitLaws.{GatesFit, Legal}
 
 -- ---- outputs by net
@@ -60,11 +60,11 @@ times x (y ∷ ys) = elim (Rattle.model.specs.Report.sameBytes y x) [ true ↦ 
 
 times-here : (x y : List ℕ) (ys : List (List ℕ)) → y ≡ x → times x (y ∷ ys) ≡ suc (times x ys)
 unfolding times
-times-here x y ys e = rw (Rattle.bench_lines.proofs.PlaceLaws.same-yes y x e, times) refl
+times-here x y ys e = rw (Rattle.bench_lines.proofs.NamePlaceLaws.same-yes y x e, times) refl
 
 times-other : (x y : List ℕ) (ys : List (List ℕ)) → (y ≡ x → ⊥) → times x (y ∷ ys) ≡ times x ys
 unfolding times
-times-other x y ys d = rw (Rattle.bench_lines.proofs.PlaceLaws.same-no y x d, times) refl
+times-other x y ys d = rw (Rattle.bench_lines.proofs.NamePlaceLaws.same-no y x d, times) refl
 
 times-none : (x : List ℕ) (ys : List (List ℕ)) → NotIn x ys → times x ys ≡ 0
 unfolding NotIn times

@@ -13,10 +13,10 @@ use Rattle.model.specs.Base.{littleEndian}
 use Rattle.model.specs.Encode.{netBytes, gateBytes}
 use Rattle.records.proofs.ByteLaws.{sets-append}
 use Rattle.bench_lines.specs.Text.{pinsFrom}
-use Rattle.bench_lines.specs.Reading.{part, NameIn, restAt}
+use Rattle.bench_lines.specs.LineReading.{part, NameIn, restAt}
 use Rattle.bench_lines.specs.Stating.{pinsState, OnePin, NoPin, PinIs}
 use Rattle.bench_circuit.specs.Judging.{keyNet}
-use Rattle.bench_text.specs.Writing.{PinsThere, PinsPut, GatePut}
+use Rattle.bench_text.specs.FileWriting.{PinsThere, PinsPut, GatePut}
 use Rattle.bench_lines.specs.declared.inner.statements.GateParts.{GateParts}
 use Rattle.bench_lines.specs.declared.inner.statements.LineStatement.the-variants as stated
 use Rattle.bench_lines.specs.declared.inner.statements.PinRead.{PinRead}

@@ -2,10 +2,10 @@
 pub mod ExamplesHold
 pub mod GateLaws
 pub mod WriteLaws
-pub mod OutputLaws
+pub mod OutputFileLaws
 pub mod WholeLaws
-pub mod CallCases
-pub mod FileCases
+pub mod ConvertCases
+pub mod NetlistFileCases
 pub mod FitLaws
 pub mod BytesLaws
 pub mod ReadBack

@@ -19,7 +19,7 @@ use Rattle.bench_lines.specs.Text.{place}
 use Rattle.bench_circuit.specs.Circuit.{GateLine}
 use Rattle.bench_text.specs.NetlistFile.{pinNets, gateRecords}
 use Rattle.bench_text.specs.Taken.{gateFor}
-use Rattle.bench_lines.proofs.PlaceLaws.{place-left, place-right}
+use Rattle.bench_lines.proofs.NamePlaceLaws.{place-left, place-right}
 use Rattle.bench_circuit.proofs.CircuitLaws.{gateNames, PinsKnown, Earlier, GateFits, GatesFit}
 use Rattle.bench_text.proofs.BytesLaws.{length-gate}
 

@@ -13,12 +13,12 @@ use lib.Seq.{drop-drop}
 use Rattle.model.specs.Encode.{gateBytes}
 use Rattle.model.proofs.BoolLaws.{bool-cases}
 use Rattle.bench_lines.specs.Text.{Statement, blank, input, output, gate, other, tokensOf, statementOf, place, isIn}
-use Rattle.bench_lines.specs.Reading.{Named}
+use Rattle.bench_lines.specs.LineReading.{Named}
 use Rattle.bench_lines.specs.Keys.{keyLow, keyHigh, keyPlace, keyWords, AllNamed}
 use Rattle.bench_circuit.specs.Circuit.{GateLine, Circuit, netNames}
 use Rattle.bench_text.specs.NetlistFile.{gateRecords, outputNets, outputRecords}
 use Rattle.bench_circuit.specs.Judging.{keyNet, Held, PinsNamed}
-use Rattle.bench_text.specs.Writing.{lineBytes, linesBytes, FewPins, AllFewPins, oneOutput, keyOutputs}
+use Rattle.bench_text.specs.FileWriting.{lineBytes, linesBytes, FewPins, AllFewPins, oneOutput, keyOutputs}
 use Rattle.bench_circuit.specs.declared.inner.judging.NameCounts.{NameCounts}
 use Rattle.bench_lines.proofs.KeyLaws.{place-of, head-at, second-at}
 use Rattle.bench_circuit.proofs.CircuitLaws.{GatesFit, gateOfLine, gatesOfLines}

@@ -12,11 +12,11 @@ use Rattle.model.specs.Encode.{gateBytes}
 use Rattle.records.proofs.ByteLaws.{sets-append}
 use Rattle.bench_lines.specs.Text.{Statement, blank, input, output, other, tokensOf, statementOf}
 use Rattle.bench_lines.specs.Text.{linesFrom, linesOf, lastLine}
-use Rattle.bench_lines.specs.Reading.{part, LineIs}
+use Rattle.bench_lines.specs.LineReading.{part, LineIs}
 use Rattle.bench_lines.specs.Stating.{GateAt, InputAt, OutputAt, LineStated}
 use Rattle.bench_circuit.specs.Judging.{keyNet}
-use Rattle.bench_text.specs.Writing.{PinsThere, GatePut, lineBytes, linesBytes, FewPins, AllFewPins}
-use Rattle.bench_text.specs.Writing.{BytesPut}
+use Rattle.bench_text.specs.FileWriting.{PinsThere, GatePut, lineBytes, linesBytes, FewPins, AllFewPins}
+use Rattle.bench_text.specs.FileWriting.{BytesPut}
 use Rattle.bench_lines.specs.declared.inner.lines.LineEnds.{LineEnds}
 use Rattle.bench_lines.specs.declared.inner.statements.GateParts.{GateParts}
 use Rattle.bench_lines.specs.declared.inner.statements.LineStatement.{LineStatement}

@@ -3,5 +3,5 @@ pub mod NetlistFile
 pub mod Taken
 pub mod Calls
 pub mod Examples
-pub mod Writing
+pub mod FileWriting
 pub mod Converting

@@ -16,7 +16,7 @@ use Rattle.model.proofs.WellFormed.{WellFormed}
 use Rattle.model.specs.Detect.{detectsNumber}
 use Rattle.model.specs.Runs.{Run, runsOf, inRuns}
 use Rattle.model.proofs.RunLaws.{runs-separated, runs-test, runs-same}
-use Rattle.runs.specs.Runs.{Sound, inEither, runAt, runsInWords}
+use Rattle.runs.specs.RunLists.{Sound, inEither, runAt, runsInWords}
 use Rattle.runs.specs.Answers.{answer, Adds, InsideWhere}
 use Rattle.runs.specs.declared.inner.Added.{Added}
 use Rattle.runs.specs.declared.inner.Added.the-variants.{Count, Full}

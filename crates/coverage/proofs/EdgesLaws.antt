@@ -15,12 +15,12 @@ use Rattle.model.proofs.AnswerLaws.{value-inj}
 use Rattle.model.proofs.ReadLaws.{legal, limits}
 use Rattle.netlist.specs.Tables.{CircuitTables}
 use Rattle.netlist.specs.declared.inner.Shape.{Shape}
-use Rattle.runs.specs.Runs.{Sound, runsInWords}
+use Rattle.runs.specs.RunLists.{Sound, runsInWords}
 use Rattle.runs.specs.declared.inner.Added.{Added}
 use Rattle.runs.proofs.MemberLaws.{sound-mono}
 use Rattle.simulation.specs.declared.inner.test_record.InputEdges.{InputEdges}
 use Rattle.store.specs.Sound.{FewRuns, SoundWords, edgeWords}
-use Rattle.store.proofs.PlaceLaws.{edge-words-runs, edge-words-fit}
+use Rattle.store.proofs.RunPlaceLaws.{edge-words-runs, edge-words-fit}
 use Rattle.store.proofs.SoundLaws.{sound-words, edge-sound, edge-few}
 use Rattle.intervals.specs.Edges.{Case, EdgeAt, SomeEdgeAt, Detects}
 use Rattle.coverage.specs.Covers.{heldRuns, JoinReady, Covers}

@@ -21,7 +21,7 @@ use Rattle.model.proofs.ReadLaws.{limits}
 use Rattle.netlist.specs.Tables.{CircuitTables, SomeCircuit}
 use Rattle.netlist.specs.declared.inner.Shape.{Shape}
 use Rattle.simulation.specs.Records.{recordOf, RecordTrue, VectorsTrue, EdgesTrue}
-use Rattle.simulation.specs.Circuit.{TestIs, OpenMasks}
+use Rattle.simulation.specs.Simulated.{TestIs, OpenMasks}
 use Rattle.simulation.specs.declared.inner.test_record.RecordAnswer.{RecordAnswer}
 use Rattle.simulation.specs.declared.inner.test_record.RecordAnswer.the-variants as record-answer
 use Rattle.simulation.specs.declared.inner.test_record.Vectors.{Vectors}

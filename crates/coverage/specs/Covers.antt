@@ -11,7 +11,7 @@ use Rattle.model.specs.Store.{maxRuns}
 use Rattle.model.specs.Netlist.{pathTotal}
 use Rattle.model.specs.Detect.{detectsNumber}
 use Rattle.model.specs.Runs.{Run, runsOf, inRuns}
-use Rattle.runs.specs.Runs.{Sound, runsInWords}
+use Rattle.runs.specs.RunLists.{Sound, runsInWords}
 use Rattle.runs.specs.declared.inner.Added.{Added}
 use Rattle.runs.specs.declared.inner.Added.the-variants.{Count}
 use Rattle.store.specs.Writing.{changed}

@@ -5,7 +5,7 @@ ghost use Prim.Native.Nat.{ℕ};
 ghost use Rattle.model.specs.Netlist.{Netlist, pathTotal};
 ghost use Rattle.model.specs.Detect.{Test};
 ghost use Rattle.netlist.specs.Tables.{CircuitTables};
-ghost use Rattle.runs.specs.Runs.{Sound};
+ghost use Rattle.runs.specs.RunLists.{Sound};
 ghost use Rattle.intervals.specs.Edges.{Case, Detects};
 ghost use Rattle.coverage.specs.Covers.{heldRuns, JoinReady, Covers};
 ghost use Rattle.coverage.specs.Both.{joined, CoversBoth};

@@ -2,5 +2,5 @@
 pub mod EightByteLaws
 pub mod RunCases
 pub mod OrderCases
-pub mod StepCases
+pub mod StretchCases
 pub mod ClaimLaws

@@ -3,4 +3,4 @@ pub mod CodeLaws
 pub mod NumberedLaws
 pub mod CountLaws
 pub mod CallCases
-pub mod LoadCases
+pub mod LoadCodeCases

@@ -12,7 +12,7 @@ use lib.Seq.{take-all, length-take-le, drop-set-lt}
 use mir.Val.{Fits}
 use mir.Syntax.{w64}
 use Rattle.model.specs.Runs.{Run}
-use Rattle.runs.specs.Runs.{Sound, onlyIf, addRuns, shiftRuns, runsInWords, writeRuns}
+use Rattle.runs.specs.RunLists.{Sound, onlyIf, addRuns, shiftRuns, runsInWords, writeRuns}
 use Rattle.runs.specs.Answers.{Adds}
 use Rattle.runs.specs.declared.inner.Added.{Added}
 use Rattle.runs.specs.declared.inner.Added.the-variants.{Count, Full}

@@ -26,7 +26,7 @@ use Rattle.model.proofs.ReadLaws.{legal, Limits}
 use Rattle.model.proofs.RunLaws.{runs-by, runs-separated}
 use Rattle.model.proofs.WellFormed.{WellFormed, ascendingNets}
 use Rattle.netlist.specs.declared.inner.Shape.{Shape}
-use Rattle.runs.specs.Runs.{run, Sound, onlyIf, addRuns, shiftRuns, runsInWords}
+use Rattle.runs.specs.RunLists.{run, Sound, onlyIf, addRuns, shiftRuns, runsInWords}
 use Rattle.runs.specs.declared.inner.Added.the-variants.{Count, Full}
 use Rattle.run_union.proofs.ShiftLaws.{addRuns-part}
 use Rattle.model.proofs.BoolLaws.{cases}

@@ -19,7 +19,7 @@ use Rattle.model.proofs.WellFormed.{WellFormed}
 use Rattle.netlist.specs.Tables.{outputIn}
 use Rattle.netlist.specs.declared.inner.Shape.{Shape}
 use Rattle.netlist.proofs.TableLaws.{few-outputs, count-at, outputs-inside, output-is, output-below}
-use Rattle.runs.specs.Runs.{run, onlyIf}
+use Rattle.runs.specs.RunLists.{run, onlyIf}
 use Rattle.runs.specs.Answers.{Adds}
 use Rattle.runs.specs.declared.inner.Added.{Added}
 use Rattle.runs.specs.declared.inner.Added.the-variants.{Count, Full}

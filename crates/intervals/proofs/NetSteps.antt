@@ -17,7 +17,7 @@ use Rattle.model.proofs.WellFormed.{WellFormed}
 use Rattle.netlist.specs.Tables.{GatePart, pinCountIn, gatePart}
 use Rattle.netlist.specs.declared.inner.Shape.{Shape}
 use Rattle.netlist.proofs.TableLaws.{few-nets, inputs-below, gate-part, gate-inside, count-at}
-use Rattle.runs.specs.Runs.{runsInWords}
+use Rattle.runs.specs.RunLists.{runsInWords}
 use Rattle.runs.specs.Answers.{Adds}
 use Rattle.runs.specs.declared.inner.Added.{Added}
 use Rattle.runs.specs.declared.inner.Added.the-variants.{Count, Full}

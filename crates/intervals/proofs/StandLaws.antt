@@ -14,7 +14,7 @@ use lib.Seq.{getD-set-same, getD-set-other}
 use Rattle.model.specs.Base.{bit}
 use Rattle.model.specs.Runs.{Run}
 use Rattle.model.specs.Store.{maxRuns}
-use Rattle.runs.specs.Runs.{run, Sound, onlyIf, runsInWords, writeRuns}
+use Rattle.runs.specs.RunLists.{run, Sound, onlyIf, runsInWords, writeRuns}
 use Rattle.model.proofs.BoolLaws.{cases}
 use Rattle.run_union.proofs.RunWriteLaws.{length-writeRuns, runs-write, runs-write-before}
 use Rattle.intervals.specs.PlaceRuns.{runsIn, NetReady}

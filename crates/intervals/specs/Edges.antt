@@ -14,10 +14,10 @@ use Rattle.model.specs.Detect.{Test, hasEdge, detectsNumber}
 use Rattle.model.specs.Runs.{Run, runsOf, workingRuns}
 use Rattle.netlist.specs.Tables.{CircuitTables}
 use Rattle.netlist.specs.declared.inner.Shape.{Shape}
-use Rattle.runs.specs.Runs.{runsInWords}
+use Rattle.runs.specs.RunLists.{runsInWords}
 use Rattle.runs.specs.declared.inner.Added.{Added}
 use Rattle.runs.specs.declared.inner.Added.the-variants.{Count, Full}
-use Rattle.simulation.specs.Circuit.{OpenMasks}
+use Rattle.simulation.specs.Simulated.{OpenMasks}
 
 -- a netlist, a test and an edge
 pub record Case : Type 0 where

@@ -11,10 +11,10 @@ use Rattle.model.specs.Detect.{inNetSet}
 use Rattle.model.specs.Runs.{Run, runsOf}
 use Rattle.netlist.specs.Tables.{CircuitTables}
 use Rattle.netlist.specs.declared.inner.Shape.{Shape}
-use Rattle.runs.specs.Runs.{run, onlyIf, runsInWords}
+use Rattle.runs.specs.RunLists.{run, onlyIf, runsInWords}
 use Rattle.runs.specs.declared.inner.Added.{Added}
 use Rattle.runs.specs.declared.inner.Added.the-variants.{Count, Full}
-use Rattle.simulation.specs.Circuit.{OpenMasks}
+use Rattle.simulation.specs.Simulated.{OpenMasks}
 use Rattle.intervals.specs.Edges.{Case, working}
 
 -- the runs of a net's set

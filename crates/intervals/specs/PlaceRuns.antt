@@ -10,7 +10,7 @@ use Rattle.model.specs.Netlist.{outputCount}
 use Rattle.model.specs.Runs.{Run}
 use Rattle.model.specs.Store.{maxRuns}
 use Rattle.netlist.specs.Tables.{pinCountIn, pinIn, outputIn}
-use Rattle.runs.specs.Runs.{Sound, onlyIf, addRuns, shiftRuns, runsInWords}
+use Rattle.runs.specs.RunLists.{Sound, onlyIf, addRuns, shiftRuns, runsInWords}
 
 -- a gate's pins, or the outputs: the net at each place, whether the place is open, from the place and its net, and how many paths a net has there
 pub record Places : Type 0 where

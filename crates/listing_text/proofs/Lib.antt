@@ -3,5 +3,5 @@ pub mod PutLaws
 pub mod RunSteps
 pub mod CutLaws
 pub mod PieceSteps
-pub mod PiecesHold
+pub mod ListedPiecesHold
 pub mod ExamplesHold

@@ -13,7 +13,7 @@ use lib.Pow.{shl-exact, pow-mono}
 use Rattle.simulation.specs.Packed.{oneWhere}
 use Rattle.load.specs.Load.{nextState, stateAfter, topBit, drawn, wordOf}
 use Rattle.load.specs.Answers.{DrawnTrue}
-use Rattle.load.proofs.WordLaws.{pow-next}
+use Rattle.load.proofs.VectorWordLaws.{pow-next}
 
 pub step-is : (s : ℕ) → (1664525 * s + 1013904223) % 4294967296 ≡ nextState s
 unfolding nextState

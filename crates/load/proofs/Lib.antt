@@ -1,12 +1,12 @@
 -- Laws of the load's definitions, then the cases of each function.
-pub mod WordLaws
+pub mod VectorWordLaws
 pub mod DrawSteps
 pub mod ByteSteps
 pub mod RequestCases
 pub mod VectorSteps
 pub mod SizeLaws
-pub mod LoadCases
-pub mod PackedLaws
+pub mod LoadCallCases
+pub mod PackedVectorLaws
 pub mod MoveLaws
 pub mod LoadsHold
 pub mod ExamplesHold

@@ -19,7 +19,7 @@ use Rattle.load.specs.Load.{Pair, stateAfter, inputTest, recordBytes, fi
 use Rattle.load.specs.Passes.{MovesOnly, inputAt, edgeAt, placeAt, loadFile, recordAt, LoadPasses}
 use Rattle.load.specs.Passes.{stateAfterCalls}
 use Rattle.load.proofs.SizeLaws.{Wide, length-record, test-wide, after-add}
-use Rattle.load.proofs.PackedLaws.{judgedPair, record-passes, record-back}
+use Rattle.load.proofs.PackedVectorLaws.{judgedPair, record-passes, record-back}
 use Rattle.load.proofs.MoveLaws.{TestAt, test-moves, vectorTests, vectors-length, vectors-at, vectors-bytes}
 
 abbrev noTest : Pair

@@ -17,7 +17,7 @@ use Rattle.load.specs.Load.{Pair, stateAfter, drawn, finalValue, inputTe
 use Rattle.load.specs.Load.{loadRecords, vectorRecords, recordBytes}
 use Rattle.load.specs.Passes.{MovesOnly, inputAt, edgeAt}
 use Rattle.load.proofs.VectorSteps.{length-drawn, test-is}
-use Rattle.load.proofs.PackedLaws.{judgedPair}
+use Rattle.load.proofs.PackedVectorLaws.{judgedPair}
 
 -- an input that keeps its value makes no edge
 no-rise : (b : Bool) → T (not b && b) → ⊥

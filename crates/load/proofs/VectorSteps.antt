@@ -21,7 +21,7 @@ use Rattle.load.specs.Load.{Pair, nextState, drawn, finalValue, inverted
 use Rattle.load.specs.Load.{wordOf, packed, recordBytes, fileBytes, loadRecords}
 use Rattle.load.specs.Answers.{DrawnTrue, vectorSize}
 use Rattle.load.specs.declared.inner.Drawn.{Drawn}
-use Rattle.load.proofs.WordLaws.{word-small, lowered-is, raised-is}
+use Rattle.load.proofs.VectorWordLaws.{word-small, lowered-is, raised-is}
 
 pub length-drawn : (n s : ℕ) → length (drawn n s) ≡ n
 unfolding drawn

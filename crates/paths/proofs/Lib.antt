@@ -2,12 +2,12 @@
 pub mod SplitLaws
 pub mod PinCases
 pub mod OutputPicks
-pub mod TableLaws
+pub mod WalkTableLaws
 pub mod PartialLaws
-pub mod WordLaws
-pub mod StepCases
+pub mod PathWordLaws
+pub mod PinStepCases
 pub mod NumberCases
 pub mod DescentCases
-pub mod ReadingCases
+pub mod PathReadingCases
 pub mod WritingCases
-pub mod CallCases
+pub mod PathCallCases

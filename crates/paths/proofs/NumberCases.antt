@@ -18,9 +18,9 @@ use Rattle.netlist.proofs.PartLaws.{part-rest}
 use Rattle.netlist.proofs.TableLaws.{gate-part}
 use Rattle.paths.specs.Picks.{pinCountsIn}
 use Rattle.paths.specs.Tasks.{partialNumber}
-use Rattle.paths.proofs.TableLaws.{pin-counts}
+use Rattle.paths.proofs.WalkTableLaws.{pin-counts}
 use Rattle.paths.proofs.PartialLaws.{number-input, number-input-more, number-short, number-no-pin, number-none, number-more, number-small}
-use Rattle.paths.proofs.StepCases.{step-few, step-inside, step-pins, step-head, step-sum, step-one, step-room, step-high, step-less}
+use Rattle.paths.proofs.PinStepCases.{step-few, step-inside, step-pins, step-head, step-sum, step-one, step-room, step-high, step-less}
 
 -- no pins, and a first pin with the others
 no-pins : (pins : List ℕ) → length pins ≤ 0 → pins ≡ []

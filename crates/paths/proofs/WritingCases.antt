@@ -23,8 +23,8 @@ use Rattle.netlist.proofs.TableLaws.{few-outputs, some-output, few-nets, output
 use Rattle.paths.specs.Picks.{RecordsOfOutputs, outputCountsIn, pickOutput}
 use Rattle.paths.specs.Tasks.{Wanted, PinsWritten, blank}
 use Rattle.paths.specs.declared.pins.Pick.{Pick}
-use Rattle.paths.proofs.TableLaws.{outputs-before, output-counts}
-use Rattle.paths.proofs.WordLaws.{words, buffer-is, length-blank, end-room, blank-room, same-words}
+use Rattle.paths.proofs.WalkTableLaws.{outputs-before, output-counts}
+use Rattle.paths.proofs.PathWordLaws.{words, buffer-is, length-blank, end-room, blank-room, same-words}
 
 module _ (file ps cs : List ℕ) (shape : Shape) (k : ℕ) (r : Wanted file ps cs shape k) where
   abbrev t : CircuitTables (r .circuit) file ps cs shape

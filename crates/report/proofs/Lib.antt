@@ -1,6 +1,6 @@
 -- The writer and the comparison part by part, then the cases of each.
 pub mod WordSteps
 pub mod HeadLaws
-pub mod PartLaws
+pub mod ReportPartLaws
 pub mod ReportCases
 pub mod WriterCases

@@ -21,7 +21,7 @@ use Rattle.store.specs.Answers.{totalsIn, totalsBoth}
 use Rattle.store.specs.Sound.{SoundWords, edgeWords}
 use Rattle.store.specs.declared.inner.StoreTotals.{StoreTotals}
 use Rattle.report.specs.Layout.{wordBytes, SameHead}
-use Rattle.report.proofs.PartLaws.{length-words, report-parts, length-whole}
+use Rattle.report.proofs.ReportPartLaws.{length-words, report-parts, length-whole}
 
 module _ (report ws : List ℕ) (tests paths : ℕ) (sound : SoundWords (2 ^ 62) ws) (R F : List ℕ) (er : R ≡ edgeWords ws rising) (ef : F ≡ edgeWords ws falling)
     (t : StoreTotals) (q : totalsIn t ≡ totalsBoth ws) where

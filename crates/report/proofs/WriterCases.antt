@@ -31,7 +31,7 @@ use Rattle.report.specs.Answers.{WriteTrue}
 use Rattle.report.specs.Layout.{wordBytes, headBytes, ReportPut}
 use Rattle.report.specs.declared.WriteAnswer.the-variants as write
 use Rattle.report.proofs.HeadLaws.{next-put}
-use Rattle.report.proofs.PartLaws.{length-words, report-parts, length-head, length-whole, edge-few, record-fits}
+use Rattle.report.proofs.ReportPartLaws.{length-words, report-parts, length-head, length-whole, edge-few, record-fits}
 
 -- the head, then the words of both edges' runs
 pub report-put : (tests paths : ℕ) (ws : List ℕ) → SoundWords (2 ^ 62) ws → (R F : List ℕ) → R ≡ edgeWords ws rising → F ≡ edgeWords ws falling

@@ -10,7 +10,7 @@ use lib.ListN.{length, take}
 use lib.Seq.{take-all, length-take-le}
 use borrow.Author.Tests.{leb-true, leb-false, le-leb, lt-leb}
 use Rattle.model.specs.Runs.{Run}
-use Rattle.runs.specs.Runs.{addRun, addRuns, runAt, runsInWords, writeRuns}
+use Rattle.runs.specs.RunLists.{addRun, addRuns, runAt, runsInWords, writeRuns}
 use Rattle.runs.specs.Answers.{answer, Adds}
 use Rattle.runs.specs.declared.inner.Added.{Added}
 use Rattle.runs.specs.declared.inner.Added.the-variants.{Count, Full}

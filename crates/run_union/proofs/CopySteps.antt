@@ -6,7 +6,7 @@ use mathlib.Core.List.{List}
 use native.Mathlib.Omega.{arith}
 use lib.ListN.{getD, set}
 use Rattle.model.specs.Runs.{Run}
-use Rattle.runs.specs.Runs.{runAt, runsInWords, writeRuns}
+use Rattle.runs.specs.RunLists.{runAt, runsInWords, writeRuns}
 use Rattle.runs.proofs.RunWordLaws.{length-runs, runs-snoc}
 use Rattle.run_union.proofs.RunWriteLaws.{writeRuns-snoc}
 

@@ -6,7 +6,7 @@ use mathlib.Core.List.{List, [], _∷_}
 use native.Mathlib.Omega.{arith}
 use lib.ListN.{length}
 use Rattle.model.specs.Runs.{Run}
-use Rattle.runs.specs.Runs.{RunWithin, Sound, addRun, shiftRun, shiftRuns, runAt, runsInWords}
+use Rattle.runs.specs.RunLists.{RunWithin, Sound, addRun, shiftRun, shiftRuns, runAt, runsInWords}
 use Rattle.runs.specs.Answers.{Room, Adds}
 use Rattle.runs.specs.declared.inner.Added.{Added}
 use Rattle.runs.specs.declared.inner.Added.the-variants.{Count, Full}

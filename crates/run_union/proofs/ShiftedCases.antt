@@ -10,7 +10,7 @@ use lib.Dec.{ltb}
 use lib.ListN.{length, getD, take, length-append}
 use lib.Seq.{take-all, length-take-le}
 use Rattle.model.specs.Runs.{Run, Separated}
-use Rattle.runs.specs.Runs.{RunWithin, Sound, addRun, addRuns, shiftRun, shiftRuns, runAt, runsInWords, writeRuns}
+use Rattle.runs.specs.RunLists.{RunWithin, Sound, addRun, addRuns, shiftRun, shiftRuns, runAt, runsInWords, writeRuns}
 use Rattle.runs.specs.Answers.{Room, answer, Adds}
 use Rattle.runs.specs.declared.inner.Added.{Added}
 use Rattle.runs.specs.declared.inner.Added.the-variants.{Count, Full}

@@ -8,7 +8,7 @@ use native.Mathlib.Omega.{arith}
 use lib.Dec.{leb}
 use lib.ListN.{getD, length}
 use Rattle.model.specs.Runs.{Run}
-use Rattle.runs.specs.Runs.{RunWithin, Sound, addRun, addRuns, runAt, runsInWords}
+use Rattle.runs.specs.RunLists.{RunWithin, Sound, addRun, addRuns, runAt, runsInWords}
 use Rattle.runs.specs.Answers.{Adds, Room}
 use Rattle.runs.specs.declared.inner.Added.{Added}
 use Rattle.runs.specs.declared.inner.Added.the-variants.{Count, Full}

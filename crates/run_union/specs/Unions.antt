@@ -7,7 +7,7 @@ use mathlib.Core.List.{List, [], _∷_}
 use lib.Dec.{leb}
 use lib.ListN.{getD}
 use Rattle.model.specs.Runs.{Run, runsOf}
-use Rattle.runs.specs.Runs.{Sound, addRuns, shiftRuns, inEither, runsInWords}
+use Rattle.runs.specs.RunLists.{Sound, addRuns, shiftRuns, inEither, runsInWords}
 use Rattle.runs.specs.Answers.{Adds}
 use Rattle.runs.specs.declared.inner.Added.{Added}
 

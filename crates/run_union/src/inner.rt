@@ -3,7 +3,7 @@ ghost use mathlib.Core.Path.{_≡_};
 ghost use mathlib.Core.List.{[], _∷_, _++_};
 ghost use Prim.Native.Nat.{_+_, _-_, _*_, _<_, _≤_, _^_, max};
 ghost use lib.ListN.{length};
-ghost use Rattle.runs.specs.Runs.{run, RunWithin, Sound, addRun, shiftRun, shiftRuns, runAt, runsInWords, writeRuns};
+ghost use Rattle.runs.specs.RunLists.{run, RunWithin, Sound, addRun, shiftRun, shiftRuns, runAt, runsInWords, writeRuns};
 ghost use Rattle.runs.specs.Answers.{Room, Adds};
 ghost use Rattle.run_union.specs.Unions.{withShifted, FitsWhere};
 use runs::inner::Added;

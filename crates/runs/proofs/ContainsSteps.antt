@@ -7,7 +7,7 @@ use mathlib.Core.List.{List, [], _∷_, _++_}
 use native.Mathlib.Omega.{arith}
 use lib.ListN.{getD}
 use Rattle.model.specs.Runs.{Run, inRuns}
-use Rattle.runs.specs.Runs.{Sound, runAt, runsInWords}
+use Rattle.runs.specs.RunLists.{Sound, runAt, runsInWords}
 use Rattle.runs.proofs.MemberLaws.{member, member-in}
 use Rattle.runs.proofs.RunCutLaws.{runs-cut, sound-left, sound-right, cut-up, cut-down, cut-hit}
 

@@ -11,7 +11,7 @@ use lib.ListN.{length, getD}
 use Rattle.model.specs.Runs.{Run, runsOf, inRun, inRuns}
 use Rattle.model.proofs.BoolLaws.{or-cases, and-left, and-right, cases}
 use Rattle.model.proofs.RunLaws.{runs-same, runs-of-runs}
-use Rattle.runs.specs.Runs.{Sound, inEither, runAt, runsInWords}
+use Rattle.runs.specs.RunLists.{Sound, inEither, runAt, runsInWords}
 use Rattle.runs.specs.Answers.{RunInside, InsideWhere}
 use Rattle.runs.proofs.MemberLaws.{member, member-in}
 use Rattle.runs.proofs.RunCutLaws.{cut-hit, runs-cut}

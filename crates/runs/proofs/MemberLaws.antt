@@ -9,7 +9,7 @@ use lib.Dec.{T, leb}
 use borrow.Author.Tests.{le-leb, lt-leb}
 use Rattle.model.specs.Runs.{Run, runsOf, inRun, inRuns, size, Separated}
 use Rattle.model.proofs.RunLaws.{runs-test, runs-by, in→, →in, in-low, in-high}
-use Rattle.runs.specs.Runs.{Sound}
+use Rattle.runs.specs.RunLists.{Sound}
 
 pub run-path : {r s : Run} → r .low ≡ s .low → r .high ≡ s .high → r ≡ s
 run-path p q = λ i. record { low = p i; high = q i }

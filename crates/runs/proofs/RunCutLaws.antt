@@ -7,7 +7,7 @@ use mathlib.Core.List.{List, [], _∷_, _++_}
 use native.Mathlib.Omega.{arith}
 use Rattle.model.specs.Runs.{Run, Separated}
 use Rattle.model.proofs.RunLaws.{separated-weaken}
-use Rattle.runs.specs.Runs.{runAt, runsInWords}
+use Rattle.runs.specs.RunLists.{runAt, runsInWords}
 use Rattle.runs.proofs.MemberLaws.{inside, member, inside-in, inside-lt, inside-gt, below}
 use Rattle.runs.proofs.RunWordLaws.{runs-next}
 

@@ -10,7 +10,7 @@ use lib.Seq.{getD-drop}
 use Rattle.model.specs.Runs.{Run, Separated}
 use Rattle.model.specs.Store.{runsAt}
 use Rattle.model.proofs.BoolLaws.{cases}
-use Rattle.runs.specs.Runs.{run, RunWithin, Sound, runAt, runsInWords}
+use Rattle.runs.specs.RunLists.{run, RunWithin, Sound, runAt, runsInWords}
 use Rattle.runs.proofs.MemberLaws.{run-path}
 
 pub length-runs : (ws : List ℕ) (i k : ℕ) → length (runsInWords ws i k) ≡ k

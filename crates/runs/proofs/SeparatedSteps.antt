@@ -8,7 +8,7 @@ use native.Mathlib.Omega.{arith}
 use borrow.Author.Tests.{le-leb, lt-leb}
 use lib.ListN.{getD}
 use Rattle.model.specs.Runs.{Run, separatedRuns}
-use Rattle.runs.specs.Runs.{runAt, runsInWords}
+use Rattle.runs.specs.RunLists.{runAt, runsInWords}
 use Rattle.runs.proofs.RunWordLaws.{runs-next}
 
 module _ (n least : ℕ) (r : Run) (rs : List Run) where

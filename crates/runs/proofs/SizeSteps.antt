@@ -8,7 +8,7 @@ use mir.Syntax.{w64}
 use mir.Val.{Fits}
 use lib.ListN.{getD}
 use Rattle.model.specs.Runs.{Run, size}
-use Rattle.runs.specs.Runs.{Sound, runAt, runsInWords}
+use Rattle.runs.specs.RunLists.{Sound, runAt, runsInWords}
 use Rattle.runs.proofs.MemberLaws.{size-le}
 use Rattle.runs.proofs.RunWordLaws.{runs-next, sound-at}
 

@@ -7,7 +7,7 @@ use mathlib.Core.List.{List}
 use lib.Dec.{leb}
 use lib.ListN.{length, take}
 use Rattle.model.specs.Runs.{Run}
-use Rattle.runs.specs.Runs.{runAt, writeRuns}
+use Rattle.runs.specs.RunLists.{runAt, writeRuns}
 use Rattle.runs.specs.declared.inner.Added.{Added}
 use Rattle.runs.specs.declared.inner.Added.the-variants.{Count, Full}
 

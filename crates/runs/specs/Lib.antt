@@ -1,3 +1,3 @@
 -- Runs in lent words: what the functions of `inner` promise.
-pub mod Runs
+pub mod RunLists
 pub mod Answers

@@ -4,7 +4,7 @@ ghost use Prim.Native.Nat.{_-_, _*_, _≤_, _^_};
 ghost use lib.ListN.{length};
 ghost use Rattle.model.specs.Runs;
 ghost use Rattle.model.specs.Runs.{inRuns, separatedRuns};
-ghost use Rattle.runs.specs.Runs.{Sound, runsInWords};
+ghost use Rattle.runs.specs.RunLists.{Sound, runsInWords};
 ghost use Rattle.runs.specs.Answers.{InsideWhere};
 
 // The runs that a list then has, or that they are over its capacity.

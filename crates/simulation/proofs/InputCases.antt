@@ -15,7 +15,7 @@ use Rattle.model.specs.Base.{bit}
 use Rattle.model.specs.Detect.{Evaluation}
 use Rattle.model.proofs.BoolLaws.{bool-cases, eqb-false, true→T}
 use Rattle.simulation.specs.States.{wordOf, stateIn, IsState}
-use Rattle.simulation.specs.Circuit.{inputState, InputStates}
+use Rattle.simulation.specs.Simulated.{inputState, InputStates}
 use Rattle.simulation.proofs.PackStates.{word-form, word-back}
 
 -- a digit of a word

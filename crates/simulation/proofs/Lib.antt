@@ -1,5 +1,5 @@
 pub mod PackedLaws
-pub mod GateCases
+pub mod KindCases
 pub mod StateLaws
 pub mod EvaluationCases
 pub mod PackStates

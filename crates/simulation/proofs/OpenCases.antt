@@ -21,7 +21,7 @@ use Rattle.netlist.specs.declared.inner.Shape.{Shape}
 use Rattle.netlist.proofs.TableLaws.{few-inputs, few-nets, inputs-below, gate-part, gate-inside}
 use Rattle.simulation.specs.Packed.{PackedPins}
 use Rattle.simulation.specs.States.{lowLane, midLane, highLane, stateOf, wordOf, stateIn, IsState, pinsIn, PackedStates, StatesAt, statesAt, PacksStates}
-use Rattle.simulation.specs.Circuit.{TestIs, InputStates, MasksTo, OpenMasks}
+use Rattle.simulation.specs.Simulated.{TestIs, InputStates, MasksTo, OpenMasks}
 use Rattle.simulation.specs.declared.inner.evaluation.PinStates.{PinStates}
 use Rattle.simulation.proofs.PackStates.{word-form, word-back, packed-fits}
 use Rattle.simulation.proofs.InputCases.{set-each, set-more}

@@ -12,9 +12,9 @@ use Rattle.model.specs.Path.{Edge, rising, falling}
 use Rattle.model.specs.Runs.{separatedRuns}
 use Rattle.model.specs.Store.{placeWords, headWords, maxRuns, storeWords, bothEdges, runCount, storeRuns, wordsAfter, storeRules}
 use Rattle.model.proofs.BoolLaws.{and-left, and-right, true→T}
-use Rattle.runs.specs.Runs.{runsInWords}
+use Rattle.runs.specs.RunLists.{runsInWords}
 use Rattle.store.specs.Sound.{FewRuns}
-use Rattle.store.proofs.PlaceLaws.{placesOf, places-rising, places-falling}
+use Rattle.store.proofs.RunPlaceLaws.{placesOf, places-rising, places-falling}
 use Rattle.store.proofs.ZeroSteps.{zeros}
 
 module _ (f : Edge → Bool) (a : Bool) (first : a ≡ f rising) where

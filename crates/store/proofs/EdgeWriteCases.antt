@@ -14,7 +14,7 @@ use Rattle.model.specs.Store.{ByEdge, ofEdge, maxRuns, placeWords, headWords, s
 use Rattle.model.proofs.AnswerLaws.{checks→}
 use Rattle.model.proofs.StoreLaws.{length-places, length-runsAt, runCount-store, length-store, store-runs}
 use Rattle.netlist.proofs.PartLaws.{part-rest}
-use Rattle.runs.specs.Runs.{runsInWords, writeRuns}
+use Rattle.runs.specs.RunLists.{runsInWords, writeRuns}
 use Rattle.runs.proofs.RunWordLaws.{length-runs}
 use Rattle.store.specs.Sound.{FewRuns}
 use Rattle.store.specs.Writing.{ZeroWords, paddedRuns, firstRun, changed, withRuns, StoreHas, Writable}

@@ -8,7 +8,7 @@ use lib.ListN.{length, getD, set, replicate, length-append, length-replicate}
 use lib.Seq.{set-at, getD-set-other}
 use Rattle.model.specs.Runs.{Run}
 use Rattle.model.specs.Store.{maxRuns, lowsHighs, places}
-use Rattle.runs.specs.Runs.{run, runAt, runsInWords, writeRuns}
+use Rattle.runs.specs.RunLists.{run, runAt, runsInWords, writeRuns}
 use Rattle.runs.proofs.MemberLaws.{run-path}
 use Rattle.runs.proofs.RunWordLaws.{length-runs}
 use Rattle.run_union.proofs.RunWriteLaws.{writeRuns-self}

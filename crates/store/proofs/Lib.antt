@@ -1,4 +1,4 @@
-pub mod PlaceLaws
+pub mod RunPlaceLaws
 pub mod ZeroSteps
 pub mod CheckSteps
 pub mod SoundLaws

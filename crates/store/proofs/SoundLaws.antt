@@ -19,14 +19,14 @@ use Rattle.model.specs.Read.{within}
 use Rattle.faults.specs.Answers.{modelEdge}
 use Rattle.faults.specs.declared.Edge as Code
 use Rattle.faults.specs.declared.Edge.the-variants as at
-use Rattle.runs.specs.Runs.{Sound, runsInWords}
+use Rattle.runs.specs.RunLists.{Sound, runsInWords}
 use Rattle.runs.proofs.MemberLaws.{sound-mono}
 use Rattle.store.specs.Answers.{checkOf, totalsIn, totalsBoth, totalsOn, faultOn}
 use Rattle.store.specs.Sound.{FewRuns, SoundWords}
 use Rattle.store.specs.declared.inner.StoreCheck.{StoreCheck}
 use Rattle.store.specs.declared.inner.StoreCheck.the-variants as check
 use Rattle.store.specs.declared.inner.StoreTotals.{StoreTotals}
-use Rattle.store.proofs.PlaceLaws.{placesOf, places-rising, places-falling}
+use Rattle.store.proofs.RunPlaceLaws.{placesOf, places-rising, places-falling}
 use borrow.Author.Tests.{le-leb, lt-leb}
 
 -- words that pass the checks are sound

@@ -7,7 +7,7 @@ use lib.ListN.{length, getD, set, replicate}
 use Rattle.model.specs.Path.{Edge, rising, falling}
 use Rattle.model.specs.Runs.{Run}
 use Rattle.model.specs.Store.{ByEdge, ofEdge, maxRuns, storeOf}
-use Rattle.runs.specs.Runs.{run, runsInWords}
+use Rattle.runs.specs.RunLists.{run, runsInWords}
 use Rattle.store.specs.declared.inner.writing.Change.{Change}
 use Rattle.store.specs.declared.inner.writing.Change.the-variants.{Kept, Made}
 

@@ -25,10 +25,10 @@ use Rattle.listing_text.specs.Answers.{outBytes, pieceBytes, Put, TablesOf, Lis
 use Rattle.listing_text.specs.declared.inner.Listed.{Listed}
 use Rattle.listing_text.proofs.PutLaws.{put-length}
 use Rattle.listing_text.proofs.CutLaws.{listed-end}
-use Rattle.listing_text.proofs.PiecesHold.{store-more, count-more}
-use Rattle.test_file.specs.Listing.{listedStore, PiecesListed, FileListed}
+use Rattle.listing_text.proofs.ListedPiecesHold.{store-more, count-more}
+use Rattle.test_file.specs.ListingWalk.{listedStore, PiecesListed, FileListed}
 use Rattle.test_file.specs.declared.inner.ListedFile.{ListedFile}
-use Rattle.test_file.proofs.ReadLaws.{part-length, record-bytes, FileSoFar, file-start, file-more, file-over, file-next, file-last}
+use Rattle.test_file.proofs.ReadPieceLaws.{part-length, record-bytes, FileSoFar, file-start, file-more, file-over, file-next, file-last}
 
 -- nothing is read yet
 none-listed : (N : Netlist) → listedRecords N [] ≡ []

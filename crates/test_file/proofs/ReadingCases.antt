@@ -27,7 +27,7 @@ use Rattle.pieces.proofs.StepCases.{ready-inputs}
 use Rattle.pieces.proofs.TogetherHolds.{no-bytes, piece-then}
 use Rattle.pieces.proofs.TakenLaws.{taken-none, taken-both}
 use Rattle.test_file.specs.Walked.{recordsTaken, Walked}
-use Rattle.test_file.proofs.ReadLaws.{record-bytes, FileSoFar, file-start, file-more, file-over, file-next, file-last}
+use Rattle.test_file.proofs.ReadPieceLaws.{record-bytes, FileSoFar, file-start, file-more, file-over, file-next, file-last}
 
 -- the store after a piece, by the state before it
 store-with : (N : Netlist) (c : Class) (a : StageAnswer) (piece ws : List ℕ) → ws ≡ leftStore (fileOf a ws)

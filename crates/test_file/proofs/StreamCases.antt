@@ -34,7 +34,7 @@ use Rattle.test_file.specs.declared.Judged.{Judged}
 use Rattle.test_file.specs.declared.Reported.{Reported}
 use Rattle.test_file.specs.Walked.{fileTaken, Walked, Wrote, lengthIn, withReport, writerAfter}
 use Rattle.test_file.specs.Streams.{fileCall, fileStore, trueReport, takenBy, StreamRead, StreamAudited, StreamReported}
-use Rattle.test_file.proofs.ReportCases.{all-taken}
+use Rattle.test_file.proofs.TrueReportCases.{all-taken}
 
 -- what passes nowhere is refused with the same number
 same-number : (x : Answer Netlist) (n : ℕ) → refused n ≡ passes x → x ≡ refused n

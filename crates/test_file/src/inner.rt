@@ -4,7 +4,7 @@ ghost use Prim.Native.Nat.{_≤_};
 ghost use lib.ListN.{length};
 ghost use Rattle.model.specs.Store.{emptyStore};
 ghost use Rattle.listing_text.specs.Answers.{pieceBytes, ListReady};
-ghost use Rattle.test_file.specs.Listing.{PiecesListed, FileListed};
+ghost use Rattle.test_file.specs.ListingWalk.{PiecesListed, FileListed};
 use crate::walking::full_piece;
 use crate::walking::read_part;
 use crate::walking::whole_part;

@@ -4,7 +4,7 @@ ghost use mathlib.Core.Bool.{_&&_};
 ghost use Prim.Native.Nat.{_+_, _≤_};
 ghost use lib.ListN.{length};
 ghost use Rattle.model.specs.Read.{pinsFit};
-ghost use Rattle.bench_lines.specs.Reading.{part, NameIn};
+ghost use Rattle.bench_lines.specs.LineReading.{part, NameIn};
 ghost use Rattle.bench_circuit.specs.Judging.{NamesRoom, PinsJudged, InputJudged, OutputJudged, GateJudged};
 ghost use Rattle.bench_circuit.specs.Judging.{HeldRoom, WordsRoom, countedAs, LineTrue, TextTrue};
 use crate::inner::names::net_at;

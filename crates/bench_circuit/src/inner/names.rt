@@ -1,6 +1,6 @@
 // Names looked up among those that the lines so far define.
 ghost use mathlib.Core.Path.{_≡_};
-ghost use Rattle.bench_lines.specs.Reading.{part, NameIn};
+ghost use Rattle.bench_lines.specs.LineReading.{part, NameIn};
 ghost use Rattle.bench_circuit.specs.Judging.{pairNet, keyNet, NamesRoom};
 use bench_lines::inner::keys::find_key;
 use bench_lines::inner::keys::key_at;

@@ -5,7 +5,7 @@ ghost use Prim.Native.Nat.{_+_, _*_, _≤_, _<_};
 ghost use lib.Dec.{eqb};
 ghost use lib.ListN.{length, getD, set};
 ghost use Rattle.model.specs.Base.{fromLittleEndian};
-ghost use Rattle.bench_lines.specs.Reading.{part};
+ghost use Rattle.bench_lines.specs.LineReading.{part};
 ghost use Rattle.bench_lines.specs.Keys.{keyOf, keyPlace};
 
 // A name's bytes low byte first: the first eight, and those after them.

@@ -1,7 +1,7 @@
 // The lines of a text, each as the part of the text from a position to a stop.
 ghost use Prim.Native.Nat.{_≤_, _<_};
 ghost use lib.ListN.{length};
-ghost use Rattle.bench_lines.specs.Reading.{EndIs, LineIs};
+ghost use Rattle.bench_lines.specs.LineReading.{EndIs, LineIs};
 
 // Where a line stops, without its end, and where the next one begins.
 pub struct LineEnds {

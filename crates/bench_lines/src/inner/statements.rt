@@ -3,7 +3,7 @@ ghost use mathlib.Core.Path.{_≡_};
 ghost use Prim.Native.Nat.{_+_, _≤_};
 ghost use lib.ListN.{length};
 ghost use Rattle.bench_lines.specs.Text.{place, kindNames, ioNames};
-ghost use Rattle.bench_lines.specs.Reading.{part, NameIn, restAt};
+ghost use Rattle.bench_lines.specs.LineReading.{part, NameIn, restAt};
 ghost use Rattle.bench_lines.specs.Stating.{atEnd, PinIs, NamedThen, PinsStated, KindStated, GateStated};
 ghost use Rattle.bench_lines.specs.Stating.{IoClosed, IoStated, NameStated, LineStated};
 use crate::inner::keys::find_key;

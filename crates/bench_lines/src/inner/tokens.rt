@@ -3,7 +3,7 @@ ghost use mathlib.Core.Path.{_≡_};
 ghost use Prim.Native.Nat.{_≤_};
 ghost use lib.ListN.{length};
 ghost use Rattle.bench_lines.specs.Text.{nameByte};
-ghost use Rattle.bench_lines.specs.Reading.{SpacesEnd, WordEnd, TokenIs};
+ghost use Rattle.bench_lines.specs.LineReading.{SpacesEnd, WordEnd, TokenIs};
 
 // A name from a position to another, a sign with the position after it, or the line's end.
 pub enum NextToken {

@@ -1,7 +1,7 @@
 -- `bench_text::bench_to_netlist` meets its contract: the buffer first.
 -- Assumes nothing.
 use borrow.Author.Needs.{needs}
-use Rattle.bench_text.proofs.CallCases.{buffer-short}
+use Rattle.bench_text.proofs.ConvertCases.{buffer-short}
 use Rattle.bench_text.proofs.bench_to_netlist.Statement.{statement}
 use Rattle.bench_text.proofs.bench_to_netlist.Tie as tie
 

@@ -1,7 +1,7 @@
 -- `bench_text::convert_with` meets its contract: a refused line, or what is known at the end.
 -- Assumes nothing.
 use borrow.Author.Needs.{needs}
-use Rattle.bench_text.proofs.CallCases.{held-text, text-refused}
+use Rattle.bench_text.proofs.ConvertCases.{held-text, text-refused}
 use Rattle.bench_text.proofs.convert_with.Statement.{statement}
 use Rattle.bench_text.proofs.convert_with.Tie as tie
 

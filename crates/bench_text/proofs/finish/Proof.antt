@@ -1,7 +1,7 @@
 -- `bench_text::finish` meets its contract: refused at the end, or written.
 -- Assumes nothing.
 use borrow.Author.Needs.{needs}
-use Rattle.bench_text.proofs.CallCases.{end-refused, end-told}
+use Rattle.bench_text.proofs.ConvertCases.{end-refused, end-told}
 use Rattle.bench_text.proofs.finish.Statement.{statement}
 use Rattle.bench_text.proofs.finish.Tie as tie
 

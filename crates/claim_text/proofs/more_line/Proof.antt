@@ -3,7 +3,7 @@
 use borrow.Author.Needs.{needs}
 use Rattle.claim_text.specs.Claims.{moreText}
 use Rattle.claim_text.proofs.LengthLaws.{more-short}
-use Rattle.claim_text.proofs.PartLaws.{first-part, then-part, whole-line}
+use Rattle.claim_text.proofs.LinePartLaws.{first-part, then-part, whole-line}
 use Rattle.claim_text.proofs.more_line.Statement.{statement}
 use Rattle.claim_text.proofs.more_line.Tie as tie
 

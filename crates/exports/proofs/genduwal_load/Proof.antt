@@ -1,5 +1,5 @@
 -- `exports::genduwal_load` meets its contract. Assumes nothing.
-use Rattle.exports.proofs.LoadCases.{load-cases}
+use Rattle.exports.proofs.LoadCodeCases.{load-cases}
 use borrow.Author.Needs.{needs}
 use Rattle.exports.proofs.genduwal_load.Statement.{statement}
 use Rattle.exports.proofs.genduwal_load.Tie as tie

@@ -3,7 +3,7 @@
 use mathlib.Core.Path.{sym, _∙_}
 use native.Mathlib.Omega.{arith}
 use borrow.Author.Tests.{not-false}
-use Rattle.load.proofs.LoadCases.{range-least, range-most}
+use Rattle.load.proofs.LoadCallCases.{range-least, range-most}
 use borrow.Author.Needs.{needs}
 use Rattle.make_load.proofs.make.Statement.{statement}
 use Rattle.make_load.proofs.make.Tie as tie

@@ -1,6 +1,6 @@
 -- `paths::number_to_path` meets its contract: each return is a case of the buffer, the netlist and the number.
 -- Assumes nothing.
-use Rattle.paths.proofs.CallCases.{number-to-path-cases}
+use Rattle.paths.proofs.PathCallCases.{number-to-path-cases}
 use borrow.Author.Needs.{needs}
 use Rattle.paths.proofs.number_to_path.Statement.{statement}
 use Rattle.paths.proofs.number_to_path.Tie as tie

@@ -1,6 +1,6 @@
 -- `paths::path_to_number` meets its contract: each return is a case of the netlist and of the number that was read.
 -- Assumes nothing.
-use Rattle.paths.proofs.CallCases.{path-to-number-cases}
+use Rattle.paths.proofs.PathCallCases.{path-to-number-cases}
 use borrow.Author.Needs.{needs}
 use Rattle.paths.proofs.path_to_number.Statement.{statement}
 use Rattle.paths.proofs.path_to_number.Tie as tie

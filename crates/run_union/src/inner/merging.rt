@@ -2,7 +2,7 @@
 ghost use mathlib.Core.Path.{_≡_};
 ghost use Prim.Native.Nat.{_+_, _-_, _*_, _<_, _≤_, _^_};
 ghost use lib.ListN.{length};
-ghost use Rattle.runs.specs.Runs.{RunWithin, Sound, addRun, runAt, runsInWords};
+ghost use Rattle.runs.specs.RunLists.{RunWithin, Sound, addRun, runAt, runsInWords};
 ghost use Rattle.runs.specs.Answers.{Room, Adds};
 ghost use Rattle.run_union.specs.Unions.{leftFirst, Unites};
 use crate::inner::append;

@@ -8,7 +8,7 @@ ghost use Rattle.model.specs.Netlist.{Netlist};
 ghost use Rattle.model.specs.Detect.{Test};
 ghost use Rattle.simulation.specs.States.{wordOf};
 ghost use Rattle.netlist.specs.Tables.{CircuitTables, SomeCircuit};
-ghost use Rattle.simulation.specs.Circuit.{TestIs, InputStates, inputState, OpenMasks};
+ghost use Rattle.simulation.specs.Simulated.{TestIs, InputStates, inputState, OpenMasks};
 use crate::inner::evaluation;
 use netlist::inner::Shape;
 use netlist::inner::gate_part;

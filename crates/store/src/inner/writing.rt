@@ -3,7 +3,7 @@ ghost use mathlib.Core.Path.{_≡_};
 ghost use Prim.Native.Nat.{_+_, _-_, _*_, _≤_, _<_};
 ghost use lib.ListN.{length};
 ghost use Rattle.model.specs.Store.{maxRuns, headWords, countWord};
-ghost use Rattle.runs.specs.Runs.{runsInWords, writeRuns};
+ghost use Rattle.runs.specs.RunLists.{runsInWords, writeRuns};
 ghost use Rattle.faults.specs.Answers.{modelEdge};
 ghost use Rattle.store.specs.Writing.{zeroed, paddedRuns, ZeroWords, firstRun, Writable, Rewritten};
 use crate::inner::FALLING_COUNT;

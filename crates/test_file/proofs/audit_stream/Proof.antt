@@ -1,7 +1,7 @@
 -- `test_file::audit_stream` meets its contract: a refusal at the beginning, or the end of a file that was walked over.
 -- Assumes nothing.
 use Rattle.pieces.proofs.TogetherHolds.{begun-ready, begun-empty}
-use Rattle.test_file.proofs.ReportCases.{few-tests}
+use Rattle.test_file.proofs.TrueReportCases.{few-tests}
 use Rattle.test_file.proofs.StreamCases.{audit-done, stream-cases}
 use mathlib.Core.Path.{_∙_}
 use borrow.Author.Needs.{needs}

@@ -1,7 +1,7 @@
 -- `test_file::report_stream` meets its contract: a refusal at the beginning, or the report of a file that was walked over.
 -- Assumes nothing.
 use Rattle.pieces.proofs.TogetherHolds.{begun-ready, begun-empty}
-use Rattle.test_file.proofs.ReportCases.{few-tests}
+use Rattle.test_file.proofs.TrueReportCases.{few-tests}
 use Rattle.test_file.proofs.StreamCases.{report-done, stream-cases}
 use borrow.Author.Needs.{needs}
 use Rattle.test_file.proofs.report_stream.Statement.{statement}

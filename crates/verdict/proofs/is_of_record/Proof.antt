@@ -1,7 +1,7 @@
 -- `verdict::is_of_record` meets its contract: each test says whether the number is that of one of the four cases.
 -- Assumes nothing.
 use borrow.Author.Needs.{needs}
-use Rattle.verdict.proofs.RecordCases.{record-cases}
+use Rattle.verdict.proofs.OfRecordCases.{record-cases}
 use Rattle.verdict.proofs.is_of_record.Statement.{statement}
 use Rattle.verdict.proofs.is_of_record.Tie as tie
 

@@ -1,7 +1,7 @@
 -- `bench_text::writing::put_output` meets its contract: whether it is one.
 -- Assumes nothing.
 use borrow.Author.Needs.{needs}
-use Rattle.bench_text.proofs.OutputLaws.{output-yes, output-no, output-first, output-second}
+use Rattle.bench_text.proofs.OutputFileLaws.{output-yes, output-no, output-first, output-second}
 use Rattle.bench_text.proofs.writing.put_output.Statement.{statement}
 use Rattle.bench_text.proofs.writing.put_output.Tie as tie
 

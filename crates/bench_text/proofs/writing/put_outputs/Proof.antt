@@ -1,8 +1,8 @@
 -- `bench_text::writing::put_outputs` meets its contract: the names that are left, written from here on, give the whole.
 -- Assumes nothing.
 use borrow.Author.Needs.{needs}
-use Rattle.bench_text.proofs.OutputLaws.{OutputsLeft, outputs-start, outputs-same, outputs-end, outputs-room}
-use Rattle.bench_text.proofs.OutputLaws.{outputs-again}
+use Rattle.bench_text.proofs.OutputFileLaws.{OutputsLeft, outputs-start, outputs-same, outputs-end, outputs-room}
+use Rattle.bench_text.proofs.OutputFileLaws.{outputs-again}
 use Rattle.bench_text.proofs.writing.put_outputs.Statement.{statement}
 use Rattle.bench_text.proofs.writing.put_outputs.Tie as tie
 

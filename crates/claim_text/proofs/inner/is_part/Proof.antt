@@ -1,7 +1,7 @@
 -- `claim_text::inner::is_part` meets its contract: with no path nothing is a part.
 -- Assumes nothing.
 use native.Mathlib.Omega.{arith}
-use Rattle.claim_text.proofs.PartLaws.{no-paths, part-told}
+use Rattle.claim_text.proofs.LinePartLaws.{no-paths, part-told}
 use Rattle.claim_text.proofs.inner.is_part.Statement.{statement}
 use Rattle.claim_text.proofs.inner.is_part.Tie as tie
 

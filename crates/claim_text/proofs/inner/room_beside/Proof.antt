@@ -2,7 +2,7 @@
 -- Assumes nothing.
 use borrow.Author.Needs.{needs}
 use native.Mathlib.Omega.{arith}
-use Rattle.claim_text.proofs.PartLaws.{room-left, room-least}
+use Rattle.claim_text.proofs.LinePartLaws.{room-left, room-least}
 use Rattle.claim_text.proofs.inner.room_beside.Statement.{statement}
 use Rattle.claim_text.proofs.inner.room_beside.Tie as tie
 

@@ -1,8 +1,8 @@
 -- `claim_text::inner::with_claimed_share` meets its contract: with percent where the number is a part of the paths.
 -- Assumes nothing.
 use borrow.Author.Needs.{needs}
-use Rattle.claim_text.proofs.PartLaws.{then-part, as-part, some-paths-there, part-there, claimed-part}
-use Rattle.claim_text.proofs.PartLaws.{claimed-over}
+use Rattle.claim_text.proofs.LinePartLaws.{then-part, as-part, some-paths-there, part-there, claimed-part}
+use Rattle.claim_text.proofs.LinePartLaws.{claimed-over}
 use Rattle.claim_text.proofs.inner.with_claimed_share.Statement.{statement}
 use Rattle.claim_text.proofs.inner.with_claimed_share.Tie as tie
 

@@ -2,7 +2,7 @@
 -- Assumes nothing.
 use borrow.Author.Needs.{needs}
 use native.Mathlib.Omega.{arith}
-use Rattle.claim_text.proofs.PartLaws.{then-part, as-part, count-one, count-more}
+use Rattle.claim_text.proofs.LinePartLaws.{then-part, as-part, count-one, count-more}
 use Rattle.claim_text.proofs.inner.with_count.Statement.{statement}
 use Rattle.claim_text.proofs.inner.with_count.Tie as tie
 

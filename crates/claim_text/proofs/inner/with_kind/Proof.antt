@@ -3,7 +3,7 @@
 use borrow.Author.Needs.{needs}
 use mathlib.Core.Path.{ap, sym}
 use Rattle.claim_text.specs.Claims.{kindText}
-use Rattle.claim_text.proofs.PartLaws.{as-part}
+use Rattle.claim_text.proofs.LinePartLaws.{as-part}
 use Rattle.claim_text.proofs.inner.with_kind.Statement.{statement}
 use Rattle.claim_text.proofs.inner.with_kind.Tie as tie
 

@@ -2,7 +2,7 @@
 -- Assumes nothing.
 use borrow.Author.Needs.{needs}
 use native.Mathlib.Omega.{arith}
-use Rattle.claim_text.proofs.PartLaws.{then-part, as-part, one-path, some-paths}
+use Rattle.claim_text.proofs.LinePartLaws.{then-part, as-part, one-path, some-paths}
 use Rattle.claim_text.proofs.inner.with_paths.Statement.{statement}
 use Rattle.claim_text.proofs.inner.with_paths.Tie as tie
 

@@ -1,7 +1,7 @@
 -- `claim_text::inner::with_percent` meets its contract: the whole percent, then the tenth.
 -- Assumes nothing.
 use borrow.Author.Needs.{needs}
-use Rattle.claim_text.proofs.PartLaws.{then-part, as-part, percent-parts}
+use Rattle.claim_text.proofs.LinePartLaws.{then-part, as-part, percent-parts}
 use Rattle.claim_text.proofs.inner.with_percent.Statement.{statement}
 use Rattle.claim_text.proofs.inner.with_percent.Tie as tie
 

@@ -2,7 +2,7 @@
 -- Assumes nothing.
 use borrow.Author.Needs.{needs}
 use native.Mathlib.Omega.{arith}
-use Rattle.claim_text.proofs.PartLaws.{as-part, plural-missed, plural-not-robust, plural-one, plural-more}
+use Rattle.claim_text.proofs.LinePartLaws.{as-part, plural-missed, plural-not-robust, plural-one, plural-more}
 use Rattle.claim_text.proofs.inner.with_plural.Statement.{statement}
 use Rattle.claim_text.proofs.inner.with_plural.Tie as tie
 

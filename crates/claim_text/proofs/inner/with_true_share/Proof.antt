@@ -1,7 +1,7 @@
 -- `claim_text::inner::with_true_share` meets its contract: percent where the number is a part of the paths, else nothing.
 -- Assumes nothing.
 use borrow.Author.Needs.{needs}
-use Rattle.claim_text.proofs.PartLaws.{then-part, as-part, some-paths-there, part-there, true-part, true-over}
+use Rattle.claim_text.proofs.LinePartLaws.{then-part, as-part, some-paths-there, part-there, true-part, true-over}
 use Rattle.claim_text.proofs.inner.with_true_share.Statement.{statement}
 use Rattle.claim_text.proofs.inner.with_true_share.Tie as tie
 

@@ -1,6 +1,6 @@
 -- `load::inner::fill` meets its contract: as many vectors as are left, or as the buffer's length divided by the size of one vector's records.
 -- Assumes nothing.
-use Rattle.load.proofs.LoadCases.{fill-cases}
+use Rattle.load.proofs.LoadCallCases.{fill-cases}
 use borrow.Author.Needs.{needs}
 use Rattle.load.proofs.inner.fill.Statement.{statement}
 use Rattle.load.proofs.inner.fill.Tie as tie

@@ -3,7 +3,7 @@
 use mathlib.Core.Path.{ap}
 use Prim.Native.Nat.{_-_}
 use lib.Bits.{and-le-l}
-use Rattle.load.proofs.WordLaws.{mask-bit}
+use Rattle.load.proofs.VectorWordLaws.{mask-bit}
 use Rattle.load.proofs.inner.lowered.Statement.{statement}
 use Rattle.load.proofs.inner.lowered.Tie as tie
 

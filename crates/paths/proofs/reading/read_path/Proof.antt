@@ -1,6 +1,6 @@
 -- `paths::reading::read_path` meets its contract: each return is a case of the words.
 -- Assumes nothing.
-use Rattle.paths.proofs.ReadingCases.{reading-cases}
+use Rattle.paths.proofs.PathReadingCases.{reading-cases}
 use borrow.Author.Needs.{needs}
 use Rattle.paths.proofs.reading.read_path.Statement.{statement}
 use Rattle.paths.proofs.reading.read_path.Tie as tie

@@ -3,7 +3,7 @@ use mathlib.Core.Path.{_≡_}
 use Prim.Native.Nat.{_≤_, _-_}
 use lib.ListN.{length}
 use Rattle.paths.specs.Tasks.{blank}
-use Rattle.paths.proofs.WordLaws.{blank-cases}
+use Rattle.paths.proofs.PathWordLaws.{blank-cases}
 use Rattle.paths.proofs.writing.clear.Statement.{statement}
 use Rattle.paths.proofs.writing.clear.Tie as tie
 

@@ -1,6 +1,6 @@
 -- `paths::writing::write_path` meets its contract: output, pins and number of pins, over zeros, are the words of the path.
 -- Assumes nothing.
-use Rattle.paths.proofs.WordLaws.{end-room, same-words}
+use Rattle.paths.proofs.PathWordLaws.{end-room, same-words}
 use Rattle.paths.proofs.WritingCases.{writing-cases, picked-pin, end-back, end-fits}
 use borrow.Author.Needs.{needs}
 use Rattle.paths.proofs.writing.write_path.Statement.{statement}

@@ -2,7 +2,7 @@
 -- Assumes nothing.
 use native.Mathlib.Omega.{arith}
 use Rattle.model.specs.Path.{rising, falling}
-use Rattle.report.proofs.PartLaws.{edge-few}
+use Rattle.report.proofs.ReportPartLaws.{edge-few}
 use Rattle.report.proofs.ReportCases.{report-cases}
 use borrow.Author.Needs.{needs}
 use Rattle.report.proofs.inner.same_report.Statement.{statement}

@@ -3,7 +3,7 @@
 use Prim.Native.Nat.{_-_, _≤_}
 use mathlib.Core.Path.{_≡_}
 use Rattle.model.specs.Runs.{separatedRuns}
-use Rattle.runs.specs.Runs.{runsInWords}
+use Rattle.runs.specs.RunLists.{runsInWords}
 use Rattle.runs.proofs.SeparatedSteps.{separated-low, separated-empty, separated-high, separated-next, separated-end}
 use borrow.Author.Needs.{needs}
 use Rattle.runs.proofs.inner.separated.Statement.{statement}

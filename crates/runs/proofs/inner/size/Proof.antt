@@ -3,7 +3,7 @@
 use Prim.Native.Nat.{_+_, _-_, _≤_}
 use mathlib.Core.Path.{_≡_}
 use Rattle.model.specs.Runs.{size}
-use Rattle.runs.specs.Runs.{runsInWords}
+use Rattle.runs.specs.RunLists.{runsInWords}
 use Rattle.runs.proofs.SizeSteps.{size-order, size-one, size-sum, size-next, size-end}
 use borrow.Author.Needs.{needs}
 use Rattle.runs.proofs.inner.size.Statement.{statement}

@@ -1,6 +1,6 @@
 -- `test_file::read_part` meets its contract: what was read lies in the part that was lent.
 -- Assumes nothing.
-use Rattle.test_file.proofs.ReadLaws.{read-cases}
+use Rattle.test_file.proofs.ReadPieceLaws.{read-cases}
 use borrow.Author.Needs.{needs}
 use Rattle.test_file.proofs.walking.read_part.Statement.{statement}
 use Rattle.test_file.proofs.walking.read_part.Tie as tie

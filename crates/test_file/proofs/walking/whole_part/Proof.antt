@@ -1,7 +1,7 @@
 -- `test_file::whole_part` meets its contract: what is left of a division is taken away.
 -- Assumes nothing.
 use native.Mathlib.Nat.{mod-le}
-use Rattle.test_file.proofs.ReadLaws.{part-cases}
+use Rattle.test_file.proofs.ReadPieceLaws.{part-cases}
 use borrow.Author.Needs.{needs}
 use Rattle.test_file.proofs.walking.whole_part.Statement.{statement}
 use Rattle.test_file.proofs.walking.whole_part.Tie as tie

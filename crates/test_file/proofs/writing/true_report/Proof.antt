@@ -1,6 +1,6 @@
 -- `test_file::true_report` meets its contract: no report after a refusal, else the writer's, which lies in the buffer.
 -- Assumes nothing.
-use Rattle.test_file.proofs.ReportCases.{tests-fit, wrote-cases}
+use Rattle.test_file.proofs.TrueReportCases.{tests-fit, wrote-cases}
 use borrow.Author.Needs.{needs}
 use Rattle.test_file.proofs.writing.true_report.Statement.{statement}
 use Rattle.test_file.proofs.writing.true_report.Tie as tie

@@ -1,6 +1,6 @@
 -- `test_file::with_length` meets its contract: the length that the answer has.
 -- Assumes nothing.
-use Rattle.test_file.proofs.ReportCases.{answer-cases}
+use Rattle.test_file.proofs.TrueReportCases.{answer-cases}
 use borrow.Author.Needs.{needs}
 use Rattle.test_file.proofs.writing.with_length.Statement.{statement}
 use Rattle.test_file.proofs.writing.with_length.Tie as tie

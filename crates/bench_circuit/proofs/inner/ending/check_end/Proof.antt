@@ -2,8 +2,8 @@
 -- Assumes nothing.
 use borrow.Author.Needs.{needs}
 use borrow.Author.Tests.{not-true, not-false}
-use Rattle.bench_circuit.proofs.EndCases.{end-room, end-outs, end-unknown, end-no-input, end-no-output}
-use Rattle.bench_circuit.proofs.EndCases.{end-sound}
+use Rattle.bench_circuit.proofs.TextEndCases.{end-room, end-outs, end-unknown, end-no-input, end-no-output}
+use Rattle.bench_circuit.proofs.TextEndCases.{end-sound}
 use Rattle.bench_circuit.proofs.inner.ending.check_end.Statement.{statement}
 use Rattle.bench_circuit.proofs.inner.ending.check_end.Tie as tie
 

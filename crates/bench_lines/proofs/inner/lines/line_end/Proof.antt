@@ -3,7 +3,7 @@
 use Prim.Native.Nat.{_-_}
 use borrow.Author.Needs.{needs}
 use lib.ListN.{length}
-use Rattle.bench_lines.proofs.LineLaws.{LineSoFar, line-start, line-more, line-ends, line-last}
+use Rattle.bench_lines.proofs.TextLineLaws.{LineSoFar, line-start, line-more, line-ends, line-last}
 use Rattle.bench_lines.proofs.inner.lines.line_end.Statement.{statement}
 use Rattle.bench_lines.proofs.inner.lines.line_end.Tie as tie
 

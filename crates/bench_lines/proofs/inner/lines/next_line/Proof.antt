@@ -1,6 +1,6 @@
 -- `bench_lines::inner::lines::next_line` meets its contract: each return is a case of the line's end.
 -- Assumes nothing.
-use Rattle.bench_lines.proofs.LineLaws.{line-to-end, line-empty, line-return, line-plain}
+use Rattle.bench_lines.proofs.TextLineLaws.{line-to-end, line-empty, line-return, line-plain}
 use borrow.Author.Needs.{needs}
 use Rattle.bench_lines.proofs.inner.lines.next_line.Statement.{statement}
 use Rattle.bench_lines.proofs.inner.lines.next_line.Tie as tie

@@ -1,6 +1,6 @@
 -- `bench_lines::inner::statements::at_end` meets its contract: by the next token.
 -- Assumes nothing.
-use Rattle.bench_lines.proofs.StateLaws.{end-yes, end-sign, end-name}
+use Rattle.bench_lines.proofs.StatementLaws.{end-yes, end-sign, end-name}
 use borrow.Author.Needs.{needs}
 use Rattle.bench_lines.proofs.inner.statements.at_end.Statement.{statement}
 use Rattle.bench_lines.proofs.inner.statements.at_end.Tie as tie

@@ -1,7 +1,7 @@
 -- `bench_lines::inner::statements::close_io` meets its contract: by the sign after the name.
 -- Assumes nothing.
 use borrow.Author.Tests.{not-true, not-false}
-use Rattle.bench_lines.proofs.StateLaws.{sign-in}
+use Rattle.bench_lines.proofs.StatementLaws.{sign-in}
 use Rattle.bench_lines.proofs.StateCases.{io-cut, io-names, io-bad, io-goes-on, io-input, io-output, io-neither}
 use borrow.Author.Needs.{needs}
 use Rattle.bench_lines.proofs.inner.statements.close_io.Statement.{statement}

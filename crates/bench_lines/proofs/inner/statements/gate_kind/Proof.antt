@@ -1,6 +1,6 @@
 -- `bench_lines::inner::statements::gate_kind` meets its contract: by the sign after the kind.
 -- Assumes nothing.
-use Rattle.bench_lines.proofs.StateLaws.{sign-in}
+use Rattle.bench_lines.proofs.StatementLaws.{sign-in}
 use Rattle.bench_lines.proofs.StateCases.{gate-cut, gate-names, gate-bad, gate-no-kind, gate-pins}
 use borrow.Author.Needs.{needs}
 use Rattle.bench_lines.proofs.inner.statements.gate_kind.Statement.{statement}

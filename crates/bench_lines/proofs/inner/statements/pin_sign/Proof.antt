@@ -1,7 +1,7 @@
 -- `bench_lines::inner::statements::pin_sign` meets its contract: by the sign after the name.
 -- Assumes nothing.
 use borrow.Author.Tests.{not-true, not-false}
-use Rattle.bench_lines.proofs.StateLaws.{pin-cut, pin-names, pin-comma, pin-bad, pin-goes-on, pin-last, sign-in}
+use Rattle.bench_lines.proofs.StatementLaws.{pin-cut, pin-names, pin-comma, pin-bad, pin-goes-on, pin-last, sign-in}
 use borrow.Author.Needs.{needs}
 use Rattle.bench_lines.proofs.inner.statements.pin_sign.Statement.{statement}
 use Rattle.bench_lines.proofs.inner.statements.pin_sign.Tie as tie

@@ -1,6 +1,6 @@
 -- `bench_lines::inner::statements::read_named` meets its contract: by the sign after the name.
 -- Assumes nothing.
-use Rattle.bench_lines.proofs.StateLaws.{sign-in}
+use Rattle.bench_lines.proofs.StatementLaws.{sign-in}
 use Rattle.bench_lines.proofs.StateCases.{named-cut, named-names, named-io, named-gate, named-other}
 use borrow.Author.Needs.{needs}
 use Rattle.bench_lines.proofs.inner.statements.read_named.Statement.{statement}

@@ -1,6 +1,6 @@
 -- `bench_lines::inner::statements::read_pin` meets its contract: by its first token.
 -- Assumes nothing.
-use Rattle.bench_lines.proofs.StateLaws.{no-pin-end, no-pin-sign, pin-named, name-in}
+use Rattle.bench_lines.proofs.StatementLaws.{no-pin-end, no-pin-sign, pin-named, name-in}
 use borrow.Author.Needs.{needs}
 use Rattle.bench_lines.proofs.inner.statements.read_pin.Statement.{statement}
 use Rattle.bench_lines.proofs.inner.statements.read_pin.Tie as tie

@@ -3,8 +3,8 @@
 use borrow.Author.Needs.{needs}
 use Prim.Native.Nat.{_-_}
 use lib.ListN.{length}
-use Rattle.bench_lines.proofs.StateLaws.{PinsSoFar, pins-start, pins-inside, pins-stop, pins-again, pins-end}
-use Rattle.bench_lines.proofs.StateLaws.{pins-count, pins-less}
+use Rattle.bench_lines.proofs.StatementLaws.{PinsSoFar, pins-start, pins-inside, pins-stop, pins-again, pins-end}
+use Rattle.bench_lines.proofs.StatementLaws.{pins-count, pins-less}
 use Rattle.bench_lines.proofs.inner.statements.read_pins.Statement.{statement}
 use Rattle.bench_lines.proofs.inner.statements.read_pins.Tie as tie
 

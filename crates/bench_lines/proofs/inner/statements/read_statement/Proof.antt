@@ -1,6 +1,6 @@
 -- `bench_lines::inner::statements::read_statement` meets its contract: by its first token.
 -- Assumes nothing.
-use Rattle.bench_lines.proofs.StateLaws.{name-in}
+use Rattle.bench_lines.proofs.StatementLaws.{name-in}
 use Rattle.bench_lines.proofs.StateCases.{line-blank, line-comment, line-sign, line-named}
 use borrow.Author.Needs.{needs}
 use Rattle.bench_lines.proofs.inner.statements.read_statement.Statement.{statement}

@@ -1,8 +1,8 @@
 -- `differences::inner::walk::compare_at` meets its contract: each return is one case of where the number stands among both.
 -- Assumes nothing.
 use borrow.Author.Needs.{needs}
-use Rattle.differences.proofs.StepCases.{past-a, before-a, past-b, before-far, before-near, inside-all, inside-b}
-use Rattle.differences.proofs.StepCases.{over-zero}
+use Rattle.differences.proofs.StretchCases.{past-a, before-a, past-b, before-far, before-near, inside-all, inside-b}
+use Rattle.differences.proofs.StretchCases.{over-zero}
 use Rattle.differences.proofs.inner.walk.compare_at.Statement.{statement}
 use Rattle.differences.proofs.inner.walk.compare_at.Tie as tie
 

@@ -8,7 +8,7 @@ use Prim.Native.Nat.{ℕ, _-_, _^_, _≤_, _<_}
 use native.Mathlib.Omega.{arith}
 use Rattle.differences.specs.Differences.{only, Passed}
 use Rattle.differences.proofs.RunCases.{passed-later}
-use Rattle.differences.proofs.StepCases.{first-start, first-found, first-later, first-none}
+use Rattle.differences.proofs.StretchCases.{first-start, first-found, first-later, first-none}
 use Rattle.differences.proofs.inner.walk.first_only.Statement.{statement}
 use Rattle.differences.proofs.inner.walk.first_only.Tie as tie
 

@@ -8,7 +8,7 @@ use Prim.Native.Nat.{ℕ, _+_, _-_, _^_, _≤_}
 use native.Mathlib.Omega.{arith}
 use Rattle.differences.specs.Differences.{only, Passed}
 use Rattle.differences.proofs.RunCases.{passed-later}
-use Rattle.differences.proofs.StepCases.{last-start, last-later, last-before, last-end, last-number}
+use Rattle.differences.proofs.StretchCases.{last-start, last-later, last-before, last-end, last-number}
 use Rattle.differences.proofs.inner.walk.last_only.Statement.{statement}
 use Rattle.differences.proofs.inner.walk.last_only.Tie as tie
 

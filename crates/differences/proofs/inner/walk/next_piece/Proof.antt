@@ -2,7 +2,7 @@
 -- Assumes nothing.
 use borrow.Author.Needs.{needs}
 use Rattle.differences.specs.declared.inner.walk.First.the-variants as first
-use Rattle.differences.proofs.StepCases.{start-as}
+use Rattle.differences.proofs.StretchCases.{start-as}
 use Rattle.differences.proofs.inner.walk.next_piece.Statement.{statement}
 use Rattle.differences.proofs.inner.walk.next_piece.Tie as tie
 

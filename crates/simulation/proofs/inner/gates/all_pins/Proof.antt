@@ -2,7 +2,7 @@
 -- Assumes nothing.
 use native.Mathlib.Omega.{arith}
 use lib.Pow.{pow-pos}
-use Rattle.simulation.proofs.GateCases.{eight-pins, shifted-one}
+use Rattle.simulation.proofs.KindCases.{eight-pins, shifted-one}
 use borrow.Author.Needs.{needs}
 use Rattle.simulation.proofs.inner.gates.all_pins.Statement.{statement}
 use Rattle.simulation.proofs.inner.gates.all_pins.Tie as tie

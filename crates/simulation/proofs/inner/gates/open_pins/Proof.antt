@@ -1,6 +1,6 @@
 -- `simulation::inner::gates::open_pins` meets its contract, kind by kind.
 -- Assumes nothing.
-use Rattle.simulation.proofs.GateCases.{few, open-and, open-nand, open-or, open-nor, open-rest}
+use Rattle.simulation.proofs.KindCases.{few, open-and, open-nand, open-or, open-nor, open-rest}
 use borrow.Author.Needs.{needs}
 use Rattle.simulation.proofs.inner.gates.open_pins.Statement.{statement}
 use Rattle.simulation.proofs.inner.gates.open_pins.Tie as tie

@@ -1,6 +1,6 @@
 -- `simulation::inner::gates::open_set` meets its contract, case by case of its definition.
 -- Assumes nothing.
-use Rattle.simulation.proofs.GateCases.{none-controls, one-controls, more-control}
+use Rattle.simulation.proofs.KindCases.{none-controls, one-controls, more-control}
 use borrow.Author.Needs.{needs}
 use Rattle.simulation.proofs.inner.gates.open_set.Statement.{statement}
 use Rattle.simulation.proofs.inner.gates.open_set.Tie as tie

@@ -1,7 +1,7 @@
 -- `store::inner::parts::edge_runs` meets its contract: the words from where the edge begins, two for each of its runs.
 -- Assumes nothing.
 use mathlib.Core.Path.{refl}
-use Rattle.store.proofs.PlaceLaws.{rising-words, falling-words}
+use Rattle.store.proofs.RunPlaceLaws.{rising-words, falling-words}
 use borrow.Author.Needs.{needs}
 use Rattle.store.proofs.inner.parts.edge_runs.Statement.{statement}
 use Rattle.store.proofs.inner.parts.edge_runs.Tie as tie

@@ -9,7 +9,7 @@ use native.Mathlib.Numerals.{add-one}
 use lib.ListN.{length, getD, drop, length-drop}
 use lib.Seq.{take-suc, drop-cons, getD-drop, length-take-le}
 use Rattle.model.specs.Base.{allOf}
-use Rattle.bench_lines.specs.Reading.{part}
+use Rattle.bench_lines.specs.LineReading.{part}
 
 pub part-none : (at : ℕ) (bs : List ℕ) → part at at bs ≡ []
 part-none at bs = let z : at - at ≡ 0 = omega arith in rw z refl

@@ -8,8 +8,8 @@ use borrow.Author.Tests.{eq-eqb, ne-eqb}
 use lib.ListN.{length, getD, take, drop}
 use lib.Seq.{getD-drop, getD-take, take-take}
 use Rattle.bench_lines.specs.Text.{linesFrom, lastLine, withoutReturn}
-use Rattle.bench_lines.specs.Reading.{part, EndIs, LineIs}
-use Rattle.bench_lines.proofs.PartLaws.{part-none, part-more, drop-next, length-part, drop-end}
+use Rattle.bench_lines.specs.LineReading.{part, EndIs, LineIs}
+use Rattle.bench_lines.proofs.BytePartLaws.{part-none, part-more, drop-next, length-part, drop-end}
 
 lines-end : (line : List ℕ) (b : ℕ) (bs : List ℕ) → b ≡ 0x0A
     → linesFrom line (b ∷ bs) ≡ withoutReturn line ∷ linesFrom [] bs

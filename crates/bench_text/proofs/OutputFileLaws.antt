@@ -13,7 +13,7 @@ use Rattle.model.specs.Base.{littleEndian}
 use Rattle.model.specs.Encode.{headerBytes, outputBytes}
 use Rattle.records.proofs.ByteLaws.{sets-append}
 use Rattle.bench_lines.specs.Keys.{keyPlace}
-use Rattle.bench_text.specs.Writing.{BytesPut, oneOutput, keyOutputs}
+use Rattle.bench_text.specs.FileWriting.{BytesPut, oneOutput, keyOutputs}
 
 -- ---- outputs
 

@@ -15,7 +15,7 @@ use Rattle.model.proofs.StoreLaws.{length-runsAt}
 use Rattle.store.specs.Answers.{totalsIn, totalsBoth}
 use Rattle.store.specs.Sound.{FewRuns, SoundWords, edgeWords}
 use Rattle.store.specs.declared.inner.StoreTotals.{StoreTotals}
-use Rattle.store.proofs.PlaceLaws.{edge-words-fit}
+use Rattle.store.proofs.RunPlaceLaws.{edge-words-fit}
 use Rattle.report.specs.Layout.{wordBytes, headBytes}
 
 pub length-words : (ws : List ℕ) → length (wordBytes ws) ≡ 8 * length ws

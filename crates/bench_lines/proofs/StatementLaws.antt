@@ -14,7 +14,7 @@ use Rattle.model.proofs.BoolLaws.{T→true, and-left, and-right}
 use lib.ListN.{length, length-append}
 use Rattle.bench_lines.specs.Text.{nameByte, Token, name, sign, Statement, gate, other, place}
 use Rattle.bench_lines.specs.Text.{kindNames, ioNames, ending, pinsFrom}
-use Rattle.bench_lines.specs.Reading.{part, Named, NameIn, NameAt, SignAt, TokenIs, restAt, nameThen}
+use Rattle.bench_lines.specs.LineReading.{part, Named, NameIn, NameAt, SignAt, TokenIs, restAt, nameThen}
 use Rattle.bench_lines.specs.Keys.{keyOf, keyPlace, keyWords, AllNamed}
 use Rattle.bench_lines.specs.Stating.{atEnd, pinsState, OnePin, NoPin, PinIs, NamedThen, GateAt}
 use Rattle.bench_lines.specs.declared.inner.keys.NameKey.{NameKey}

@@ -10,7 +10,7 @@ use lib.Seq.{sets}
 use Rattle.model.specs.Encode.{netBytes, gateBytes, outputBytes}
 use Rattle.bench_lines.specs.Text.{Statement, blank, input, output, gate, other, tokensOf, statementOf, linesOf}
 use Rattle.bench_lines.specs.Text.{pinsFrom}
-use Rattle.bench_lines.specs.Reading.{restAt}
+use Rattle.bench_lines.specs.LineReading.{restAt}
 use Rattle.bench_lines.specs.Keys.{keyPlace}
 use Rattle.bench_circuit.specs.Judging.{keyNet}
 use Rattle.bench_lines.specs.declared.inner.statements.GateParts.{GateParts}

@@ -17,7 +17,7 @@ use Rattle.bench_circuit.specs.Circuit.{refusedLine, circuitOf}
 use Rattle.bench_text.specs.NetlistFile.{gateRecords, outputNets, outputRecords, netlistBytes, converted}
 use Rattle.bench_text.specs.Calls.{convertCall, convertAnswer, convertBuffer}
 use Rattle.bench_circuit.specs.Judging.{NamesRoom, PinsNamed, TextTaken}
-use Rattle.bench_text.specs.Writing.{linesBytes, AllFewPins, BytesPut, keyOutputs}
+use Rattle.bench_text.specs.FileWriting.{linesBytes, AllFewPins, BytesPut, keyOutputs}
 use Rattle.bench_text.specs.Converting.{FileWritten}
 use Rattle.bench_circuit.specs.Ending.{EndSound, TextSound}
 use Rattle.bench_text.specs.declared.BenchAnswer.the-variants as bench
@@ -26,8 +26,8 @@ use Rattle.model.proofs.AnswerLaws.{checks→}
 use Rattle.bench_circuit.proofs.CircuitLaws.{GatesFit, legal-empty, LinesLeave, lines-leave}
 use Rattle.bench_text.proofs.BytesLaws.{bytes-fit}
 use Rattle.bench_text.proofs.WholeLaws.{few-lines, lines-are, outs-are, outs-append}
-use Rattle.bench_circuit.proofs.EndCases.{at-end, at-line}
-use Rattle.bench_text.proofs.CallCases.{call-is, line-is}
+use Rattle.bench_circuit.proofs.TextEndCases.{at-end, at-line}
+use Rattle.bench_text.proofs.ConvertCases.{call-is, line-is}
 
 module _ (text out : List ℕ) (big : 10484 ≤ length out) where
   call-written : (bytes : List ℕ) (end : ℕ) (out′ : List ℕ) → converted text ≡ value bytes → 0 ≡ refusedLine text

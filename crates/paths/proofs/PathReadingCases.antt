@@ -26,7 +26,7 @@ use Rattle.netlist.proofs.PartLaws.{part-rest}
 use Rattle.netlist.proofs.TableLaws.{few-outputs, outputs-inside, output-is, output-below}
 use Rattle.paths.specs.Picks.{RecordsOfOutputs, outputCountsIn}
 use Rattle.paths.specs.Tasks.{orZero, numberIn, partialNumber}
-use Rattle.paths.proofs.TableLaws.{outputs-before, output-counts}
+use Rattle.paths.proofs.WalkTableLaws.{outputs-before, output-counts}
 use Rattle.paths.proofs.OutputPicks.{counts-before}
 
 chosen : (v : Bool) (a : ℕ) → v ≡ false → 0 ≡ orZero v a

@@ -11,7 +11,7 @@ use Rattle.model.specs.Store.{headWords, firstWord, maxRuns, runsAt, runCount, 
 use Rattle.faults.specs.Answers.{modelEdge}
 use Rattle.faults.specs.declared.Edge as Code
 use Rattle.faults.specs.declared.Edge.the-variants as at
-use Rattle.runs.specs.Runs.{runAt, runsInWords}
+use Rattle.runs.specs.RunLists.{runAt, runsInWords}
 use Rattle.netlist.proofs.PartLaws.{part-rest}
 use Rattle.runs.proofs.MemberLaws.{run-path}
 use Rattle.runs.proofs.RunWordLaws.{runs-of-part}

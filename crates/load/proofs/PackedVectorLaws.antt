@@ -22,7 +22,7 @@ use Rattle.model.proofs.ListLaws.{getD-map-in, length-numbersFrom, numbersFrom-
 use Rattle.model.proofs.ReportLaws.{littleEndian-back}
 use Rattle.simulation.proofs.BitLaws.{word-bit}
 use Rattle.load.specs.Load.{Pair, wordOf, packed, recordBytes}
-use Rattle.load.proofs.WordLaws.{word-is, word-small}
+use Rattle.load.proofs.VectorWordLaws.{word-is, word-small}
 use Rattle.load.proofs.SizeLaws.{length-packed, Wide, length-record}
 
 -- the bytes of a number are bytes

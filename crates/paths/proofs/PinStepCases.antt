@@ -11,7 +11,7 @@ use Rattle.netlist.specs.Tables.{CircuitTables, SomeTables, gatePart, pinCountI
 use Rattle.netlist.specs.declared.inner.Shape.{Shape}
 use Rattle.netlist.proofs.TableLaws.{few-nets, gate-inside, count-at}
 use Rattle.paths.specs.Picks.{PinsIn, pinCountsIn}
-use Rattle.paths.proofs.TableLaws.{pins-in, pin-low, pins-sum, pins-small}
+use Rattle.paths.proofs.WalkTableLaws.{pins-in, pin-low, pins-sum, pins-small}
 
 pub step-one : (part : List ℕ) (many p : ℕ) → many ≡ getD part 3 0 → p < many → p ≤ pinCountIn part
 step-one part many p em there = omega arith
