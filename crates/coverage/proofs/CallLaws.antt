@@ -5,7 +5,7 @@ use mathlib.Core.Bool.{Bool, true, false, not}
 use mathlib.Core.List.{List, [], _∷_}
 use Prim.Native.Nat.{ℕ, _≤_, _<_}
 use native.Mathlib.Omega.{arith}
-use borrow.Author.Tests.{eq-eqb, ne-eqb}
+use borrow.Author.Tests.{eq-eqb, ne-eqb, not-true, not-false}
 use lib.Dec.{eqb, leb}
 use lib.ListN.{length}
 use Rattle.model.specs.Base.{Answer, refused, value, _>>=_, _>>_, checks}
@@ -36,23 +36,15 @@ use Rattle.coverage.proofs.StageLaws.{stage-refused, passes-test, passe
 
 -- ---- the class, before the places Test and Store
 
-is-false : (k : Bool) → not k ≡ true → k ≡ false
-is-false true h = sym h
-is-false false h = refl
-
-is-true : (k : Bool) → not k ≡ false → k ≡ true
-is-true true h = refl
-is-true false h = sym h
-
 module _ (class inputs paths : ℕ) (rec ws : List ℕ) (k : Bool) (e : k ≡ within 1 2 class) where
   pub class-unknown : not k ≡ true → (N : Netlist) → inputs ≡ N .inputs → paths ≡ pathTotal N
       → refused (refusalNumber why.UnknownClass) ≡ checks (classRule class ∷ placeRules N rec ws)
-  class-unknown h N i p = let q : within 1 2 class ≡ false = sym e ∙ is-false k h in rw q refl
+  class-unknown h N i p = let q : within 1 2 class ≡ false = sym e ∙ not-true k h in rw q refl
 
   pub class-known : not k ≡ false → (c : Checked)
       → ((N : Netlist) → inputs ≡ N .inputs → KnownIs (known.Unchecked paths) (pathTotal N) ws → checkedOf c ≡ checks (placeRules N rec ws))
       → (N : Netlist) → inputs ≡ N .inputs → paths ≡ pathTotal N → checkedOf c ≡ checks (classRule class ∷ placeRules N rec ws)
-  class-known h c made N i p = let q : within 1 2 class ≡ true = sym e ∙ is-true k h in made N i p ∙ rw q refl
+  class-known h c made N i p = let q : within 1 2 class ≡ true = sym e ∙ not-false k h in made N i p ∙ rw q refl
 
 -- ---- the test stage was not reached
 

@@ -2,7 +2,7 @@
 -- Assumes nothing.
 use Prim.Native.Nat.{ℕ, zero, suc, _+_, _-_, _*_, _^_, _≤_, _<_}
 use mathlib.Core.Path.{_≡_, refl, sym, ap, _∙_, subst}
-use mathlib.Core.List.{List, [], _∷_, _++_, append-assoc, append-nil}
+use mathlib.Core.List.{List, [], _∷_, _++_, append-nil}
 use mathlib.Core.Bool.{Bool, true, false}
 use native.Mathlib.Omega.{arith}
 use native.Mathlib.Numerals.{sub-one}
@@ -25,6 +25,7 @@ use Rattle.netlist.specs.declared.gates.GateAnswer.{GateAnswer}
 use Rattle.netlist.specs.declared.gates.GateAnswer.the-variants as gate
 use Rattle.model.specs.declared.Refusal.{Refusal}
 use Rattle.netlist.specs.Places.{sizeAt, starts}
+use Rattle.netlist.proofs.AheadLaws.{ahead, ahead-next, ahead-none}
 use Rattle.netlist.proofs.PartLaws.{part-rest}
 use Rattle.netlist.proofs.PaddedLaws.{pad-set, pad-sum}
 use Rattle.netlist.proofs.PositionSteps.{PositionsLeft, positions-start, positions-end, positions-again}
@@ -63,20 +64,6 @@ gate-legal cs s count size e =
       room = subst (λ k. k ≤ length s) n (leb→le (4 + 2 * getD s 3 0) (length s) (a .1 .1 .1 .0));
       few = omega (arith, n, leb→le (getD s 3 0) 8 (and-right (leb 1 (getD s 3 0)) (leb (getD s 3 0) 8) pins));
     }
-
--- the gates so far before those that are left
-unfoldable pub ahead : List Gate → Answer (List Gate × List ℕ) → Answer (List Gate × List ℕ)
-ahead gs x = x >>= λ r. value (gs ++ r .0, r .1)
-
-ahead-next : (gs : List Gate) (g : Gate) (x : Answer (List Gate × List ℕ)) → ahead gs (x >>= λ r. value (g ∷ r .0, r .1)) ≡ ahead (gs ++ (g ∷ [])) x
-unfolding ahead
-ahead-next gs g (refused n) = refl
-ahead-next gs g (value r) = ap (λ (l : List Gate). value (l, r .1)) (sym (append-assoc gs (g ∷ []) (r .0)))
-
-ahead-none : (x : Answer (List Gate × List ℕ)) → ahead [] x ≡ x
-unfolding ahead
-ahead-none (refused n) = refl
-ahead-none (value r) = refl
 
 counts-next : (cs : List ℕ) (gs : List Gate) (g : Gate)
     → netByNet gateCount 0 cs (gs ++ (g ∷ [])) ≡ netByNet gateCount 0 cs gs ++ (gateCount g (atNets (netByNet gateCount 0 cs gs) 0 (g .pins)) ∷ [])

@@ -1,4 +1,5 @@
 -- Laws of the readers, then those of a legal netlist that later crates cite.
+pub mod AheadLaws
 pub mod PartLaws
 pub mod PaddedLaws
 pub mod HeaderCases

@@ -2,7 +2,7 @@
 -- Assumes nothing.
 use Prim.Native.Nat.{ℕ, zero, suc, _+_, _-_, _^_, _≤_, _<_}
 use mathlib.Core.Path.{_≡_, refl, sym, ap, _∙_, subst}
-use mathlib.Core.List.{List, [], _∷_, _++_, map, append-assoc}
+use mathlib.Core.List.{List, [], _∷_, _++_, map}
 use mathlib.Core.Bool.{Bool, true, false, _&&_}
 use native.Mathlib.Omega.{arith}
 use native.Mathlib.Numerals.{sub-one, add-one}
@@ -26,6 +26,7 @@ use Rattle.model.specs.Refusals.{refusalNumber}
 use Rattle.netlist.specs.declared.outputs.OutputAnswer.{OutputAnswer}
 use Rattle.netlist.specs.declared.outputs.OutputAnswer.the-variants as output
 use Rattle.model.specs.declared.Refusal.{Refusal}
+use Rattle.netlist.proofs.AheadLaws.{ahead, ahead-next, ahead-none}
 use Rattle.netlist.proofs.PartLaws.{part-rest, begins-long}
 use Rattle.netlist.proofs.PaddedLaws.{pad-count}
 
@@ -102,20 +103,6 @@ output-legal inputs nets low total counts s o e =
         small = subst (λ x. x ≤ 2 ^ 62) t (leb→le (total + outputCount inputs counts (field 2 2 s)) (2 ^ 62) (a .1 .1 .0));
       };
     }
-
--- the outputs so far before those that are left
-unfoldable pub ahead : List ℕ → Answer (List ℕ × List ℕ) → Answer (List ℕ × List ℕ)
-ahead us x = x >>= λ r. value (us ++ r .0, r .1)
-
-ahead-next : (us : List ℕ) (u : ℕ) (x : Answer (List ℕ × List ℕ)) → ahead us (x >>= λ r. value (u ∷ r .0, r .1)) ≡ ahead (us ++ (u ∷ [])) x
-unfolding ahead
-ahead-next us u (refused n) = refl
-ahead-next us u (value r) = ap (λ (l : List ℕ). value (l, r .1)) (sym (append-assoc us (u ∷ []) (r .0)))
-
-ahead-none : (x : Answer (List ℕ × List ℕ)) → ahead [] x ≡ x
-unfolding ahead
-ahead-none (refused n) = refl
-ahead-none (value r) = refl
 
 sum-snoc : (f : ℕ → ℕ) (us : List ℕ) (u : ℕ) → sumOf (map f (us ++ (u ∷ []))) ≡ sumOf (map f us) + f u
 sum-snoc f [] u = omega arith

@@ -9,19 +9,15 @@ use Rattle.simulation.proofs.inner.gates.all_pins.Tie as tie
 use Rattle.simulation.proofs.inner.gates.all_pins.Reads as reads
 use Rattle.simulation.proofs.inner.gates.all_pins.Lts as lts
 
--- src/gates.rt:283:9
 returns : tie.Need-returns
 returns c = eight-pins (c .before .args .pins) (c .if1 .taken)
 
--- src/gates.rt:285:6
 shl-result : tie.Need-shl-result
 shl-result c = search needs
 
--- src/gates.rt:285:5
 sub-result : tie.Need-sub-result
 sub-result c = rw (shifted-one (c .before .args .pins) (omega (arith, c .before .pre, c .if1 .left))) (pow-pos (c .before .args .pins))
 
--- src/gates.rt:278:1
 returns-2 : tie.Need-returns-2
 returns-2 c = rw (shifted-one (c .before .args .pins) (omega (arith, c .before .pre, c .if1 .left)))
 
