@@ -27,7 +27,7 @@ use Rattle.netlist.specs.declared.SurveyAnswer.the-variants as survey
 use Rattle.netlist.specs.declared.inner.Loaded.{Loaded}
 use Rattle.netlist.proofs.LoadLaws.{loaded-legal, loaded-refused}
 use Rattle.netlist.proofs.TableLaws.{few-inputs}
-use Rattle.store.specs.Sound.{SoundWords}
+use Rattle.store_words.specs.Sound.{SoundWords}
 use Rattle.coverage.specs.Stage.{MemoryReady, StageReady}
 use Rattle.coverage.specs.declared.inner.StageAnswer.the-variants as stage
 use Rattle.report.specs.Answers.{comparedOf}

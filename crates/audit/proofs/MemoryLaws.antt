@@ -18,8 +18,8 @@ use Rattle.model.proofs.ReadLaws.{limits}
 use Rattle.model.proofs.HoldingLaws.{holding-own, holding-length, holding-passes}
 use Rattle.model.proofs.FileLaws.{all-holding, left-length, left-passes}
 use Rattle.model.proofs.RefusalLaws.{audit-emptied, audit-kept}
-use Rattle.store.specs.Sound.{SoundWords}
-use Rattle.store.proofs.SoundLaws.{sound-words, sound-more}
+use Rattle.store_words.specs.Sound.{SoundWords}
+use Rattle.store_words.proofs.SoundLaws.{sound-words, sound-more}
 use Rattle.coverage.specs.Stage.{MemoryReady}
 use Rattle.audit.specs.TestFile.{leftStore}
 

@@ -1,7 +1,7 @@
 // The parts of an audit, for our own crates: the length of its test file, the records one after the other, the report.
 ghost use mathlib.Core.Path.{_≡_};
 ghost use Prim.Native.Nat.{_^_, _<_};
-ghost use Rattle.store.specs.Sound.{SoundWords};
+ghost use Rattle.store_words.specs.Sound.{SoundWords};
 ghost use Rattle.coverage.specs.Stage.{StageReady};
 ghost use Rattle.audit.specs.TestFile.{wholeLength, FileTaken, Judged};
 use crate::AuditAnswer;
@@ -10,8 +10,8 @@ use coverage::inner::apply_record;
 use netlist::inner::Shape;
 use report::inner::Comparison;
 use report::inner::compare;
-use simulation::inner::test_record::record_length;
-use store::inner::clear;
+use store_writing::inner::clear;
+use test_records::inner::record_length;
 
 // The most records of a test file.
 pub const MAX_RECORDS: u64 = 4294967295;

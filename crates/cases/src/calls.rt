@@ -10,7 +10,7 @@ use faults::FaultNo;
 use faults::PathNo;
 use load::LoadAnswer;
 use netlist::SurveyAnswer;
-use paths::NumberAnswer;
+use path_numbers::NumberAnswer;
 use paths::PathAnswer;
 use report::WriteAnswer;
 use script::inner::answers::Answer;
@@ -98,7 +98,7 @@ pub(crate) fn empty(store: &mut [u64]) -> Answer {
 
 // Path to number.
 pub(crate) fn number(netlist: &[u8], path: &[u16]) -> Answer {
-    let answer = paths::path_to_number(netlist, path);
+    let answer = path_numbers::path_to_number(netlist, path);
     match answer {
         NumberAnswer::Number(number) => one(number.0),
         NumberAnswer::Refused(why) => refused_by(why),

@@ -18,9 +18,9 @@ use Rattle.model.specs.Calls.{runsThen}
 use Rattle.model.proofs.AnswerLaws.{not-refused}
 use Rattle.model.proofs.RefusalLaws.{refused-inj}
 use Rattle.runs.proofs.RunWordLaws.{length-runs}
-use Rattle.store.specs.Writing.{changed}
-use Rattle.store.specs.declared.inner.writing.Change.{Change}
-use Rattle.store.specs.declared.inner.writing.Change.the-variants.{Kept, Made}
+use Rattle.store_writing.specs.Writing.{changed}
+use Rattle.store_writing.specs.declared.inner.Change.{Change}
+use Rattle.store_writing.specs.declared.inner.Change.the-variants.{Kept, Made}
 use Rattle.intervals.specs.Edges.{Case, working}
 use Rattle.coverage.specs.Covers.{thenRuns, edgeOf, Covers}
 use Rattle.coverage.specs.Both.{caseOf, joined, bothOf, CoversBoth}

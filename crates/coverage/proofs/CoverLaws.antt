@@ -25,9 +25,9 @@ use Rattle.runs.proofs.RunWordLaws.{length-runs}
 use Rattle.run_union.proofs.RunWriteLaws.{runs-write-before}
 use Rattle.runs.proofs.InsideSteps.{inside-union}
 use Rattle.run_union.proofs.Adding.{answer-over, adds-count}
-use Rattle.store.specs.Writing.{changed}
-use Rattle.store.specs.declared.inner.writing.Change.{Change}
-use Rattle.store.specs.declared.inner.writing.Change.the-variants.{Kept, Made}
+use Rattle.store_writing.specs.Writing.{changed}
+use Rattle.store_writing.specs.declared.inner.Change.{Change}
+use Rattle.store_writing.specs.declared.inner.Change.the-variants.{Kept, Made}
 use Rattle.intervals.specs.Edges.{Case, detected, working, Detects}
 use Rattle.intervals.proofs.AddLaws.{as-adds, adds-kept}
 use Rattle.intervals.proofs.DetectedLaws.{few-detected}

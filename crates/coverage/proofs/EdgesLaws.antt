@@ -18,10 +18,10 @@ use Rattle.netlist.specs.declared.inner.Shape.{Shape}
 use Rattle.runs.specs.RunLists.{Sound, runsInWords}
 use Rattle.runs.specs.declared.inner.Added.{Added}
 use Rattle.runs.proofs.MemberLaws.{sound-mono}
-use Rattle.simulation.specs.declared.inner.test_record.InputEdges.{InputEdges}
-use Rattle.store.specs.Sound.{FewRuns, SoundWords, edgeWords}
-use Rattle.store.proofs.RunPlaceLaws.{edge-words-runs, edge-words-fit}
-use Rattle.store.proofs.SoundLaws.{sound-words, edge-sound, edge-few}
+use Rattle.test_records.specs.declared.inner.InputEdges.{InputEdges}
+use Rattle.store_words.specs.Sound.{FewRuns, SoundWords, edgeWords}
+use Rattle.store_words.proofs.RunPlaceLaws.{edge-words-runs, edge-words-fit}
+use Rattle.store_words.proofs.SoundLaws.{sound-words, edge-sound, edge-few}
 use Rattle.intervals.specs.Edges.{Case, EdgeAt, SomeEdgeAt, Detects}
 use Rattle.coverage.specs.Covers.{heldRuns, JoinReady, Covers}
 use Rattle.coverage.specs.Both.{caseOf, joined, CoversBoth}

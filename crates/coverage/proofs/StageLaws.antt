@@ -20,15 +20,15 @@ use Rattle.model.proofs.ListLaws.{length-numbersFrom}
 use Rattle.model.proofs.ReadLaws.{limits}
 use Rattle.netlist.specs.Tables.{CircuitTables, SomeCircuit}
 use Rattle.netlist.specs.declared.inner.Shape.{Shape}
-use Rattle.simulation.specs.Records.{recordOf, RecordTrue, VectorsTrue, EdgesTrue}
+use Rattle.test_records.specs.Records.{recordOf, RecordTrue, VectorsTrue, EdgesTrue}
 use Rattle.simulation.specs.Simulated.{TestIs, OpenMasks}
-use Rattle.simulation.specs.declared.inner.test_record.RecordAnswer.{RecordAnswer}
-use Rattle.simulation.specs.declared.inner.test_record.RecordAnswer.the-variants as record-answer
-use Rattle.simulation.specs.declared.inner.test_record.Vectors.{Vectors}
-use Rattle.simulation.specs.declared.inner.test_record.InputEdges.{InputEdges}
-use Rattle.store.specs.Answers.{checkOf}
-use Rattle.store.specs.declared.inner.StoreCheck.{StoreCheck}
-use Rattle.store.specs.declared.inner.StoreCheck.the-variants as check
+use Rattle.test_records.specs.declared.inner.RecordAnswer.{RecordAnswer}
+use Rattle.test_records.specs.declared.inner.RecordAnswer.the-variants as record-answer
+use Rattle.test_records.specs.declared.inner.Vectors.{Vectors}
+use Rattle.test_records.specs.declared.inner.InputEdges.{InputEdges}
+use Rattle.store_words.specs.WordAnswers.{checkOf}
+use Rattle.store_words.specs.declared.inner.StoreCheck.{StoreCheck}
+use Rattle.store_words.specs.declared.inner.StoreCheck.the-variants as check
 use Rattle.coverage.specs.Stage.{PinsOf, StageReady, LegalReady, WorkReady, KnownIs, CheckReady, placeRules, checkedOf, storeAfter, workStage, StageIs, StageTrue}
 use Rattle.coverage.specs.declared.inner.StoreKnown.{StoreKnown}
 use Rattle.coverage.specs.declared.inner.StoreKnown.the-variants as known

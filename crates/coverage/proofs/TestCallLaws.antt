@@ -23,10 +23,10 @@ use Rattle.model.proofs.StoreLaws.{runs-store}
 use Rattle.model.proofs.HoldingLaws.{ofEdge-byEdge, at-edge, stage-passes, stage-result, stage-length, stage-sound}
 use Rattle.netlist.specs.Tables.{CircuitTables}
 use Rattle.netlist.specs.declared.inner.Shape.{Shape}
-use Rattle.store.specs.Answers.{totalsIn, totalsBoth}
-use Rattle.store.specs.Sound.{SoundWords}
-use Rattle.store.specs.declared.inner.StoreTotals.{StoreTotals}
-use Rattle.store.proofs.SoundLaws.{sound-words, edge-sound, sound-more}
+use Rattle.store_words.specs.WordAnswers.{totalsIn, totalsBoth}
+use Rattle.store_words.specs.Sound.{SoundWords}
+use Rattle.store_words.specs.declared.inner.StoreTotals.{StoreTotals}
+use Rattle.store_words.proofs.SoundLaws.{sound-words, edge-sound, sound-more}
 use Rattle.coverage.specs.Stage.{MemoryReady, LegalReady, storeAfter, StageIs, StageTrue}
 use Rattle.coverage.specs.TestCall.{testedOf, returnedBy, TestedIs}
 use Rattle.coverage.specs.declared.TestAnswer.the-variants.{Taken, Refused}

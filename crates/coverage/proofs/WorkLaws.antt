@@ -21,11 +21,11 @@ use Rattle.model.proofs.HoldingLaws.{at-edge}
 use Rattle.netlist.specs.Tables.{CircuitTables}
 use Rattle.netlist.specs.declared.inner.Shape.{Shape}
 use Rattle.runs.proofs.RunWordLaws.{length-runs}
-use Rattle.simulation.specs.declared.inner.test_record.InputEdges.{InputEdges}
-use Rattle.store.specs.Writing.{changed, withRuns, StoreHas, MadeAt, Writable, Rewritten}
-use Rattle.store.specs.declared.inner.writing.Change.{Change}
-use Rattle.store.specs.declared.inner.writing.Change.the-variants.{Made}
-use Rattle.store.proofs.EdgeWriteCases.{sound-has}
+use Rattle.test_records.specs.declared.inner.InputEdges.{InputEdges}
+use Rattle.store_writing.specs.Writing.{changed, withRuns, StoreHas, MadeAt, Writable, Rewritten}
+use Rattle.store_writing.specs.declared.inner.Change.{Change}
+use Rattle.store_writing.specs.declared.inner.Change.the-variants.{Made}
+use Rattle.store_writing.proofs.EdgeWriteCases.{sound-has}
 use Rattle.coverage.specs.Both.{bothOf, CoversBoth}
 use Rattle.coverage.specs.Stage.{PinsOf, MemoryReady, WorkReady, storeAfter, workStage, StageIs}
 use Rattle.coverage.specs.declared.edges.BothAnswer.{BothAnswer}

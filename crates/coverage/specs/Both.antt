@@ -10,8 +10,8 @@ use Rattle.model.specs.Netlist.{Netlist}
 use Rattle.model.specs.Path.{Edge, rising, falling}
 use Rattle.model.specs.Detect.{Test}
 use Rattle.model.specs.Calls.{runsThen, workRules}
-use Rattle.store.specs.Writing.{changed}
-use Rattle.store.specs.declared.inner.writing.Change.{Change}
+use Rattle.store_writing.specs.Writing.{changed}
+use Rattle.store_writing.specs.declared.inner.Change.{Change}
 use Rattle.intervals.specs.Edges.{Case}
 use Rattle.coverage.specs.declared.edges.EdgeAnswer.{EdgeAnswer}
 use Rattle.coverage.specs.declared.edges.EdgeAnswer.the-variants.{Covered, OverWork, OverStore}

@@ -14,8 +14,8 @@ use Rattle.model.specs.Runs.{Run, runsOf, inRuns}
 use Rattle.runs.specs.RunLists.{Sound, runsInWords}
 use Rattle.runs.specs.declared.inner.Added.{Added}
 use Rattle.runs.specs.declared.inner.Added.the-variants.{Count}
-use Rattle.store.specs.Writing.{changed}
-use Rattle.store.specs.declared.inner.writing.Change.{Change}
+use Rattle.store_writing.specs.Writing.{changed}
+use Rattle.store_writing.specs.declared.inner.Change.{Change}
 use Rattle.intervals.specs.Edges.{Case, working}
 use Rattle.coverage.specs.declared.edges.EdgeAnswer.{EdgeAnswer}
 use Rattle.coverage.specs.declared.edges.EdgeAnswer.the-variants.{Covered, OverWork, OverStore}

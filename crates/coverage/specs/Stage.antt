@@ -15,7 +15,7 @@ use Rattle.model.specs.Refusals.{refusalNumber}
 use Rattle.netlist.specs.Tables.{CircuitTables}
 use Rattle.netlist.specs.declared.inner.Shape.{Shape}
 use Rattle.simulation.specs.Simulated.{OpenMasks}
-use Rattle.simulation.specs.declared.inner.test_record.InputEdges.{InputEdges}
+use Rattle.test_records.specs.declared.inner.InputEdges.{InputEdges}
 use Rattle.coverage.specs.declared.inner.StoreKnown.{StoreKnown}
 use Rattle.coverage.specs.declared.inner.StoreKnown.the-variants as known
 use Rattle.coverage.specs.declared.inner.Checked.{Checked}

@@ -17,9 +17,9 @@ use netlist::inner::Shape;
 use run_union::inner::merging::union;
 use runs::inner::Added;
 use runs::inner::inside;
-use simulation::inner::test_record::InputEdges;
-use store::inner::parts::edge_runs;
-use store::inner::writing::Change;
+use store_words::inner::parts::edge_runs;
+use store_writing::inner::Change;
+use test_records::inner::InputEdges;
 
 // The run places in the words where the union of each edge is made.
 pub const RISING_UNION: usize = 2048;

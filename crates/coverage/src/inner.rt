@@ -18,14 +18,14 @@ use faults::Edge;
 use model::Refusal;
 use netlist::inner::Shape;
 use simulation::inner::open_pins::open_masks;
-use simulation::inner::test_record::InputEdges;
-use simulation::inner::test_record::RecordAnswer;
-use simulation::inner::test_record::check_record;
-use simulation::inner::test_record::edges_of;
-use simulation::inner::test_record::read_vectors;
-use store::inner::StoreCheck;
-use store::inner::check_words;
-use store::inner::writing::write_runs;
+use store_words::inner::StoreCheck;
+use store_words::inner::check_words;
+use store_writing::inner::write_runs;
+use test_records::inner::InputEdges;
+use test_records::inner::RecordAnswer;
+use test_records::inner::check_record;
+use test_records::inner::edges_of;
+use test_records::inner::read_vectors;
 
 // What the stage answers: that the store now holds what the test detects too, or why it was refused.
 pub enum StageAnswer {

@@ -27,7 +27,7 @@ use model::known_class;
 use netlist::inner::LoadAnswer;
 use netlist::inner::Shape;
 use netlist::inner::load;
-use store::inner::totals_of;
+use store_words::inner::totals_of;
 
 // What a test answers: for each edge the faults new to the store and those then held.
 pub enum TestAnswer {

@@ -16,10 +16,11 @@ use Rattle.model.proofs.AnswerLaws.{not-refused}
 use Rattle.netlist.specs.Answers.{SurveyTrue, surveyData}
 use Rattle.netlist.specs.declared.Surveyed.{Surveyed}
 use Rattle.netlist.specs.declared.SurveyAnswer.the-variants as survey
-use Rattle.paths.specs.Answers.{numberAnswer, pathAnswer, PathWritten}
+use Rattle.path_numbers.specs.PathNumbers.{numberAnswer}
+use Rattle.paths.specs.Answers.{pathAnswer, PathWritten}
 use Rattle.faults.specs.declared.PathNo.{PathNo}
-use Rattle.paths.specs.declared.NumberAnswer.{NumberAnswer}
-use Rattle.paths.specs.declared.NumberAnswer.the-variants as number
+use Rattle.path_numbers.specs.declared.NumberAnswer.{NumberAnswer}
+use Rattle.path_numbers.specs.declared.NumberAnswer.the-variants as number
 use Rattle.paths.specs.declared.PathAnswer.{PathAnswer}
 use Rattle.paths.specs.declared.PathAnswer.the-variants as path
 use Rattle.store.specs.Answers.{EmptyTrue, emptyOf, totalsOf, heldOf}

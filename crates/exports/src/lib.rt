@@ -20,7 +20,7 @@ use faults::PathNo;
 use load::LoadAnswer;
 use model::refusal_number;
 use netlist::SurveyAnswer;
-use paths::NumberAnswer;
+use path_numbers::NumberAnswer;
 use paths::PathAnswer;
 use pieces::BeginAnswer;
 use pieces::EndAnswer;
@@ -134,7 +134,7 @@ pub extern "C" fn genduwal_path_to_number(
 ) -> u32
     ensures { λ r. ⌜ Answered (pathToNumberCall (now (netlist .entry)) (now (path .entry))) numberWord r (now (answer .entry)) (now (answer .exit)) ⌝ }
 {
-    let number = paths::path_to_number(netlist, path);
+    let number = path_numbers::path_to_number(netlist, path);
     match number {
         NumberAnswer::Refused(why) => refusal_number(why),
         NumberAnswer::Number(found) => put_number(found.0, answer),

@@ -11,7 +11,7 @@ use mir.Val.{Fits}
 use mir.Syntax.{w64}
 use Rattle.model.specs.Runs.{Run}
 use Rattle.netlist.specs.Tables.{outputIn}
-use Rattle.netlist.proofs.PartLaws.{part-rest}
+use Rattle.records.proofs.PartLaws.{part-rest}
 use Rattle.runs.specs.RunLists.{Sound, onlyIf, addRuns, shiftRuns, runsInWords, writeRuns}
 use Rattle.runs.specs.Answers.{Room, Adds}
 use Rattle.runs.specs.declared.inner.Added.{Added}

@@ -8,7 +8,7 @@ ghost use Rattle.intervals.specs.PlaceRuns.{OutputsReady, outputRuns};
 use crate::adding::add_net;
 use model::MAX_RUNS;
 use netlist::inner::output_net;
-use netlist::inner::output_paths;
+use output_records::inner::output_paths;
 use runs::inner::Added;
 
 // 1 where a net is a gate's. An output at an input's net, a wire without a gate, has no path and adds no run.

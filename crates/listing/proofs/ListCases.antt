@@ -17,7 +17,7 @@ use Rattle.netlist.specs.declared.SurveyAnswer.the-variants as survey
 use Rattle.netlist.specs.declared.inner.Loaded.{Loaded}
 use Rattle.netlist.proofs.LoadLaws.{loaded-legal}
 use Rattle.listing_text.specs.Answers.{outBytes, ListReady}
-use Rattle.test_file.proofs.ReadPieceLaws.{part-length}
+use Rattle.file_reading.proofs.ReadPieceLaws.{part-length}
 
 pub legal-tables : (r : Loaded) (netlist : List ℕ) → LoadedTrue r netlist → r .answer ≡ survey.Legal
     → SomeTables netlist (r .positions) (r .counts) (r .shape)

@@ -1,6 +1,6 @@
 // The listing program: what each test record of a file adds on a netlist in a class, then the runs and the totals of the tested faults: `listing
 // [CIRCUIT [TESTS [CLASS]]]`, without names those of the current folder; a missing file counts as empty, a missing class file as class 1. What it
-// writes is made by `listing_text` and `test_file`, each part with a promise. Where the netlist or the class file can't be read whole it writes
+// writes is made by `listing_text` and `listing_walk`, each part with a promise. Where the netlist or the class file can't be read whole it writes
 // nothing, and where the test file can't, neither runs nor totals.
 use command::close_file;
 use command::file_name;
@@ -16,6 +16,8 @@ use listing_text::inner::OUT_BYTES;
 use listing_text::inner::PIECE_BYTES;
 use listing_text::inner::put_paths;
 use listing_text::inner::put_refusal;
+use listing_walk::inner::Descriptors;
+use listing_walk::inner::list_file;
 use model::Refusal;
 use model::STORE_WORDS;
 use model::WORK_WORDS;
@@ -23,9 +25,7 @@ use model::known_class;
 use netlist::SurveyAnswer;
 use netlist::inner::Loaded;
 use netlist::inner::load_by_value;
-use store::inner::clear;
-use test_file::inner::Descriptors;
-use test_file::inner::list_file;
+use store_writing::inner::clear;
 ghost use mathlib.Core.Path.{_≡_};
 ghost use Prim.Native.Nat.{_≤_};
 ghost use lib.ListN.{length};

@@ -14,8 +14,8 @@ use Rattle.model.specs.Store.{ByEdge, storeRuns}
 use Rattle.model.specs.Refusals.{refusalNumber}
 use Rattle.model.specs.declared.Refusal.{Refusal}
 use Rattle.records.proofs.ByteLaws.{sets-append}
-use Rattle.store.specs.Answers.{totalsIn, totalsBoth}
-use Rattle.store.specs.declared.inner.StoreTotals.{StoreTotals}
+use Rattle.store_words.specs.WordAnswers.{totalsIn, totalsBoth}
+use Rattle.store_words.specs.declared.inner.StoreTotals.{StoreTotals}
 use Rattle.coverage.specs.TestCall.{testedOf}
 use Rattle.coverage.specs.declared.TestAnswer.{TestAnswer}
 use Rattle.coverage.specs.declared.TestAnswer.the-variants.{Taken, Refused}

@@ -13,8 +13,8 @@ use Rattle.model.specs.Store.{maxRuns, runsAt, runCount, storeRuns}
 use Rattle.records.proofs.ByteLaws.{sets-append}
 use Rattle.listing_text.specs.Listing.{runLines}
 use Rattle.runs.proofs.RunWordLaws.{runs-of-part}
-use Rattle.store.specs.Sound.{SoundWords, edgeWords}
-use Rattle.store.proofs.RunPlaceLaws.{edge-words-runs, edge-words-fit}
+use Rattle.store_words.specs.Sound.{SoundWords, edgeWords}
+use Rattle.store_words.proofs.RunPlaceLaws.{edge-words-runs, edge-words-fit}
 use Rattle.listing_text.specs.Answers.{outBytes, edgeBytes, runsIn, Put}
 use Rattle.listing_text.proofs.PutLaws.{pairText, pair-length}
 

@@ -10,7 +10,7 @@ use borrow.Author.Needs.{needs}
 use lib.Bits.{bitAnd, and-mask, mask-lt}
 use lib.Dec.{eqb}
 use lib.Pow.{shl-exact, pow-mono}
-use Rattle.simulation.specs.Packed.{oneWhere}
+use Rattle.packed_pins.specs.Packed.{oneWhere}
 use Rattle.load.specs.Load.{nextState, stateAfter, topBit, drawn, wordOf}
 use Rattle.load.specs.Answers.{DrawnTrue}
 use Rattle.load.proofs.VectorWordLaws.{pow-next}

@@ -12,7 +12,7 @@ use lib.Dec.{eqb}
 use lib.ListN.{length, getD, set}
 use lib.Pow.{shr-shr, shr-le}
 use Rattle.model.specs.Base.{bit}
-use Rattle.simulation.specs.Packed.{oneWhere}
+use Rattle.packed_pins.specs.Packed.{oneWhere}
 use Rattle.load.specs.Load.{wordOf}
 
 pub one-small : (b : Bool) → oneWhere b < 2

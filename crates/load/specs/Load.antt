@@ -10,7 +10,7 @@ use Rattle.model.specs.Base.{bit, littleEndian}
 use Rattle.model.specs.Encode.{testBytes}
 use Rattle.model.specs.Path.{Edge, rising, falling}
 use Rattle.model.specs.Read.{vectorBytes}
-use Rattle.simulation.specs.Packed.{oneWhere}
+use Rattle.packed_pins.specs.Packed.{oneWhere}
 
 -- A step replaces state s by 1664525 times s plus 1013904223, modulo 2^32
 unfoldable pub nextState : ℕ → ℕ

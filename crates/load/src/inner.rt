@@ -6,13 +6,13 @@ ghost use lib.ListN.{length};
 ghost use lib.Seq.{sets};
 ghost use Rattle.model.specs.Base.{littleEndian, field};
 ghost use Rattle.model.specs.Encode.{testBytes};
-ghost use Rattle.simulation.specs.Packed.{oneWhere};
+ghost use Rattle.packed_pins.specs.Packed.{oneWhere};
 ghost use Rattle.load.specs.Load.{topBit, stateAfter, loadRecords, vectorRecords};
 ghost use Rattle.load.specs.Answers.{DrawnTrue, FilledTrue, vectorSize};
 use crate::next_state;
 use records::inner::put;
 use records::inner::u16_at;
-use simulation::inner::test_record::vector_bytes;
+use test_records::inner::vector_bytes;
 
 // A vector, input j in bit j, and the state after it was drawn.
 pub struct Drawn {

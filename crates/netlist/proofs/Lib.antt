@@ -1,14 +1,8 @@
--- Laws of the readers, then those of a legal netlist that later crates cite.
-pub mod AheadLaws
-pub mod PartLaws
-pub mod PaddedLaws
+-- Laws of the header and of the padded counts, then those of a legal netlist that later crates cite.
 pub mod HeaderCases
+pub mod OnesCases
 pub mod PinLaws
-pub mod FitCases
-pub mod GateCases
-pub mod PositionSteps
-pub mod GateSteps
-pub mod OutputCases
+pub mod PaddedOutputs
 pub mod PlaceLaws
 pub mod OutputLaws
 pub mod LoadLaws

@@ -19,12 +19,14 @@ use Rattle.model.proofs.BoolLaws.{and-left, and4}
 use Rattle.model.proofs.NetLaws.{length-netByNet}
 use Rattle.model.proofs.ReadLaws.{gates-length, outputs-ok, outputs-fit}
 use Rattle.netlist.specs.Answers.{SurveyTrue, LegalLoad, LoadTrue, LoadedTrue}
-use Rattle.netlist.specs.Places.{starts, positions, zeros}
-use Rattle.netlist.specs.Reading.{headerStep, HeaderRead, headerIn, headerOf, GatesAre, GatesEnd, OutputsAre, OutputsEnd, refusedBy}
-use Rattle.netlist.specs.declared.gates.GatesAnswer.{GatesAnswer}
-use Rattle.netlist.specs.declared.gates.GatesAnswer.the-variants as gates
-use Rattle.netlist.specs.declared.outputs.OutputsAnswer.{OutputsAnswer}
-use Rattle.netlist.specs.declared.outputs.OutputsAnswer.the-variants as outputs
+use Rattle.gate_records.specs.GateReading.{starts, zeros, GatesAre, GatesEnd}
+use Rattle.output_records.specs.OutputReading.{OutputsAre, OutputsEnd}
+use Rattle.netlist.specs.Places.{positions}
+use Rattle.netlist.specs.Reading.{headerStep, HeaderRead, headerIn, headerOf, refusedBy}
+use Rattle.gate_records.specs.declared.inner.GatesAnswer.{GatesAnswer}
+use Rattle.gate_records.specs.declared.inner.GatesAnswer.the-variants as gates
+use Rattle.output_records.specs.declared.inner.OutputsAnswer.{OutputsAnswer}
+use Rattle.output_records.specs.declared.inner.OutputsAnswer.the-variants as outputs
 use Rattle.netlist.specs.declared.SurveyAnswer.the-variants as survey
 use Rattle.netlist.specs.declared.Surveyed.{Surveyed}
 use Rattle.netlist.specs.declared.inner.Shape.{Shape}
@@ -33,9 +35,8 @@ use Rattle.netlist.specs.declared.inner.LoadAnswer.the-variants as load
 use Rattle.netlist.specs.declared.header.HeaderAnswer.{HeaderAnswer}
 use Rattle.netlist.specs.declared.header.HeaderAnswer.the-variants as header
 use Rattle.netlist.specs.declared.header.Header.{Header}
-use Rattle.netlist.proofs.OutputCases.{outputs-pad}
 use Rattle.netlist.proofs.OutputLaws.{below}
-use Rattle.netlist.proofs.PaddedLaws.{pad-counts}
+use Rattle.netlist.proofs.PaddedOutputs.{pad-counts, outputs-pad}
 use Rattle.netlist.proofs.TableLaws.{inputs-below}
 
 -- what follows a header

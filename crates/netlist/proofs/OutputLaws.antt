@@ -15,7 +15,8 @@ use Rattle.model.proofs.AnswerLaws.{steps, then-first, then-second, checks→, 
 use Rattle.model.proofs.BoolLaws.{and-left, and3, both}
 use Rattle.model.proofs.ReadLaws.{first, nextCounts, outputs-fit}
 use Rattle.model.proofs.WellFormed.{ascendingNets}
-use Rattle.netlist.specs.Places.{outputsFrom, sizeAt}
+use Rattle.gate_records.specs.GateReading.{sizeAt}
+use Rattle.netlist.specs.Places.{outputsFrom}
 use Rattle.netlist.specs.Tables.{outputIn}
 use Rattle.netlist.proofs.PlaceLaws.{Parts, long-file, few-nets, next-at}
 

@@ -5,19 +5,19 @@ use mathlib.Core.Path.{_≡_, refl, sym, ap, _∙_, subst}
 use mathlib.Core.List.{List, [], _∷_, _++_}
 use native.Mathlib.Omega.{arith}
 use native.Mathlib.Nat.{le-of-suc-le-suc, not-suc-le-zero}
-use lib.ListN.{length, getD, drop, replicate, length-append, length-replicate, List·getD-append}
+use lib.ListN.{length, getD, drop, replicate, length-append, length-replicate}
 use lib.Dec.{T, leb, eqb, leb→le, eqb→eq}
 use lib.Seq.{getD-drop, drop-drop}
 use Rattle.model.specs.Base.{Answer, value, _>>=_, _>>_, checks}
 use Rattle.model.specs.Netlist.{Netlist, Gate, noGate, netByNet, gateCount, nets, gateOf}
 use Rattle.model.specs.Read.{readNetlist, readGates, readOutputs, gateIn, headerRules, inputsIn, gatesIn, outputsIn, inputCounts, within, pinsFit, marked}
-use Rattle.model.specs.Calls.{padded}
 use Rattle.model.proofs.AnswerLaws.{steps, then-first, then-second, checks→, value-inj, AllPass}
 use Rattle.model.proofs.BoolLaws.{and-left, and4}
 use Rattle.model.proofs.ReadLaws.{first, nextCounts, nextBytes, gatesFrom, gates-are, gates-length}
-use Rattle.netlist.specs.Places.{sizeAt, starts, positions}
+use Rattle.gate_records.specs.GateReading.{sizeAt, starts}
+use Rattle.netlist.specs.Places.{positions}
 use Rattle.netlist.specs.Tables.{kindIn, pinCountIn}
-use Rattle.netlist.proofs.PaddedLaws.{pad-getD}
+use Rattle.gate_records.proofs.PaddedLaws.{pad-getD}
 
 -- the bytes after the record at a position
 pub next-at : (s : List ℕ) (at : ℕ) → nextBytes (drop at s) ≡ drop (at + sizeAt s at) s

@@ -1,7 +1,7 @@
 -- What the tables of a legal netlist say: the part at each gate's position begins with its record, the outputs' records end the file, each count stands
 -- at its net.
 -- Assumes nothing.
-use Prim.Native.Nat.{ℕ, _+_, _-_, _*_, _≤_, _<_}
+use Prim.Native.Nat.{ℕ, _-_, _*_, _≤_, _<_}
 use mathlib.Core.Path.{_≡_, sym, ap, ap₂, _∙_, subst}
 use mathlib.Core.List.{List, map}
 use native.Mathlib.Omega.{arith}
@@ -18,9 +18,10 @@ use Rattle.model.proofs.ReadLaws.{legal, limits, length-netFields, pins-fit}
 use Rattle.netlist.specs.Places.{outputsFrom}
 use Rattle.netlist.specs.Tables.{CircuitTables, GatePart, kindIn, pinCountIn, outputIn, gatePart}
 use Rattle.netlist.specs.declared.inner.Shape.{Shape}
-use Rattle.netlist.proofs.PartLaws.{part-rest}
+use Rattle.records.proofs.PartLaws.{part-rest}
 use Rattle.netlist.proofs.PinLaws.{fields-at}
-use Rattle.netlist.proofs.PaddedLaws.{pad-getD, pad-counts}
+use Rattle.gate_records.proofs.PaddedLaws.{pad-getD}
+use Rattle.netlist.proofs.PaddedOutputs.{pad-counts}
 use Rattle.netlist.proofs.PlaceLaws.{RecordAt, record-at, parts}
 use Rattle.netlist.proofs.OutputLaws.{outputs, below, outputs-at}
 

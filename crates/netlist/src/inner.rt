@@ -1,21 +1,20 @@
 // The tables of a legal netlist, and the readers of the parts of its file, for our own crates.
 ghost use mathlib.Core.Path.{_≡_};
 ghost use Prim.Native.Nat.{_+_, _-_, _*_, _≤_, _<_};
-ghost use lib.ListN.{length, getD, drop};
-ghost use Rattle.model.specs.Netlist.{outputCount};
-ghost use Rattle.netlist.specs.Places.{zeros};
+ghost use lib.ListN.{length, getD, drop, replicate};
+ghost use Rattle.model.specs.Calls.{padded};
+ghost use Rattle.gate_records.specs.GateReading.{zeros};
 ghost use Rattle.netlist.specs.Answers.{LoadTrue, LoadedTrue};
 ghost use Rattle.netlist.specs.Reading.{HeaderRead};
 ghost use Rattle.netlist.specs.Tables.{pinIn, gatePart, outputIn};
 use crate::SurveyAnswer;
-use crate::gates::GatesAnswer;
-use crate::gates::read_gates;
-use crate::gates::set_inputs;
 use crate::header::HeaderAnswer;
 use crate::header::read_header;
-use crate::outputs::OutputsAnswer;
-use crate::outputs::read_outputs;
+use gate_records::inner::GatesAnswer;
+use gate_records::inner::read_gates;
 use model::Refusal;
+use output_records::inner::OutputsAnswer;
+use output_records::inner::read_outputs;
 use records::inner::u16_at;
 use records::inner::wide_word;
 
@@ -57,6 +56,18 @@ pub fn load(netlist: &[u8], counts: &mut [u64; 512], positions: &mut [u16; 512])
             counts,
             positions,
         ),
+    }
+}
+
+// Fills in the counts of the inputs.
+fn set_inputs(counts: &mut [u64; 512], inputs: usize)
+    requires { ⌜ (inputs ≤ 512) × (now counts ≡ zeros) ⌝ }
+    ensures { λ _. ⌜ now (counts .exit) ≡ padded (replicate inputs 1) ⌝ }
+{
+    let mut i = 0;
+    while i < inputs {
+        counts[i] = 1;
+        i += 1;
     }
 }
 
@@ -124,17 +135,6 @@ pub fn load_by_value(netlist: &[u8]) -> Loaded
             positions,
         },
     }
-}
-
-// How many paths end at an output at this net: none at an input, where the output is a wire without a gate.
-pub fn output_paths(counts: &[u64; 512], inputs: usize, net: usize) -> u64
-    requires { ⌜ net < 512 ⌝ }
-    ensures { λ r. ⌜ r ≡ outputCount inputs (now (counts .entry)) net ⌝ }
-{
-    if net < inputs {
-        return 0;
-    }
-    counts[net]
 }
 
 // The part of the file that begins at the record of the gate that drives `net`.

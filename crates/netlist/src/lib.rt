@@ -1,8 +1,6 @@
 // The netlist reader: a survey of a netlist file, or the reason for refusing it.
-mod gates;
 mod header;
 pub mod inner;
-mod outputs;
 
 ghost use mathlib.Core.Path.{_≡_};
 ghost use Rattle.netlist.specs.Answers.{SurveyTrue};

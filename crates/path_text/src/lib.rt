@@ -1,4 +1,8 @@
 // A path in gates, as the programs print it: its output, then each gate on the way back to its input.
+ghost use mathlib.Core.Path.{_≡_};
+ghost use Prim.Native.Nat.{_+_, _*_, _≤_, _<_};
+ghost use lib.ListN.{length};
+ghost use Rattle.netlist.specs.Tables.{SomeCircuit, pinIn};
 use console::Line;
 use console::empty_line;
 use console::print_line;
@@ -8,40 +12,16 @@ use console::with_text;
 use faults::PathNo;
 use model::PATH_WORDS;
 use netlist::inner::LoadAnswer;
+use netlist::inner::Shape;
+use netlist::inner::gate_part;
 use netlist::inner::load;
+use netlist::inner::output_net;
 use netlist::inner::outputs_part;
+use netlist::inner::pin_net;
 use paths::PathAnswer;
 use paths::number_to_path;
-use records::inner;
-ghost use Prim.Native.Nat.{_<_, _≤_};
-
-// A byte of the netlist, 0 past its end.
-fn byte_at(netlist: &[u8], at: usize) -> u8 {
-    if at < netlist.len() {
-        return netlist[at];
-    }
-    0
-}
-
-// The field of two bytes at a place, bytes past the end being 0.
-fn field_at(netlist: &[u8], at: usize) -> usize
-    requires { ⌜ at < 10000000000000000000 ⌝ }
-    ensures { λ r. ⌜ r < 65536 ⌝ }
-{
-    let low = inner::wide(byte_at(netlist, at));
-    let high = inner::wide(byte_at(netlist, at + 1));
-    low + 256 * high
-}
-
-// Where the record of the gate that drives a net begins.
-fn position_of(positions: &[u16; 512], net: usize) -> usize
-    ensures { λ r. ⌜ r < 65536 ⌝ }
-{
-    if net < 512 {
-        return inner::wide_word(positions[net]);
-    }
-    0
-}
+use records::inner::wide;
+use records::inner::wide_word;
 
 // The line with the name of a kind of gate at its end.
 fn with_kind(line: Line, kind: u8) -> Line {
@@ -63,13 +43,13 @@ fn net_line(net: usize) -> Line {
     with_text(line, b": ")
 }
 
-// One gate: its net, its kind, the pin taken and the net at that pin, which is returned.
-fn print_gate(fd: i32, netlist: &[u8], positions: &[u16; 512], net: usize, pin: usize) -> usize
-    requires { ⌜ pin < 65536 ⌝ }
+// One gate, with whose record the part begins: its net, its kind, the pin taken and the net at that pin, which is returned.
+fn print_gate(fd: i32, part: &[u8], net: usize, pin: usize) -> usize
+    requires { ⌜ 4 + 2 * pin + 2 ≤ length (now part) ⌝ }
+    ensures { λ r. ⌜ r ≡ pinIn (now (part .entry)) pin ⌝ }
 {
-    let at = position_of(positions, net);
-    let next = field_at(netlist, at + 4 + 2 * pin);
-    let gate = with_kind(net_line(net), byte_at(netlist, at + 2));
+    let next = pin_net(part, pin);
+    let gate = with_kind(net_line(net), part[2]);
     let taken = with_number(with_text(gate, b", pin "), pin as u64);
     print_line(
         fd,
@@ -78,43 +58,67 @@ fn print_gate(fd: i32, netlist: &[u8], positions: &[u16; 512], net: usize, pin: 
     next
 }
 
-// The number of pins of a path.
-fn pin_count(words: &[u16; 513]) -> usize
-    ensures { λ r. ⌜ r ≤ 511 ⌝ }
+// The gates of a path from its output's net on, then its input. The nets fall, so that there are at most 511 gates. Words that name a pin that the
+// gate has not are no path: they are left there.
+fn print_gates(
+    fd: i32,
+    netlist: &[u8],
+    positions: &[u16; 512],
+    shape: Shape,
+    words: &[u16; 513],
+    output: usize,
+)
+    requires { ⌜ SomeCircuit (now netlist) (now positions) shape × (output < shape .nets) ⌝ }
 {
-    let pins = inner::wide_word(words[1]);
-    if pins <= 511 {
-        return pins;
-    }
-    511
-}
-
-// The gates of a path from its output's net on, then its input.
-fn print_gates(fd: i32, netlist: &[u8], positions: &[u16; 512], words: &[u16; 513], output: usize) {
-    let pins = pin_count(words);
+    let inputs = shape.inputs;
     let mut net = output;
     let mut k = 0;
-    while k < pins {
-        net = print_gate(fd, netlist, positions, net, inner::wide_word(words[2 + k]));
+    while inputs <= net {
+        let part = gate_part(netlist, positions, net);
+        let pin = wide_word(words[2 + k]);
+        if wide(part[3]) <= pin {
+            return;
+        }
+        net = print_gate(fd, part, net, pin);
         k += 1;
     }
     print_line(fd, with_text(net_line(net), b"input"));
 }
 
+// The line of an output: its place and its net.
+fn print_place(fd: i32, place: usize, net: usize) {
+    let line = with_number(with_text(empty_line(), b"output "), place as u64);
+    print_line(fd, with_number(with_text(line, b": net "), net as u64));
+}
+
 // The output of a path, then its gates.
+fn print_output(fd: i32, netlist: &[u8], positions: &[u16; 512], shape: Shape, words: &[u16; 513])
+    requires { ⌜ SomeCircuit (now netlist) (now positions) shape ⌝ }
+{
+    let place = wide_word(words[0]);
+    if shape.outputs <= place {
+        return;
+    }
+    let outputs = outputs_part(netlist, shape.outputs);
+    let net = output_net(&outputs[4 * place..]);
+    print_place(fd, place, net);
+    print_gates(fd, netlist, positions, shape, words, net);
+}
+
+// The path in the words, in gates of the netlist.
 fn print_words(fd: i32, netlist: &[u8], words: &[u16; 513]) {
     let mut counts = [0u64; 512];
     let mut positions = [0u16; 512];
     let answer = load(netlist, &mut counts, &mut positions);
     match answer {
         LoadAnswer::Refused(_) => {}
-        LoadAnswer::Legal { shape, total: _ } => {
-            let place = inner::wide_word(words[0]);
-            let net = field_at(outputs_part(netlist, shape.outputs), 4 * place + 2);
-            let line = with_number(with_text(empty_line(), b"output "), place as u64);
-            print_line(fd, with_number(with_text(line, b": net "), net as u64));
-            print_gates(fd, netlist, &positions, words, net);
-        }
+        LoadAnswer::Legal { shape, total: _ } => print_output(
+            fd,
+            netlist,
+            &positions,
+            shape,
+            words,
+        ),
     }
 }
 

@@ -18,12 +18,12 @@ use Rattle.model.proofs.WellFormed.{WellFormed}
 use Rattle.netlist.specs.Tables.{CircuitTables, SomeTables, GatePart, gatePart, pinIn}
 use Rattle.netlist.specs.declared.inner.Shape.{Shape}
 use Rattle.netlist.proofs.TableLaws.{gate-part, few-nets, count-at}
-use Rattle.paths.specs.declared.pins.Pick.{Pick}
-use Rattle.paths.specs.Picks.{pinCountsIn, pickPin}
+use Rattle.path_picks.specs.declared.inner.pins.Pick.{Pick}
+use Rattle.path_picks.specs.Picks.{pinCountsIn, pickPin}
 use Rattle.paths.specs.Tasks.{PinsWritten}
-use Rattle.paths.proofs.WalkTableLaws.{pin-counts}
+use Rattle.path_picks.proofs.WalkTableLaws.{pin-counts}
 use Rattle.paths.proofs.PartialLaws.{pin-is-one, pin-below, there-low, there-high, path-step}
-use Rattle.paths.proofs.PinStepCases.{step-few, step-inside, step-pins, step-number}
+use Rattle.path_picks.proofs.PinStepCases.{step-few, step-inside, step-pins, step-number}
 
 -- an input's path has no pins
 pub input-words : (file ps cs : List ℕ) (shape : Shape) (net number at : ℕ) (path : List ℕ) → net < shape .inputs

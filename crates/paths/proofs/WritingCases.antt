@@ -20,10 +20,10 @@ use Rattle.model.proofs.WellFormed.{WellFormed}
 use Rattle.netlist.specs.Tables.{CircuitTables, SomeTables, outputIn}
 use Rattle.netlist.specs.declared.inner.Shape.{Shape}
 use Rattle.netlist.proofs.TableLaws.{few-outputs, some-output, few-nets, outputs-inside, output-is, output-below, count-at}
-use Rattle.paths.specs.Picks.{RecordsOfOutputs, outputCountsIn, pickOutput}
+use Rattle.path_picks.specs.Picks.{RecordsOfOutputs, outputCountsIn, pickOutput}
 use Rattle.paths.specs.Tasks.{Wanted, PinsWritten, blank}
-use Rattle.paths.specs.declared.pins.Pick.{Pick}
-use Rattle.paths.proofs.WalkTableLaws.{outputs-before, output-counts}
+use Rattle.path_picks.specs.declared.inner.pins.Pick.{Pick}
+use Rattle.path_picks.proofs.WalkTableLaws.{outputs-before, output-counts}
 use Rattle.paths.proofs.PathWordLaws.{words, buffer-is, length-blank, end-room, blank-room, same-words}
 
 module _ (file ps cs : List ℕ) (shape : Shape) (k : ℕ) (r : Wanted file ps cs shape k) where

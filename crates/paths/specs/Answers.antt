@@ -1,4 +1,4 @@
--- What the calls on paths answer, by document 01's numbers and values.
+-- What the writing call answers, by document 01's numbers and values.
 -- Assumes nothing.
 use mathlib.Core.Path.{_≡_}
 use mathlib.Core.List.{List}
@@ -6,15 +6,8 @@ use Prim.Native.Nat.{ℕ}
 use Rattle.model.specs.Base.{Answer, refused, value}
 use Rattle.model.specs.Refusals.{refusalNumber}
 use Rattle.model.specs.Calls.{numberToPathAnswer, numberToPathBuffer}
-use Rattle.paths.specs.declared.NumberAnswer.{NumberAnswer}
-use Rattle.paths.specs.declared.NumberAnswer.the-variants as number
 use Rattle.paths.specs.declared.PathAnswer.{PathAnswer}
 use Rattle.paths.specs.declared.PathAnswer.the-variants as path
-
--- Path to number: a path number, or the number of the refusal
-abbrev pub numberAnswer : NumberAnswer → Answer ℕ
-numberAnswer (number.Number p) = value (p .0)
-numberAnswer (number.Refused w) = refused (refusalNumber w)
 
 -- Number to path: that it was written, or the number of the refusal
 abbrev pub pathAnswer : PathAnswer → Answer (Unit {0})

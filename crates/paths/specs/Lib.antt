@@ -1,4 +1,3 @@
--- Answers of the public calls, then what the functions below them are asked to do.
+-- Answers of the public call, then what the functions below it are asked to do.
 pub mod Answers
-pub mod Picks
 pub mod Tasks

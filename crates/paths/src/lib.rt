@@ -1,13 +1,7 @@
-// Paths and their numbers: path to number, number to path.
-mod outputs;
-mod pins;
-mod reading;
+// The path of a number.
 mod writing;
 
-ghost use mathlib.Core.Path.{_≡_};
-ghost use Rattle.model.specs.Calls.{pathToNumberCall};
-ghost use Rattle.paths.specs.Answers.{numberAnswer, PathWritten};
-use crate::reading::read_path;
+ghost use Rattle.paths.specs.Answers.{PathWritten};
 use crate::writing::write_path;
 use faults::PathNo;
 use model::PATH_WORDS;
@@ -15,33 +9,9 @@ use model::Refusal;
 use netlist::inner::LoadAnswer;
 use netlist::inner::load;
 
-pub enum NumberAnswer {
-    Number(PathNo),
-    Refused(Refusal),
-}
-
 pub enum PathAnswer {
     Written,
     Refused(Refusal),
-}
-
-// The number of the path in the words: output place, number of pins, then the pins.
-pub fn path_to_number(netlist: &[u8], path: &[u16]) -> NumberAnswer
-    ensures { λ r. ⌜ numberAnswer r ≡ pathToNumberCall (now (netlist .entry)) (now (path .entry)) ⌝ }
-{
-    let mut counts = [0u64; 512];
-    let mut positions = [0u16; 512];
-    let answer = load(netlist, &mut counts, &mut positions);
-    match answer {
-        LoadAnswer::Refused(why) => NumberAnswer::Refused(why),
-        LoadAnswer::Legal { shape, total: _ } => {
-            let number = read_path(netlist, &positions, &counts, shape, path);
-            if number == 0 {
-                return NumberAnswer::Refused(Refusal::NotAPath);
-            }
-            NumberAnswer::Number(PathNo(number))
-        }
-    }
 }
 
 // Writes the path of a number into the first 513 words, with zeros after it. A refused call leaves the words as they were.

@@ -7,12 +7,12 @@ ghost use Rattle.model.specs.Path.{pathOf};
 ghost use Rattle.model.specs.Calls.{pathWritten, pathWords};
 ghost use Rattle.netlist.specs.Tables.{CircuitTables, SomeTables};
 ghost use Rattle.paths.specs.Tasks.{Wanted, PinsWritten, blank};
-use crate::outputs::pick_output;
-use crate::pins::pick_pin;
 use model::PATH_WORDS;
 use netlist::inner::Shape;
 use netlist::inner::gate_part;
 use netlist::inner::outputs_part;
+use path_picks::inner::outputs::pick_output;
+use path_picks::inner::pins::pick_pin;
 
 // Writes the path of a number of a legal netlist, with zeros after it.
 pub(crate) fn write_path(

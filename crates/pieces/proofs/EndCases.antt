@@ -24,10 +24,10 @@ use Rattle.netlist.specs.Answers.{SurveyTrue}
 use Rattle.netlist.specs.declared.SurveyAnswer.the-variants as survey
 use Rattle.netlist.specs.declared.Surveyed.{Surveyed}
 use Rattle.netlist.proofs.LoadLaws.{legal-survey, refused-survey}
-use Rattle.store.specs.Answers.{checkOf}
-use Rattle.store.specs.declared.inner.StoreCheck.{StoreCheck}
-use Rattle.store.specs.declared.inner.StoreCheck.the-variants as check
-use Rattle.store.proofs.SoundLaws.{checked-sound}
+use Rattle.store_words.specs.WordAnswers.{checkOf}
+use Rattle.store_words.specs.declared.inner.StoreCheck.{StoreCheck}
+use Rattle.store_words.specs.declared.inner.StoreCheck.the-variants as check
+use Rattle.store_words.proofs.SoundLaws.{checked-sound}
 use Rattle.coverage.proofs.TestCallLaws.{refused-by, taken-by}
 use Rattle.report.specs.Answers.{comparedOf}
 use Rattle.audit.specs.TestFile.{leftStore, wholeLength}

@@ -23,9 +23,9 @@ use Rattle.netlist.specs.Answers.{LoadedTrue}
 use Rattle.netlist.specs.declared.SurveyAnswer.the-variants as survey
 use Rattle.netlist.specs.declared.inner.Loaded.{Loaded}
 use Rattle.netlist.proofs.LoadLaws.{loaded-legal, loaded-refused}
-use Rattle.store.specs.Answers.{checkOf}
-use Rattle.store.specs.declared.inner.StoreCheck.{StoreCheck}
-use Rattle.store.specs.declared.inner.StoreCheck.the-variants as check
+use Rattle.store_words.specs.WordAnswers.{checkOf}
+use Rattle.store_words.specs.declared.inner.StoreCheck.{StoreCheck}
+use Rattle.store_words.specs.declared.inner.StoreCheck.the-variants as check
 use Rattle.audit.specs.TestFile.{fileOf, leftStore, takenOf}
 use Rattle.coverage.specs.declared.inner.StageAnswer.the-variants as stage
 use Rattle.audit.specs.declared.inner.TakenRecords.{TakenRecords}

@@ -22,7 +22,7 @@ use Rattle.netlist.specs.declared.SurveyAnswer.the-variants as survey
 use Rattle.netlist.specs.declared.inner.Loaded.{Loaded}
 use Rattle.netlist.proofs.LoadLaws.{loaded-legal, loaded-refused}
 use Rattle.netlist.proofs.TableLaws.{few-inputs}
-use Rattle.store.specs.Sound.{SoundWords}
+use Rattle.store_words.specs.Sound.{SoundWords}
 use Rattle.coverage.specs.Stage.{MemoryReady, StageReady}
 use Rattle.report.specs.Answers.{comparedOf}
 use Rattle.audit.specs.TestFile.{fileOf, leftStore, FileTaken, wholeLength, reported, Judged}

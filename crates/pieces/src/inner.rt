@@ -17,8 +17,8 @@ use model::known_class;
 use netlist::SurveyAnswer;
 use netlist::inner::Loaded;
 use netlist::inner::load_by_value;
-use simulation::inner::test_record::record_length;
-use store::inner::clear;
+use store_writing::inner::clear;
+use test_records::inner::record_length;
 
 // The answer, and the tables of the netlist.
 pub struct Begun {

@@ -26,10 +26,10 @@ use netlist::inner::load_by_value;
 use netlist::survey;
 use report::inner::Comparison;
 use report::inner::compare;
-use simulation::inner::test_record::record_length;
-use store::inner::StoreCheck;
-use store::inner::check_words;
-use store::inner::clear;
+use store_words::inner::StoreCheck;
+use store_words::inner::check_words;
+use store_writing::inner::clear;
+use test_records::inner::record_length;
 
 // What the places before the test file answer.
 pub enum BeginAnswer {

@@ -2,3 +2,6 @@
 pub mod Tests
 pub mod ByteLaws
 pub mod VectorLaws
+pub mod BitLaws
+pub mod PartLaws
+pub mod AheadLaws

@@ -17,9 +17,9 @@ use Rattle.model.specs.Store.{runsByEdge}
 use Rattle.model.specs.Report.{sameBytes, reportRecord, reportRules}
 use Rattle.model.proofs.BoolLaws.{and-left, true→T}
 use Rattle.records.proofs.ByteLaws.{part-yes, part-no, same-length}
-use Rattle.store.specs.Answers.{totalsIn, totalsBoth}
-use Rattle.store.specs.Sound.{SoundWords, edgeWords}
-use Rattle.store.specs.declared.inner.StoreTotals.{StoreTotals}
+use Rattle.store_words.specs.WordAnswers.{totalsIn, totalsBoth}
+use Rattle.store_words.specs.Sound.{SoundWords, edgeWords}
+use Rattle.store_words.specs.declared.inner.StoreTotals.{StoreTotals}
 use Rattle.report.specs.Layout.{wordBytes, SameHead}
 use Rattle.report.proofs.ReportPartLaws.{length-words, report-parts, length-whole}
 

@@ -12,10 +12,10 @@ use Rattle.model.specs.Runs.{size}
 use Rattle.model.specs.Store.{ByEdge, placeWords, firstWord, runsAt, runCount, storeRuns, runsByEdge}
 use Rattle.model.specs.Report.{runBytes, reportHead, reportRecord, reportBufferBytes}
 use Rattle.model.proofs.StoreLaws.{length-runsAt}
-use Rattle.store.specs.Answers.{totalsIn, totalsBoth}
-use Rattle.store.specs.Sound.{FewRuns, SoundWords, edgeWords}
-use Rattle.store.specs.declared.inner.StoreTotals.{StoreTotals}
-use Rattle.store.proofs.RunPlaceLaws.{edge-words-fit}
+use Rattle.store_words.specs.WordAnswers.{totalsIn, totalsBoth}
+use Rattle.store_words.specs.Sound.{FewRuns, SoundWords, edgeWords}
+use Rattle.store_words.specs.declared.inner.StoreTotals.{StoreTotals}
+use Rattle.store_words.proofs.RunPlaceLaws.{edge-words-fit}
 use Rattle.report.specs.Layout.{wordBytes, headBytes}
 
 pub length-words : (ws : List ℕ) → length (wordBytes ws) ≡ 8 * length ws

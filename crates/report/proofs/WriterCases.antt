@@ -21,12 +21,12 @@ use Rattle.netlist.specs.Answers.{SurveyTrue}
 use Rattle.netlist.specs.declared.SurveyAnswer.the-variants as survey
 use Rattle.netlist.specs.declared.Surveyed.{Surveyed}
 use Rattle.netlist.proofs.LoadLaws.{LegalSurvey, legal-survey, refused-survey}
-use Rattle.store.specs.Answers.{checkOf, totalsIn, totalsBoth}
-use Rattle.store.specs.Sound.{SoundWords, edgeWords}
-use Rattle.store.specs.declared.inner.StoreCheck.{StoreCheck}
-use Rattle.store.specs.declared.inner.StoreCheck.the-variants as check
-use Rattle.store.specs.declared.inner.StoreTotals.{StoreTotals}
-use Rattle.store.proofs.SoundLaws.{checked-sound}
+use Rattle.store_words.specs.WordAnswers.{checkOf, totalsIn, totalsBoth}
+use Rattle.store_words.specs.Sound.{SoundWords, edgeWords}
+use Rattle.store_words.specs.declared.inner.StoreCheck.{StoreCheck}
+use Rattle.store_words.specs.declared.inner.StoreCheck.the-variants as check
+use Rattle.store_words.specs.declared.inner.StoreTotals.{StoreTotals}
+use Rattle.store_words.proofs.SoundLaws.{checked-sound}
 use Rattle.report.specs.Answers.{WriteTrue}
 use Rattle.report.specs.Layout.{wordBytes, headBytes, ReportPut}
 use Rattle.report.specs.declared.WriteAnswer.the-variants as write

@@ -6,7 +6,7 @@ ghost use Rattle.model.specs.Base.{checks};
 ghost use Rattle.model.specs.Store.{runsByEdge};
 ghost use Rattle.model.specs.Report.{sameBytes, reportRecord, reportRules};
 ghost use Rattle.report.specs.Answers.{comparedOf};
-ghost use Rattle.store.specs.Sound.{SoundWords};
+ghost use Rattle.store_words.specs.Sound.{SoundWords};
 ghost use Rattle.report.specs.Layout.{wordBytes, SameHead};
 use crate::layout::FALLING_FAULTS_AT;
 use crate::layout::FALLING_RUNS_AT;
@@ -23,8 +23,8 @@ use model::Refusal;
 use records::inner::begins_with;
 use records::inner::same;
 use records::inner::u16_at;
-use store::inner::parts::edge_runs;
-use store::inner::totals_of;
+use store_words::inner::parts::edge_runs;
+use store_words::inner::totals_of;
 
 // What the checks of a report answer.
 pub enum Comparison {

@@ -10,8 +10,8 @@ use model::Refusal;
 use model::STORE_WORDS;
 use netlist::SurveyAnswer;
 use netlist::survey;
-use store::inner::StoreCheck;
-use store::inner::check_words;
+use store_words::inner::StoreCheck;
+use store_words::inner::check_words;
 
 // The length of the record that was written.
 pub enum WriteAnswer {

@@ -4,7 +4,7 @@ ghost use Prim.Native.Nat.{_+_, _*_, _^_, _≤_};
 ghost use lib.ListN.{length};
 ghost use lib.Seq.{sets};
 ghost use Rattle.model.specs.Report.{reportBufferBytes};
-ghost use Rattle.store.specs.Sound.{SoundWords};
+ghost use Rattle.store_words.specs.Sound.{SoundWords};
 ghost use Rattle.report.specs.Layout.{wordBytes, headBytes, ReportPut};
 use crate::layout::FALLING_FAULTS_AT;
 use crate::layout::FALLING_RUNS_AT;
@@ -17,8 +17,8 @@ use crate::layout::TESTS_AT;
 use crate::layout::WORD_BYTES;
 use faults::Edge;
 use records::inner::put;
-use store::inner::parts::edge_runs;
-use store::inner::totals_of;
+use store_words::inner::parts::edge_runs;
+use store_words::inner::totals_of;
 
 // Writes words from `at` on, 8 bytes each.
 fn put_words(report: &mut [u8], at: usize, words: &[u64])

@@ -1,7 +1,7 @@
 -- The states of the inputs, from the words of V1 and V2, and arrays with one entry set.
 -- Assumes nothing.
 use mathlib.Core.Path.{_≡_, refl, ap, ap₂, sym, _∙_, subst}
-use mathlib.Core.Bool.{Bool, true, false, Bool·beq}
+use mathlib.Core.Bool.{Bool·beq}
 use mathlib.Core.List.{List}
 use mathlib.Core.Logic.{⊎-elim, _⊎_, inl, inr}
 use Prim.Native.Nat.{ℕ, zero, suc, _+_, _/_, _%_, _^_, _≤_, _<_}
@@ -14,7 +14,8 @@ use lib.Seq.{getD-set-same, getD-set-other}
 use Rattle.model.specs.Base.{bit}
 use Rattle.model.specs.Detect.{Evaluation}
 use Rattle.model.proofs.BoolLaws.{bool-cases, eqb-false, true→T}
-use Rattle.simulation.specs.States.{wordOf, stateIn, IsState}
+use Rattle.gate_logic.specs.States.{wordOf}
+use Rattle.simulation.specs.StateWords.{stateIn, IsState}
 use Rattle.simulation.specs.Simulated.{inputState, InputStates}
 use Rattle.simulation.proofs.PackStates.{word-form, word-back}
 

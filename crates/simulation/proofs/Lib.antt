@@ -1,9 +1,3 @@
-pub mod PackedLaws
-pub mod KindCases
-pub mod StateLaws
-pub mod EvaluationCases
 pub mod PackStates
-pub mod BitLaws
-pub mod RecordCases
 pub mod InputCases
 pub mod OpenCases

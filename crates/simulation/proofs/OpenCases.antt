@@ -16,13 +16,14 @@ use Rattle.model.specs.Read.{kindOf, classOf}
 use Rattle.model.proofs.WellFormed.{WellFormed}
 use Rattle.model.proofs.ReadLaws.{legal}
 use Rattle.model.proofs.NetLaws.{evaluate-input, evaluate-gate}
-use Rattle.netlist.specs.Tables.{CircuitTables, SomeCircuit, GatePart, kindIn, pinCountIn, pinIn, gatePart}
+use Rattle.netlist.specs.Tables.{CircuitTables, SomeCircuit, GatePart, kindIn, pinCountIn, gatePart}
 use Rattle.netlist.specs.declared.inner.Shape.{Shape}
 use Rattle.netlist.proofs.TableLaws.{few-inputs, few-nets, inputs-below, gate-part, gate-inside}
-use Rattle.simulation.specs.Packed.{PackedPins}
-use Rattle.simulation.specs.States.{lowLane, midLane, highLane, stateOf, wordOf, stateIn, IsState, pinsIn, PackedStates, StatesAt, statesAt, PacksStates}
+use Rattle.packed_pins.specs.Packed.{PackedPins}
+use Rattle.gate_logic.specs.States.{stateOf, wordOf, pinsIn, PackedStates}
+use Rattle.simulation.specs.StateWords.{lowLane, midLane, highLane, stateIn, IsState, StatesAt, statesAt, PacksStates}
 use Rattle.simulation.specs.Simulated.{TestIs, InputStates, MasksTo, OpenMasks}
-use Rattle.simulation.specs.declared.inner.evaluation.PinStates.{PinStates}
+use Rattle.gate_logic.specs.declared.inner.PinStates.{PinStates}
 use Rattle.simulation.proofs.PackStates.{word-form, word-back, packed-fits}
 use Rattle.simulation.proofs.InputCases.{set-each, set-more}
 

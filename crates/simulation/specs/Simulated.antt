@@ -9,7 +9,8 @@ use Rattle.model.specs.Base.{bit}
 use Rattle.model.specs.Netlist.{Netlist, nets, pinsOf}
 use Rattle.model.specs.Detect.{Test, Evaluation, openPin}
 use Rattle.model.specs.Read.{classOf}
-use Rattle.simulation.specs.States.{IsState, stateOf, stateIn}
+use Rattle.gate_logic.specs.States.{stateOf}
+use Rattle.simulation.specs.StateWords.{IsState, stateIn}
 
 -- bit j of the word is input j of the vector
 pub record VectorIs (N : Netlist) (v : List Bool) (word : ℕ) : Type 0 where

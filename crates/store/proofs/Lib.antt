@@ -1,7 +1,3 @@
-pub mod RunPlaceLaws
-pub mod ZeroSteps
-pub mod CheckSteps
-pub mod SoundLaws
-pub mod EdgeWriteLaws
-pub mod EdgeWriteCases
+-- The store's words asked, then the public calls.
+pub mod AskedSteps
 pub mod CallSteps

@@ -5,21 +5,19 @@ use mathlib.Core.Bool.{Bool, true, false}
 use mathlib.Core.List.{List, [], _∷_, _++_}
 use Prim.Native.Nat.{ℕ, _*_}
 use Rattle.model.specs.Base.{Answer, refused, value, _>>_, checks}
-use Rattle.model.specs.Runs.{size, inRuns}
+use Rattle.model.specs.Runs.{inRuns}
 use Rattle.model.specs.Path.{edgeOfFault, pathOfFault}
 use Rattle.model.specs.Read.{within}
-use Rattle.model.specs.Store.{ByEdge, byEdge, storeRuns, storeRules}
+use Rattle.model.specs.Store.{ByEdge, storeRuns, storeRules}
 use Rattle.model.specs.Calls.{emptyCall, emptiedStore}
 use Rattle.model.specs.Refusals.{refusalNumber}
+use Rattle.store_words.specs.WordAnswers.{totalsBoth}
 use Rattle.store.specs.declared.EmptyAnswer.{EmptyAnswer}
 use Rattle.store.specs.declared.EmptyAnswer.the-variants as empty
 use Rattle.store.specs.declared.TotalsAnswer.{TotalsAnswer}
 use Rattle.store.specs.declared.TotalsAnswer.the-variants as totals
 use Rattle.store.specs.declared.HeldAnswer.{HeldAnswer}
 use Rattle.store.specs.declared.HeldAnswer.the-variants as held
-use Rattle.store.specs.declared.inner.StoreCheck.{StoreCheck}
-use Rattle.store.specs.declared.inner.StoreCheck.the-variants as check
-use Rattle.store.specs.declared.inner.StoreTotals.{StoreTotals}
 
 -- emptying: the number of a refusal, or that there is none
 abbrev pub emptyOf : EmptyAnswer → Answer (Unit {0})
@@ -41,18 +39,6 @@ abbrev pub heldOf : HeldAnswer → Answer Bool
 heldOf held.Held = value true
 heldOf held.NotHeld = value false
 heldOf (held.Refused w) = refused (refusalNumber w)
-
--- the checks of a store's words: the number of a refusal, or that there is none
-abbrev pub checkOf : StoreCheck → Answer (Unit {0})
-checkOf check.Sound = value tt
-checkOf (check.Refused w) = refused (refusalNumber w)
-
--- the numbers of faults held, edge by edge
-abbrev pub totalsIn : StoreTotals → ByEdge ℕ
-totalsIn t = record { onRising = t .rising; onFalling = t .falling }
-
-abbrev pub totalsBoth : List ℕ → ByEdge ℕ
-totalsBoth ws = byEdge (λ e. size (storeRuns ws e))
 
 -- document 01's totals once store length and netlist are passed, for path numbers 1 to `paths`
 unfoldable pub totalsOn : ℕ → List ℕ → Answer (ByEdge ℕ)

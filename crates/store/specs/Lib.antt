@@ -1,4 +1,2 @@
--- The store: document 01's answer for each case of the code's enums, what the checks leave known, and what writing leaves.
+-- The store's calls: document 01's answer for each case of the code's enums.
 pub mod Answers
-pub mod Sound
-pub mod Writing

@@ -1,17 +1,17 @@
 // The calls on a store: emptying it, its totals, and whether it holds a fault.
-pub mod inner;
+mod asking;
 
 ghost use mathlib.Core.Path.{_≡_};
 ghost use Rattle.model.specs.Calls.{totalsCall, faultCall};
 ghost use Rattle.store.specs.Answers.{EmptyTrue, totalsOf, heldOf};
-use crate::inner::clear;
-use crate::inner::fault_on;
-use crate::inner::totals_on;
+use crate::asking::fault_on;
+use crate::asking::totals_on;
 use faults::FaultNo;
 use model::Refusal;
 use model::STORE_WORDS;
 use netlist::SurveyAnswer;
 use netlist::survey;
+use store_writing::inner::clear;
 
 // What emptying a store answers.
 pub enum EmptyAnswer {

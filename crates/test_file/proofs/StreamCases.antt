@@ -26,15 +26,16 @@ use Rattle.audit.proofs.PromisesHold.{calls-true}
 use Rattle.pieces.specs.declared.BeginAnswer.the-variants as beginning
 use Rattle.pieces.specs.declared.inner.Begun.{Begun}
 use Rattle.pieces.specs.Steps.{begunOf, lentRules, beginAnswer, beginStore, BeginTrue, Ended, withPiece, endBy, endOf}
-use Rattle.pieces.proofs.TogetherHolds.{begun-lent, begun-known, begun-before, end-answer, end-store, end-work}
+use Rattle.pieces.proofs.TogetherHolds.{begun-ready, begun-empty, begun-lent, begun-known, begun-before, end-answer, end-store, end-work}
 use Rattle.pieces.proofs.PiecesHold.{pieces-true}
-use Rattle.test_file.specs.declared.walking.Walk.{Walk}
+use Rattle.file_walk.specs.declared.inner.Walk.{Walk}
 use Rattle.test_file.specs.declared.writing.Written.{Written}
 use Rattle.test_file.specs.declared.Judged.{Judged}
 use Rattle.test_file.specs.declared.Reported.{Reported}
-use Rattle.test_file.specs.Walked.{fileTaken, Walked, Wrote, lengthIn, withReport, writerAfter}
+use Rattle.file_walk.specs.Walked.{fileTaken, Walked}
+use Rattle.test_file.specs.TrueReport.{Wrote, lengthIn, withReport, writerAfter}
 use Rattle.test_file.specs.Streams.{fileCall, fileStore, trueReport, takenBy, StreamRead, StreamAudited, StreamReported}
-use Rattle.test_file.proofs.TrueReportCases.{all-taken}
+use Rattle.test_file.proofs.TrueReportCases.{all-taken, few-tests}
 
 -- what passes nowhere is refused with the same number
 same-number : (x : Answer Netlist) (n : ℕ) → refused n ≡ passes x → x ≡ refused n
@@ -174,4 +175,4 @@ pub stream-accepts : (r : Judged) (netlist report : List ℕ) (class : ℕ) (tru
 stream-accepts r netlist report class truth truth′ space ws ws′ work work′ s =
     calls-true .audits (r .answer) netlist class (s .read .testFile) report ws ws′ work work′ (s .isAudit)
 
-pub ruleset stream-cases = (audit-refused, report-refused, needs)
+pub ruleset stream-cases = (begun-ready, begun-empty, few-tests, audit-refused, audit-done, report-refused, report-done, needs)

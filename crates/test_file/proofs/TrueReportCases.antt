@@ -28,9 +28,10 @@ use Rattle.report.specs.declared.WriteAnswer.{WriteAnswer}
 use Rattle.report.specs.declared.WriteAnswer.the-variants as write
 use Rattle.coverage.specs.declared.inner.StageAnswer.{StageAnswer}
 use Rattle.coverage.specs.declared.inner.StageAnswer.the-variants as stage
-use Rattle.test_file.specs.declared.walking.Walk.{Walk}
+use Rattle.file_walk.specs.declared.inner.Walk.{Walk}
 use Rattle.test_file.specs.declared.writing.Written.{Written}
-use Rattle.test_file.specs.Walked.{fileTaken, Walked, Wrote, lengthIn, withReport, writerAfter}
+use Rattle.file_walk.specs.Walked.{fileTaken, Walked}
+use Rattle.test_file.specs.TrueReport.{Wrote, lengthIn, withReport, writerAfter}
 
 -- one record that is taken, then all others
 one-all : (x : Answer Tested) (f : List ℕ → ℕ) (h : List ℕ → Answer (List ℕ)) (k : ℕ) (left : List ℕ) → ((ws : List ℕ) → h ws ≡ value left → f ws ≡ k)

@@ -1,4 +1,3 @@
--- A walk over a test file, what the public calls promise, then the listing's walk.
-pub mod Walked
+-- The true report of a test file that was walked over, then what the public calls promise.
+pub mod TrueReport
 pub mod Streams
-pub mod ListingWalk

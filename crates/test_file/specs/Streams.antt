@@ -15,9 +15,11 @@ use Rattle.report.specs.Answers.{writtenOf}
 use Rattle.audit.specs.Answers.{AuditTrue}
 use Rattle.audit.specs.TestFile.{leftStore, takenOf}
 use Rattle.pieces.specs.Steps.{lentRules}
+use Rattle.file_reading.specs.Space.{InSpace}
+use Rattle.file_walk.specs.Walked.{fileTaken}
 use Rattle.test_file.specs.declared.Judged.{Judged}
 use Rattle.test_file.specs.declared.Reported.{Reported}
-use Rattle.test_file.specs.Walked.{fileTaken, InSpace, lengthIn, withReport}
+use Rattle.test_file.specs.TrueReport.{lengthIn, withReport}
 
 -- The store that a test file leaves in a class: lent memory, netlist, class, 33, its records
 unfoldable pub fileCall : List ℕ → ℕ → List ℕ → List ℕ → List ℕ → Answer (List ℕ)

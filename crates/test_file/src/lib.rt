@@ -1,19 +1,15 @@
-// The one walk over a test file: read from a descriptor in pieces of whole records, so that it may be of any length, and audited, reported or
-// listed.
-pub mod inner;
-mod walking;
+// A test file of any length, read from a descriptor, and audited or reported.
 mod writing;
 
 ghost use Rattle.io.specs.Counts.{Counts};
 ghost use Rattle.test_file.specs.Streams.{StreamAudited, StreamReported};
-use crate::walking::walk_file;
 use crate::writing::true_report;
 use audit::AuditAnswer;
+use file_walk::inner::walk_file;
 use pieces::BeginAnswer;
 use pieces::inner::begin;
 use pieces::inner::finish;
 use report::WriteAnswer;
-pub use walking::Walk;
 pub use writing::Written;
 
 // What the audit answers; the length of the true report; the bytes of the test file that were read, the records taken before the first refused

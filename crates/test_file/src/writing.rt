@@ -6,7 +6,7 @@ ghost use Rattle.io.specs.Counts.{Counts};
 ghost use Rattle.model.specs.Base.{value};
 ghost use Rattle.report.specs.Answers.{writtenOf};
 ghost use Rattle.audit.specs.TestFile.{fileOf};
-ghost use Rattle.test_file.specs.Walked.{Wrote, writerAfter, lengthIn};
+ghost use Rattle.test_file.specs.TrueReport.{Wrote, writerAfter, lengthIn};
 use audit::inner::TakenRecords;
 use coverage::inner::StageAnswer;
 use report::WriteAnswer;

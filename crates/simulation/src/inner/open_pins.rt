@@ -6,10 +6,13 @@ ghost use lib.Dec.{eqb};
 ghost use Rattle.model.specs.Base.{bit};
 ghost use Rattle.model.specs.Netlist.{Netlist};
 ghost use Rattle.model.specs.Detect.{Test};
-ghost use Rattle.simulation.specs.States.{wordOf};
+ghost use Rattle.gate_logic.specs.States.{wordOf};
 ghost use Rattle.netlist.specs.Tables.{CircuitTables, SomeCircuit};
 ghost use Rattle.simulation.specs.Simulated.{TestIs, InputStates, inputState, OpenMasks};
-use crate::inner::evaluation;
+use crate::inner::packing;
+use gate_logic::inner::class_pins;
+use gate_logic::inner::evaluate;
+use gate_logic::inner::state_word;
 use netlist::inner::Shape;
 use netlist::inner::gate_part;
 use records::inner::wide;
@@ -29,7 +32,7 @@ fn input_state(v1: u64, v2: u64, input: usize) -> u32
 {
     let first = input_value(v1, input);
     let last = input_value(v2, input);
-    evaluation::state_word(first == 1, last == 1, first == last)
+    state_word(first == 1, last == 1, first == last)
 }
 
 // The states of the inputs, 0 for the other nets.
@@ -66,10 +69,10 @@ pub fn open_masks(
         let part = gate_part(netlist, positions, net);
         let kind = part[2];
         let pins = part[3];
-        let packed = evaluation::pack_states(part, wide(pins), &states);
-        let at_pins = evaluation::pin_states(packed);
-        masks[net] = evaluation::class_pins(class, kind, pins, at_pins);
-        states[net] = evaluation::evaluate(kind, pins, at_pins);
+        let packed = packing::pack_states(part, wide(pins), &states);
+        let at_pins = packing::pin_states(packed);
+        masks[net] = class_pins(class, kind, pins, at_pins);
+        states[net] = evaluate(kind, pins, at_pins);
         net += 1;
     }
     masks

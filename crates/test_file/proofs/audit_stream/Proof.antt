@@ -1,9 +1,8 @@
 -- `test_file::audit_stream` meets its contract: a refusal at the beginning, or the end of a file that was walked over.
 -- Assumes nothing.
-use Rattle.pieces.proofs.TogetherHolds.{begun-ready, begun-empty}
-use Rattle.test_file.proofs.TrueReportCases.{few-tests}
-use Rattle.test_file.proofs.StreamCases.{audit-done, stream-cases}
 use mathlib.Core.Path.{_∙_}
+use Rattle.pieces.proofs.TogetherHolds.{begun-ready, begun-empty}
+use Rattle.test_file.proofs.StreamCases.{audit-done, stream-cases}
 use borrow.Author.Needs.{needs}
 use Rattle.test_file.proofs.audit_stream.Statement.{statement}
 use Rattle.test_file.proofs.audit_stream.Tie as tie
@@ -19,12 +18,13 @@ enum-told c = search needs
 
 walk-file-requires : tie.Need-walk-file-requires
 walk-file-requires c κs =
-    let begun = c .before .before .before .before .before .before .before .before .begin in
-    let ready = c .before .before .before .enum-told .given .1 in
+    let at-told = c .before .before .before in
+    let ready = at-told .enum-told .given .1 in
+    let begun = at-told .before .before .before .before .before .begin in
     (begun-ready _ _ _ _ _ (begun .result) (begun .ensures) ready, begun-empty _ _ _ _ _ (begun .result .answer) (begun .ensures .answer) ready (begun .ensures .store))
 
 true-report-requires : tie.Need-true-report-requires
-true-report-requires c κs = few-tests _ _ _ _ _ _ _ _ (c .before .before .before .before .before .before .before .before .before .walk-file .ensures)
+true-report-requires c κs = search stream-cases
 
 finish-requires : tie.Need-finish-requires
 finish-requires c κs = search needs
@@ -47,20 +47,30 @@ same-length-4 c = search needs
 same-length-5 : tie.Need-same-length-5
 same-length-5 c =
     let finished = c .before .store3 .given in
-    let afterWalk = c .before .before .before .before .before .before .before .before .before .before .before .before .before .before in
-    finished ∙ afterWalk .store2 .given ∙ afterWalk .before .before .before .before .before .before .before .before .before .before .before .store .given
+    let at-truth = c .before .before .before .before .before .before in
+    let at-records = at-truth .before .before .before .before in
+    let walked = at-records .before .before .before .before in
+    let at-walk = walked .before .before .before in
+    let at-told = at-walk .before .before .before .before in
+    let begun = at-told .before .before .before .before in
+    finished ∙ walked .store2 .given ∙ begun .store .given
 
 same-length-6 : tie.Need-same-length-6
 same-length-6 c = search needs
 
 returns-2 : tie.Need-returns-2
 returns-2 c =
-    let finished = c .before .before .finish in
-    let wrote = c .before .before .before .before .before .before .before .true-report in
-    let atWalk = c .before .before .before .before .before .before .before .before .before .before .before .before .before .before .before .before .before in
-    let walked = atWalk .walk-file in
-    let ready = atWalk .before .before .before .before .enum-told .given .1 in
-    let begun = atWalk .before .before .before .before .before .before .before .before .before .begin in
+    let at-finish = c .before .before in
+    let finished = at-finish .finish in
+    let at-report = at-finish .before .before .before .before .before in
+    let wrote = at-report .true-report in
+    let at-records = at-report .before .before .before in
+    let at-space = at-records .before .before .before .before .before .before in
+    let at-walk = at-space .before in
+    let walked = at-walk .walk-file in
+    let at-told = at-walk .before .before .before .before in
+    let ready = at-told .enum-told .given .1 in
+    let begun = at-told .before .before .before .before .before .begin in
     let done =
     audit-done _ _ _ _ _ (begun .result) (begun .ensures) ready (walked .result) _ _ _ (walked .ensures) (wrote .result) _ _ (wrote .ensures .0)
     _ (finished .result) _ (finished .ensures) in

@@ -1,8 +1,6 @@
 -- `test_file::report_stream` meets its contract: a refusal at the beginning, or the report of a file that was walked over.
 -- Assumes nothing.
-use Rattle.pieces.proofs.TogetherHolds.{begun-ready, begun-empty}
-use Rattle.test_file.proofs.TrueReportCases.{few-tests}
-use Rattle.test_file.proofs.StreamCases.{report-done, stream-cases}
+use Rattle.test_file.proofs.StreamCases.{stream-cases}
 use borrow.Author.Needs.{needs}
 use Rattle.test_file.proofs.report_stream.Statement.{statement}
 use Rattle.test_file.proofs.report_stream.Tie as tie
@@ -17,13 +15,10 @@ enum-told : tie.Need-enum-told
 enum-told c = search needs
 
 walk-file-requires : tie.Need-walk-file-requires
-walk-file-requires c κs =
-    let begun = c .before .before .before .before .before .before .before .before .begin in
-    let ready = c .before .before .before .enum-told .given .1 in
-    (begun-ready _ _ _ _ _ (begun .result) (begun .ensures) ready, begun-empty _ _ _ _ _ (begun .result .answer) (begun .ensures .answer) ready (begun .ensures .store))
+walk-file-requires c κs = (search stream-cases, search stream-cases)
 
 true-report-requires : tie.Need-true-report-requires
-true-report-requires c κs = few-tests _ _ _ _ _ _ _ _ (c .before .before .before .before .before .before .before .before .before .walk-file .ensures)
+true-report-requires c κs = search stream-cases
 
 same-length : tie.Need-same-length
 same-length c = search needs
@@ -47,15 +42,7 @@ same-length-6 : tie.Need-same-length-6
 same-length-6 c = search needs
 
 returns-2 : tie.Need-returns-2
-returns-2 c =
-    let wrote = c .before .before .true-report in
-    let atWalk = c .before .before .before .before .before .before .before .before .before .before .before .before in
-    let walked = atWalk .walk-file in
-    let ready = atWalk .before .before .before .before .enum-told .given .1 in
-    let begun = atWalk .before .before .before .before .before .before .before .before .before .begin in
-    let done =
-    report-done _ _ _ _ _ (begun .result) (begun .ensures) ready (walked .result) _ _ _ (walked .ensures) (wrote .result) _ _ (wrote .ensures .0) in
-    (done, wrote .ensures .1)
+returns-2 c = (search stream-cases, search needs)
 
 pub report-stream-spec : {M : Type 1} → statement M
 report-stream-spec =

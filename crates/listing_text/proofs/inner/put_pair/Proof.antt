@@ -14,17 +14,28 @@ slice-aggregate-put-text : tie.Need-slice-aggregate-put-text
 slice-aggregate-put-text c = search needs
 
 put-text-requires : tie.Need-put-text-requires
-put-text-requires c κs = omega (arith, at-most-20 (c .before .before .before .before .before .before .before .args .first))
+put-text-requires c κs =
+    let at-first = c .before .before .before .before in
+    let at-start = at-first .before .before .before in
+    omega (arith, at-most-20 (at-start .args .first))
 
 put-number-requires-2 : tie.Need-put-number-requires-2
-put-number-requires-2 c κs = omega (arith, at-most-20 (c .before .before .before .before .before .before .before .before .before .before .before .args .first))
+put-number-requires-2 c κs =
+    let at-space = c .before .before .before in
+    let at-first = at-space .before .before .before .before .before in
+    let at-start = at-first .before .before .before in
+    omega (arith, at-most-20 (at-start .args .first))
 
 slice-aggregate-put-text-2 : tie.Need-slice-aggregate-put-text-2
 slice-aggregate-put-text-2 c = search needs
 
 put-text-requires-2 : tie.Need-put-text-requires-2
 put-text-requires-2 c κs =
-    let a = c .before .before .before .before .before .before .before .before .before .before .before .before .before .before .before .before .args in
+    let at-second = c .before .before .before .before in
+    let at-space = at-second .before .before .before .before in
+    let at-first = at-space .before .before .before .before .before in
+    let at-start = at-first .before .before .before in
+    let a = at-start .args in
     omega (arith, at-most-20 (a .first), at-most-20 (a .second))
 
 same-length : tie.Need-same-length
@@ -32,14 +43,18 @@ same-length c = search needs
 
 returns : tie.Need-returns
 returns c =
-    let s = c .before .before .before .before .before .before .before .before .before .before .before .before .before .before .before .before .before .before .before in
-    let a = s .args in
-    let p1 = c .before .before .before .before .before .before .before .before .before .before .before .before .before .before .before .before .put-number in
-    let p2 = c .before .before .before .before .before .before .before .before .before .before .before .put-text in
-    let p3 = c .before .before .before .before .before .before .before .put-number2 in
-    let p4 = c .before .before .put-text2 in
+    let at-end = c .before .before in
+    let at-second = at-end .before .before .before .before .before in
+    let at-space = at-second .before .before .before .before in
+    let at-first = at-space .before .before .before .before .before in
+    let at-start = at-first .before .before .before in
+    let a = at-start .args in
+    let p1 = at-first .put-number in
+    let p2 = at-space .put-text in
+    let p3 = at-second .put-number2 in
+    let p4 = at-end .put-text2 in
     pair-put (a .out .now) (p1 .last .0) (p2 .last .0) (p3 .last .0) (p4 .last .0) (a .at) (p1 .result) (p2 .result) (p3 .result) (p4 .result) (a .first) (a .second)
-    (s .pre) (p1 .ensures) (p2 .ensures) (p3 .ensures) (p4 .ensures)
+    (at-start .pre) (p1 .ensures) (p2 .ensures) (p3 .ensures) (p4 .ensures)
 
 pub put-pair-spec : {M : Type 1} → statement M
 put-pair-spec =

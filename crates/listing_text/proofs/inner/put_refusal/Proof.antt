@@ -22,9 +22,12 @@ same-length c = search needs
 
 returns : tie.Need-returns
 returns c =
-    let a = c .before .before .before .before .before .before .before .args in
-    let p = c .before .before .put-numbered in
-    let n = c .before .before .before .refusal-number in
+    let at-line = c .before .before in
+    let at-refusal = at-line .before in
+    let at-start = at-refusal .before .before .before .before in
+    let a = at-start .args in
+    let n = at-refusal .refusal-number in
+    let p = at-line .put-numbered in
     refusal-put (a .out .now) (p .last .0) (a .at) (p .result) (n .result) (a .why) (n .ensures) (p .ensures)
 
 pub put-refusal-spec : {M : Type 1} → statement M

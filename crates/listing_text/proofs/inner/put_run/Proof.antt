@@ -17,11 +17,13 @@ same-length c = search needs
 
 returns : tie.Need-returns
 returns c =
-    let s = c .before .before .before .before .before .before .before .before .before .before in
-    let a = s .args in
-    let p1 = c .before .before .before .before .before .before .put-text in
-    let p2 = c .before .before .put-pair in
-    put-then (put-made (a .out .now) (p1 .last .0) (a .at) (a .letter .now) (p1 .result) (omega (arith, s .pre)) (p1 .ensures)) (p2 .ensures)
+    let at-numbers = c .before .before in
+    let at-letter = at-numbers .before .before .before .before in
+    let at-start = at-letter .before .before .before .before in
+    let a = at-start .args in
+    let p1 = at-letter .put-text in
+    let p2 = at-numbers .put-pair in
+    put-then (put-made (a .out .now) (p1 .last .0) (a .at) (a .letter .now) (p1 .result) (omega (arith, at-start .pre)) (p1 .ensures)) (p2 .ensures)
 
 pub put-run-spec : {M : Type 1} → statement M
 put-run-spec = tie.close (tie.spec put-text-requires put-pair-requires same-length returns)

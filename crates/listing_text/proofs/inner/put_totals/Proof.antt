@@ -21,19 +21,24 @@ slice-aggregate-put-numbered-2 c = search needs
 
 put-numbered-requires-2 : tie.Need-put-numbered-requires-2
 put-numbered-requires-2 c κs =
-    let p = c .before .before .before .before .put-numbered in
-    let held = c .before .before .before .before .before .before .before .totals-of .result in
-    omega (arith, p .ensures .place, put-length (p .ensures), numbered-length risingWord (held .rising))
+    let at-rising = c .before .before .before .before in
+    let at-totals = at-rising .before .before .before in
+    let p = at-rising .put-numbered in
+    omega (arith, p .ensures .place, put-length (p .ensures), numbered-length risingWord (at-totals .totals-of .result .rising))
 
 same-length : tie.Need-same-length
 same-length c = search needs
 
 returns : tie.Need-returns
 returns c =
-    let a = c .before .before .before .before .before .before .before .before .before .before .before .before .before .args in
-    let t = c .before .before .before .before .before .before .before .before .before .before .totals-of in
-    let p = c .before .before .before .before .before .before .before .put-numbered in
-    let q = c .before .before .put-numbered2 in
+    let at-falling = c .before .before in
+    let at-rising = at-falling .before .before .before .before .before in
+    let at-totals = at-rising .before .before .before in
+    let at-start = at-totals .before .before .before in
+    let a = at-start .args in
+    let t = at-totals .totals-of in
+    let p = at-rising .put-numbered in
+    let q = at-falling .put-numbered2 in
     totals-put (a .out .now) (p .last .0) (q .last .0) (a .words .now) (a .start) (p .result) (q .result) (t .result) (t .ensures) (p .ensures) (q .ensures)
 
 pub put-totals-spec : {M : Type 1} → statement M

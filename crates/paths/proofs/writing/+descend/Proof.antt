@@ -8,7 +8,7 @@ use Rattle.paths.proofs.writing.descend.Reads as descend
 use Rattle.paths.proofs.writing.descend.Kinds as descend-kinds
 use Rattle.paths.proofs.writing.+descend.Lts-descend as descend-lts
 use Rattle.netlist.proofs.inner.gate_part.Reads as gate-part-reads
-use Rattle.paths.proofs.pins.pick_pin.Reads as pick-pin-reads
+use Rattle.path_picks.proofs.inner.pins.pick_pin.Reads as pick-pin-reads
 use Rattle.paths.proofs.writing.+descend.{statement}
 use Rattle.paths.proofs.writing.+descend.Tie.{close}
 

@@ -5,10 +5,6 @@ use Rattle.simulation.proofs.InputCases.{digit-state}
 use borrow.Author.Needs.{needs}
 use Rattle.simulation.proofs.inner.open_pins.input_state.Statement.{statement}
 use Rattle.simulation.proofs.inner.open_pins.input_state.Tie as tie
-use Rattle.simulation.proofs.inner.open_pins.input_state.Reads as reads
-use Rattle.simulation.proofs.inner.open_pins.input_state.Lts as lts
-use Rattle.simulation.proofs.inner.evaluation.state_word.Reads as state-word-reads
-use Rattle.simulation.proofs.inner.open_pins.input_value.Reads as input-value-reads
 
 input-value-requires : tie.Need-input-value-requires
 input-value-requires c κs = search needs

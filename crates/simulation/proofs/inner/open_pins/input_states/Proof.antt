@@ -6,9 +6,6 @@ use borrow.Author.Needs.{needs}
 use Rattle.simulation.proofs.InputCases.{InputsTo, inputs-start, inputs-more, inputs-end}
 use Rattle.simulation.proofs.inner.open_pins.input_states.Statement.{statement}
 use Rattle.simulation.proofs.inner.open_pins.input_states.Tie as tie
-use Rattle.simulation.proofs.inner.open_pins.input_states.Reads as reads
-use Rattle.simulation.proofs.inner.open_pins.input_states.Lts as lts
-use Rattle.simulation.proofs.inner.open_pins.input_state.Reads as input-state-reads
 
 abbrev Inv-loop : tie.InvT-loop
 Inv-loop v1 v2 inputs states₀ i₀ states i = InputsTo v1 v2 inputs i states

@@ -5,8 +5,6 @@ use Rattle.simulation.proofs.InputCases.{input-bit}
 use borrow.Author.Needs.{needs}
 use Rattle.simulation.proofs.inner.open_pins.input_value.Statement.{statement}
 use Rattle.simulation.proofs.inner.open_pins.input_value.Tie as tie
-use Rattle.simulation.proofs.inner.open_pins.input_value.Reads as reads
-use Rattle.simulation.proofs.inner.open_pins.input_value.Lts as lts
 
 shr-result : tie.Need-shr-result
 shr-result c = search needs

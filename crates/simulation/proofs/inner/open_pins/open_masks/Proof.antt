@@ -3,8 +3,6 @@
 -- part is taken, `p` after the states at its pins are packed.
 -- Assumes nothing.
 use Prim.Native.Nat.{_-_}
-use native.Mathlib.Omega.{arith}
-use borrow.Author.Needs.{needs}
 use Rattle.simulation.proofs.OpenCases.{Simulating, open-cases}
 use Rattle.simulation.proofs.inner.open_pins.open_masks.Statement.{statement}
 use Rattle.simulation.proofs.inner.open_pins.open_masks.Tie as tie

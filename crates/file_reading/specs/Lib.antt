@@ -1,0 +1,2 @@
+-- What a space holds of a file that was read in pieces.
+pub mod Space

@@ -1,0 +1,2 @@
+-- A walk over a test file.
+pub mod Walked

@@ -1,0 +1,3 @@
+pub mod ValueCases
+pub mod StateLaws
+pub mod EvaluationCases

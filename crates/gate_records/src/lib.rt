@@ -1,0 +1,2 @@
+// The records of the gates of a netlist file. Only our own crates call it.
+pub mod inner;

@@ -1,0 +1,2 @@
+-- The listing's walk over a test file.
+pub mod ListingWalk

@@ -1,0 +1,3 @@
+-- Rules of packed bytes, computed; then those of a gate, kind by kind.
+pub mod PackedLaws
+pub mod KindCases

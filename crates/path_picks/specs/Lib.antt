@@ -1,0 +1,2 @@
+-- The pin and the output that a number goes through.
+pub mod Picks

@@ -1,0 +1,94 @@
+// Writing an edge's runs over those that a store holds, and making words zero.
+ghost use mathlib.Core.Path.{_≡_};
+ghost use Prim.Native.Nat.{_+_, _-_, _*_, _≤_, _<_};
+ghost use lib.ListN.{length, replicate};
+ghost use Rattle.model.specs.Store.{maxRuns, headWords, countWord};
+ghost use Rattle.runs.specs.RunLists.{runsInWords, writeRuns};
+ghost use Rattle.faults.specs.Answers.{modelEdge};
+ghost use Rattle.store_writing.specs.Writing.{zeroed, paddedRuns, ZeroWords, firstRun, Writable, Rewritten};
+use faults::Edge;
+use model::HEAD_WORDS;
+use model::MAX_RUNS;
+use run_union::inner::copy;
+use store_words::inner::FALLING_COUNT;
+use store_words::inner::RISING_COUNT;
+
+// What becomes of an edge's runs: they are kept, or so many are made in other words.
+pub enum Change {
+    Kept,
+    Made(usize),
+}
+
+// Makes the words from..to zero, none where they end before they begin.
+fn clear_part(words: &mut [u64], from: usize, to: usize)
+    requires { ⌜ to ≤ length (now words) ⌝ }
+    ensures { λ _. ⌜ now (words .exit) ≡ zeroed (now (words .entry)) from (to - from) ⌝ }
+{
+    let mut i = from;
+    while i < to {
+        words[i] = 0;
+        i += 1;
+    }
+}
+
+// The word with the number of an edge's runs.
+fn count_word(edge: Edge) -> usize
+    ensures { λ r. ⌜ (r ≡ countWord (modelEdge edge)) × (r < headWords) ⌝ }
+{
+    match edge {
+        Edge::Rising => RISING_COUNT,
+        Edge::Falling => FALLING_COUNT,
+    }
+}
+
+// The run place where an edge's runs begin, in the words after the head.
+fn first_run(edge: Edge) -> usize
+    ensures { λ r. ⌜ (r ≡ firstRun (modelEdge edge)) × (r ≤ maxRuns) ⌝ }
+{
+    match edge {
+        Edge::Rising => 0,
+        Edge::Falling => MAX_RUNS,
+    }
+}
+
+// Writes runs over those that an edge's places hold, and zeros after them where there were more.
+fn write_places(
+    words: &[u64],
+    from: usize,
+    count: usize,
+    places: &mut [u64],
+    first: usize,
+    held: usize,
+)
+    requires { ⌜ (count ≤ maxRuns) × (held ≤ maxRuns) × (2 * (from + count) ≤ length (now words)) × (2 * (first + maxRuns) ≤ length (now places)) ⌝ }
+    requires { ⌜ ZeroWords (now places) (2 * (first + held)) (2 * (first + maxRuns)) ⌝ }
+    ensures { λ _. ⌜ now (places .exit) ≡ writeRuns (now (places .entry)) first (paddedRuns (runsInWords (now (words .entry)) from count)) ⌝ }
+{
+    copy(words, from, count, places, first);
+    clear_part(places, 2 * (first + count), 2 * (first + held));
+}
+
+// Writes an edge's runs to a store: those made in other words from run place `from` on, or nothing where they are kept.
+pub fn write_runs(words: &[u64], from: usize, change: Change, store: &mut [u64], edge: Edge)
+    requires { ⌜ Writable (now words) from change (now store) ⌝ }
+    ensures { λ _. ⌜ Rewritten (now (words .entry)) from change (modelEdge edge) (now (store .entry)) (now (store .exit)) ⌝ }
+{
+    match change {
+        Change::Kept => {}
+        Change::Made(count) => {
+            let place = count_word(edge);
+            let first = first_run(edge);
+            let held = store[place] as usize;
+            store[place] = count as u64;
+            write_places(words, from, count, &mut store[HEAD_WORDS..], first, held);
+        }
+    }
+}
+
+// Makes every word zero.
+pub fn clear(words: &mut [u64])
+    ensures { λ _. ⌜ now (words .exit) ≡ replicate (length (now (words .entry))) 0 ⌝ }
+{
+    let end = words.len();
+    clear_part(words, 0, end);
+}

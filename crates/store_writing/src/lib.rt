@@ -1,0 +1,2 @@
+// The words of a store, written: for our own crates only.
+pub mod inner;
