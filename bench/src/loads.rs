@@ -107,7 +107,7 @@ pub fn mixed(netlist: &[u8], inputs: usize, count: usize) -> Load {
 pub type Memories = Vec<(u32, Memory)>;
 
 /// Whether each class's store takes a record; where one does not, all stay as they were.
-fn all_take(memories: &mut Memories, netlist: &[u8], record: &[u8]) -> bool {
+pub fn all_take(memories: &mut Memories, netlist: &[u8], record: &[u8]) -> bool {
     let before: Vec<Vec<u64>> = memories.iter().map(|(_, memory)| memory.store.clone()).collect();
     let taken = memories.iter_mut().all(|(class, memory)| memory.twin_test(netlist, record, *class).is_ok());
     if !taken {

@@ -1,9 +1,15 @@
-//! The verified library beside its unverified twin: equal answers, and the processor time of both.
-//! Arguments: the folder of circuits, the file for the results, `--quick` for one repeat with 10,000 records, `--load` for the load call alone.
+//! The verified library beside a peer that is written for speed, then beside its unverified twin: equal answers, and the processor time of all.
+//! Arguments: the folder of circuits, the file for the results, `--quick` for fewer repeats and records, `--audit` for the first table alone,
+//! `--load` for the load call alone.
 
+mod audits;
 mod bench_twin;
 mod compare;
 mod loads;
+mod peer;
+mod peer_netlist;
+mod peer_store;
+mod peer_wide;
 mod texts;
 mod timing;
 mod twin;
@@ -218,7 +224,12 @@ impl Bench {
         self.keep("class 1", "audit", &cases[0], times[0]);
         self.keep("class 2", "audit", &cases[1], times[1]);
         let more = times[1].verified / times[0].verified;
-        println!("{} | {:9.2} | {} | {more:5.2}", cases[1].columns(), times[0].verified / 1e6, times[1].columns(1e6, 9, 2));
+        println!(
+            "{} | {:9.2} | {} | {more:5.2}",
+            cases[1].columns(),
+            times[0].verified / 1e6,
+            times[1].columns(1e6, 9, 2)
+        );
     }
 
     /// The audit in class 2, beside class 1.
@@ -271,7 +282,9 @@ impl Bench {
 
     /// How the time of a conversion grows with the text: gates of eight pins, names of 4 and of 16 bytes.
     fn by_text(&mut self) {
-        println!("\nThe converter from .bench text: gates of eight pins; the twin looks names up one after the other, or by a hash table\n{TEXT_HEAD}");
+        println!(
+            "\nThe converter from .bench text: gates of eight pins; the twin looks names up one after the other, or by a hash table\n{TEXT_HEAD}"
+        );
         for gates in [64, 128, 256, 511] {
             for bytes in [4, 16] {
                 let text = texts::gates_of_eight(gates, bytes, &mut self.random);
@@ -287,8 +300,12 @@ impl Bench {
                 for (call, times) in [("convert", twin), ("convert hashed", hashed)] {
                     let Times { verified, twin } = times;
                     let ratio = times.ratio();
-                    writeln!(self.results, "texts,{call},names{bytes},{gates},,,,,{},{verified:.1},{twin:.1},{ratio:.3}", self.repeats)
-                        .expect("a line");
+                    writeln!(
+                        self.results,
+                        "texts,{call},names{bytes},{gates},,,,,{},{verified:.1},{twin:.1},{ratio:.3}",
+                        self.repeats
+                    )
+                    .expect("a line");
                 }
             }
         }
@@ -314,10 +331,15 @@ fn loads_by_inputs(repeats: usize) -> String {
 /// The tables, in turn, then the results file.
 fn main() {
     let words: Vec<String> = std::env::args().collect();
-    let quick = words.iter().any(|word| word == "--quick");
+    let asked = |option: &str| words.iter().any(|word| word == option);
+    let quick = asked("--quick");
     let (repeats, records) = if quick { (1, 10_000) } else { (9, 100_000) };
-    if words.iter().any(|word| word == "--load") {
+    if asked("--load") {
         loads_by_inputs(repeats);
+        return;
+    }
+    let audits = audits::table(&words[1], &CIRCUITS, if quick { 3 } else { 9 });
+    if asked("--audit") {
         return;
     }
     let mut bench = Bench {
@@ -329,7 +351,7 @@ fn main() {
         results: "table,call,circuit,gates,paths,records,distinct,runs,repeats,verified_ns,twin_ns,ratio\n".to_string(),
     };
     compare::limits(&mut bench.both);
-    println!("{INTRODUCTION}Repeats: {repeats}.\n\n{CIRCUITS_HEAD}");
+    println!("\n{INTRODUCTION}Repeats: {repeats}.\n\n{CIRCUITS_HEAD}");
     CIRCUITS.iter().for_each(|name| bench.circuit(name));
     bench.by_class();
     bench.by_records();
@@ -338,6 +360,7 @@ fn main() {
     bench.by_text();
     let loads = loads_by_inputs(repeats);
     bench.results.push_str(&loads);
+    bench.results.push_str(&audits);
     std::fs::write(&words[2], &bench.results).expect("the results file");
     println!("\n{} answers, stores and reports compared: all equal", bench.both.compared);
 }

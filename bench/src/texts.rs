@@ -72,7 +72,8 @@ pub fn time(text: &[u8], repeats: usize) -> [Times; 2] {
             || {
                 for _ in 0..CALLS {
                     let text = black_box(text);
-                    let answer = if hashed { convert::<true>(text, &mut right) } else { convert::<false>(text, &mut right) };
+                    let answer =
+                        if hashed { convert::<true>(text, &mut right) } else { convert::<false>(text, &mut right) };
                     assert!(answer.is_ok());
                 }
             },

@@ -21,7 +21,7 @@ fn processor_time() -> f64 {
 }
 
 /// The processor time of some work.
-fn timed(mut work: impl FnMut()) -> f64 {
+pub fn timed(mut work: impl FnMut()) -> f64 {
     let start = processor_time();
     work();
     processor_time() - start

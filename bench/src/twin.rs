@@ -1,5 +1,5 @@
-//! The unverified twin: the library's calls in plain safe Rust, written for speed and clarity. It is the yardstick of the benchmark and
-//! shares no code with the proved crates. A refusal is the papers' number.
+//! The unverified twin: the library's calls in plain safe Rust, with the library's own structure. The benchmark compares every answer with it; the
+//! measure of speed is the peer. It shares no code with the proved crates. A refusal is the papers' number.
 
 use std::ops::Range;
 
@@ -521,13 +521,7 @@ fn check_class(class: u32) -> Result<(), u32> {
 }
 
 /// The test call: new rising, new falling, held rising, held falling.
-pub fn test(
-    netlist: &[u8],
-    record: &[u8],
-    class: u32,
-    store: &mut [u64],
-    work: &mut [u64],
-) -> Result<[u64; 4], u32> {
+pub fn test(netlist: &[u8], record: &[u8], class: u32, store: &mut [u64], work: &mut [u64]) -> Result<[u64; 4], u32> {
     check_memory(store, work)?;
     let circuit = load(netlist)?;
     check_class(class)?;

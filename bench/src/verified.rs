@@ -83,13 +83,7 @@ pub fn empty(store: &mut [u64]) -> Result<(), u32> {
 }
 
 /// The test call: new rising, new falling, held rising, held falling.
-pub fn test(
-    netlist: &[u8],
-    record: &[u8],
-    class: u32,
-    store: &mut [u64],
-    work: &mut [u64],
-) -> Result<[u64; 4], u32> {
+pub fn test(netlist: &[u8], record: &[u8], class: u32, store: &mut [u64], work: &mut [u64]) -> Result<[u64; 4], u32> {
     let mut numbers = [0; 4];
     let refusal = unsafe {
         genduwal_test(
@@ -164,8 +158,9 @@ pub fn audit(
 /// The converter from .bench text: the length of the netlist file.
 pub fn convert(text: &[u8], netlist: &mut [u8]) -> Result<usize, u32> {
     let mut length = 0;
-    let refusal =
-        unsafe { genduwal_bench_to_netlist(text.as_ptr(), text.len(), netlist.as_mut_ptr(), netlist.len(), &mut length) };
+    let refusal = unsafe {
+        genduwal_bench_to_netlist(text.as_ptr(), text.len(), netlist.as_mut_ptr(), netlist.len(), &mut length)
+    };
     answer(refusal, length as usize)
 }
 

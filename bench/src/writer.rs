@@ -5,10 +5,21 @@ use crate::verified;
 use std::hint::black_box;
 
 /// The least bytes of a buffer for one vector's records.
-const BYTES: usize = 2304;
+pub const BYTES: usize = 2304;
 
 /// The numbers of inputs that are measured: a byte or less, more bytes, and the greatest.
 pub const INPUTS: [u32; 6] = [1, 5, 14, 32, 33, 64];
+
+/// The state after a vector is drawn from a state, and the vector.
+#[inline]
+pub fn draw(mut state: u32, inputs: u32) -> (u32, u64) {
+    let mut vector = 0;
+    for input in 0..inputs {
+        state = state.wrapping_mul(1664525).wrapping_add(1013904223);
+        vector |= u64::from(state >> 31) << input;
+    }
+    (state, vector)
+}
 
 /// The vector that is drawn from a state, and its records. Not inlined, as the library's call is not.
 #[inline(never)]
@@ -19,11 +30,7 @@ pub fn load(state: u32, inputs: u32, records: &mut [u8]) -> Result<(u32, usize),
     if !(1..=64).contains(&inputs) {
         return Err(11);
     }
-    let (mut state, mut vector) = (state, 0u64);
-    for input in 0..inputs {
-        state = state.wrapping_mul(1664525).wrapping_add(1013904223);
-        vector |= u64::from(state >> 31) << input;
-    }
+    let (state, vector) = draw(state, inputs);
     let bytes = inputs.div_ceil(8) as usize;
     let mut free = records.chunks_exact_mut(2 + 2 * bytes);
     for input in 0..inputs {
