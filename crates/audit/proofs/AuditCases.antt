@@ -1,21 +1,20 @@
 -- The audit, case by case as the code meets them: the place Report, then the whole on a legal netlist from an empty store, then the call.
 -- Assumes nothing.
-use mathlib.Core.Path.{_≡_, refl, ap, ap₂, sym, _∙_, subst}
-use mathlib.Core.Bool.{Bool, true, false, not, _&&_}
+use mathlib.Core.Path.{_≡_, refl, ap, sym, _∙_, subst}
+use mathlib.Core.Bool.{Bool, true, false, not}
 use mathlib.Core.List.{List, [], _∷_}
 use Prim.Native.Nat.{ℕ, _+_, _*_, _/_, _%_, _^_, _≤_, _<_}
-use native.Mathlib.Omega.{arith}
 use borrow.Author.Needs.{needs}
 use borrow.Author.Tests.{le-leb, lt-leb, eq-eqb, ne-eqb, not-true, not-false}
 use lib.Dec.{leb, eqb}
 use lib.ListN.{length, drop, replicate}
 use Rattle.model.specs.Base.{Answer, refused, value, _>>=_, checks, passes}
-use Rattle.model.specs.Netlist.{Netlist, pathTotal}
-use Rattle.model.specs.Read.{within, classOf, vectorBytes, recordLength, readNetlist}
+use Rattle.model.specs.Netlist.{Netlist}
+use Rattle.model.specs.Read.{within, classOf, vectorBytes, recordLength}
 use Rattle.model.specs.Refusals.{refusalNumber}
 use Rattle.model.specs.Store.{storeWords, runsByEdge}
 use Rattle.model.specs.Calls.{workWords, storeRule, workRule, beforeTest, WorkAfter}
-use Rattle.model.specs.Report.{fileRecords, testAll, reportRecord, reportRules, auditCall, auditAnswer, auditStore}
+use Rattle.model.specs.Report.{fileRecords, testAll, reportRecord, reportRules, auditCall, auditAnswer}
 use Rattle.model.specs.declared.Refusal.{Refusal}
 use Rattle.model.specs.declared.Refusal.the-variants as why
 use Rattle.model.proofs.AnswerLaws.{not-refused}

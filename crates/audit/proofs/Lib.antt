@@ -1,5 +1,9 @@
--- The lent memory, the records of a test file one by one, the cases of the audit, and demand 3 of the calls.
+-- The lent memory, the records of a test file block by block, the cases of the audit, and demand 3 of the calls.
 pub mod MemoryLaws
-pub mod FileSteps
+pub mod TakenRecordLaws
+pub mod BlockFileLaws
+pub mod BlockTakeCases
+pub mod BlockSteps
+pub mod FileTableCases
 pub mod AuditCases
 pub mod PromisesHold

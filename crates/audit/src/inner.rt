@@ -1,12 +1,17 @@
 // The parts of an audit, for our own crates: the length of its test file, the records one after the other, the report.
+mod blocks;
+
 ghost use mathlib.Core.Path.{_≡_};
 ghost use Prim.Native.Nat.{_^_, _<_};
 ghost use Rattle.store_words.specs.Sound.{SoundWords};
 ghost use Rattle.coverage.specs.Stage.{StageReady};
 ghost use Rattle.audit.specs.TestFile.{wholeLength, FileTaken, Judged};
 use crate::AuditAnswer;
+use crate::inner::blocks::FileNumbers;
+use crate::inner::blocks::apply_blocks;
+use block::inner::table::fill_table;
+use block_marks::inner::places::fill_places;
 use coverage::inner::StageAnswer;
-use coverage::inner::apply_record;
 use netlist::inner::Shape;
 use report::inner::Comparison;
 use report::inner::compare;
@@ -45,26 +50,28 @@ pub fn apply_records(
     ensures { λ r. ⌜ FileTaken r (now (netlist .entry)) (now (positions .entry)) (now (counts .entry)) shape class (now (tests .entry))
         (now (store .entry)) (now (store .exit)) (now (work .entry)) (now (work .exit)) ⌝ }
 {
-    let bytes = record_length(shape.inputs);
-    let mut at = 0;
-    let mut taken = 0;
-    while bytes <= tests.len() - at {
-        let test = &tests[at..at + bytes];
-        let stage = apply_record(netlist, positions, counts, shape, test, class, store, work);
-        match stage {
-            StageAnswer::Refused(why) => {
-                clear(store);
-                let answer = StageAnswer::Refused(why);
-                return TakenRecords { taken, answer };
-            }
-            StageAnswer::Taken => {
-                at += bytes;
-                taken += 1;
-            }
-        }
-    }
-    let answer = StageAnswer::Taken;
-    TakenRecords { taken, answer }
+    let mut table = [0u16; 5120];
+    fill_table(netlist, positions, shape, &mut table);
+    let mut places = [0u64; 4224];
+    fill_places(netlist, counts, shape, &table, &mut places);
+    let file = FileNumbers {
+        inputs: shape.inputs,
+        nets: shape.nets,
+        outputs: shape.outputs,
+        class,
+    };
+    let mut ups = [0u32; 33792];
+    let mut downs = [0u32; 33792];
+    apply_blocks(
+        &table,
+        &places,
+        file,
+        tests,
+        &mut ups,
+        &mut downs,
+        store,
+        work,
+    )
 }
 
 // The place Report: a report against the one that the writer gives for a sound store and so many tests. A refused one leaves the store empty.

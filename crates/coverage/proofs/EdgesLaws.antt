@@ -5,9 +5,10 @@ use mathlib.Core.List.{List}
 use Prim.Native.Nat.{ℕ, _+_, _*_, _/_, _≤_, _<_, _^_}
 use native.Mathlib.Omega.{arith}
 use lib.ListN.{length}
-use Rattle.model.specs.Base.{bit}
+use Rattle.model.specs.Base.{value, bit}
 use Rattle.model.specs.Netlist.{Netlist, pathTotal}
 use Rattle.model.specs.Path.{Edge, rising, falling}
+use Rattle.model.specs.Read.{readNetlist}
 use Rattle.model.specs.Detect.{Test, hasEdge}
 use Rattle.model.specs.Runs.{Run}
 use Rattle.model.specs.Store.{maxRuns, runCount, storeRuns}
@@ -52,6 +53,37 @@ module _ {ws held : List ℕ} (e : Edge) (f : FewRuns ws) (is : held ≡ edgeWor
   held-are : heldRuns held ≡ storeRuns ws e
   held-are = ap (λ (k : ℕ). runsInWords held 0 k) held-half ∙ ap (λ (x : List ℕ). runsInWords x 0 (runCount ws e)) is ∙ edge-words-runs ws e
 
+-- One edge of a sound store, from the detected runs of a case of its netlist
+module _ {N : Netlist} {ws work : List ℕ} (m : MemoryReady N ws work) where
+  pub memory-few : FewRuns ws
+  memory-few = memory-sound m .few
+
+  module _ {t : Test} (e : Edge) {held : List ℕ} (is : held ≡ edgeWords ws e) {work₁ work₂ : List ℕ} {q : Added} (d : Detects (caseOf N t e) work₁ work₂ q)
+      {target : ℕ} where
+    -- what joining is handed
+    pub ready-to-join : (file : List ℕ) → readNetlist file ≡ value N → length work₂ ≡ length work → 2 * maxRuns ≤ target → target + maxRuns ≤ 4 * maxRuns
+        → JoinReady q held work₂ target
+    ready-to-join file l same low high =
+        let few : length held / 2 ≡ runCount ws e = held-half e memory-few is in
+        let paths = limits file N l .totalFits in
+        record {
+          fewFound = λ n c. found-few d c (legal file N l);
+          soundFound = λ n c. found-sound d c paths;
+          fewHeld = omega (arith, edge-few memory-few e);
+          soundHeld = subst (Sound (2 ^ 62)) (sym (held-are e memory-few is))
+              (sound-mono 1 (pathTotal N) (2 ^ 62) (storeRuns ws e) paths (edge-sound (memory-sound m) e));
+          high = low;
+          room = omega (arith, m .workLength);
+        }
+
+    pub edge-covered : {work₃ : List ℕ} {a : EdgeAnswer}
+        → ((K : Case) (w : List ℕ) → Detects K w work₂ q → Sound (pathTotal (K .netlist)) (heldRuns held) → Covers K (heldRuns held) w work₃ target a)
+        → Covers (caseOf N t e) (storeRuns ws e) work₁ work₃ target a
+    edge-covered {work₃ = work₃} {a = a} joins =
+        let runs = held-are e memory-few is in
+        subst (λ (x : List Run). Covers (caseOf N t e) x work₁ work₃ target a) runs
+        (joins (caseOf N t e) work₁ d (subst (Sound (pathTotal N)) (sym runs) (edge-sound (memory-sound m) e)))
+
 -- the inputs that make an edge
 abbrev inputsOf : InputEdges → Edge → ℕ
 inputsOf edges rising = edges .rises
@@ -66,9 +98,10 @@ edge-at : {N : Netlist} {t : Test} {file ps cs masks : List ℕ} {edges : InputE
     → (e : Edge) {work : List ℕ} → 8 * maxRuns ≤ length work → EdgeAt (caseOf N t e) file ps cs masks (inputsOf edges e) shape work
 edge-at c p e l = record { tables = c; openPins = p .openPins; makesEdge = pins-edge p e; room = omega arith }
 
+-- Both edges, where the detected runs are those of any case that the tables are of
 module _ {file ps cs masks : List ℕ} {edges : InputEdges} {shape : Shape} {ws work : List ℕ} (h : WorkReady file ps cs masks edges shape ws work) where
   pub work-few : FewRuns ws
-  work-few = memory-sound (h .stage .memory) .few
+  work-few = memory-few (h .stage .memory)
 
   long : (work′ : List ℕ) → length work′ ≡ length work → 8 * maxRuns ≤ length work′
   long work′ l = omega (arith, h .stage .memory .workLength)
@@ -76,36 +109,12 @@ module _ {file ps cs masks : List ℕ} {edges : InputEdges} {shape : Shape} {ws 
   pub some-edge : (e : Edge) {work′ : List ℕ} → length work′ ≡ length work → SomeEdgeAt file ps cs masks (inputsOf edges e) shape work′
   some-edge e {work′ = work′} l = record { case = caseOf (h .stage .circuit) (h .test) e; at-edge = edge-at (h .stage .tables) (h .pins) e (long work′ l) }
 
-  -- what joining is handed, where the detected runs are those of any case that the tables are of
   pub join-ready : (e : Edge) {work₁ work₂ : List ℕ} → length work₁ ≡ length work → length work₂ ≡ length work → {q : Added}
       → ((K : Case) → EdgeAt K file ps cs masks (inputsOf edges e) shape work₁ → Detects K work₁ work₂ q) → {held : List ℕ} → held ≡ edgeWords ws e
       → {target : ℕ} → 2 * maxRuns ≤ target → target + maxRuns ≤ 4 * maxRuns → JoinReady q held work₂ target
-  join-ready e {work₁ = work₁} {work₂ = work₂} l₁ l₂ found {held = held} is low high =
-      let K : Case = caseOf (h .stage .circuit) (h .test) e in
-      let d = found K (edge-at (h .stage .tables) (h .pins) e (long work₁ l₁)) in
-      let s = edge-sound (memory-sound (h .stage .memory)) e in
-      let few : length held / 2 ≡ runCount ws e = held-half e work-few is in
-      record {
-        fewFound = λ n t. found-few d t (legal file (h .stage .circuit) (h .stage .tables .legal));
-        soundFound = λ n t. found-sound d t (few-paths (h .stage .tables));
-        fewHeld = omega (arith, edge-few work-few e);
-        soundHeld = subst (Sound (2 ^ 62)) (sym (held-are e work-few is)) (sound-mono 1 (pathTotal (h .stage .circuit)) (2 ^ 62) (storeRuns ws e) (few-paths (h .stage .tables)) s);
-        high = low;
-        room = omega (arith, long work₂ l₂);
-      }
-
-  -- one edge of the store
-  edge-covered : (e : Edge) {work₁ work₂ work₃ : List ℕ} → length work₁ ≡ length work → {q : Added}
-      → ((K : Case) → EdgeAt K file ps cs masks (inputsOf edges e) shape work₁ → Detects K work₁ work₂ q) → {held : List ℕ} → held ≡ edgeWords ws e
-      → {target : ℕ} {a : EdgeAnswer}
-      → ((K : Case) (w : List ℕ) → Detects K w work₂ q → Sound (pathTotal (K .netlist)) (heldRuns held) → Covers K (heldRuns held) w work₃ target a)
-      → {N : Netlist} {t : Test} → CircuitTables N file ps cs shape → PinsOf N t masks edges → Covers (caseOf N t e) (storeRuns ws e) work₁ work₃ target a
-  edge-covered e {work₁ = work₁} {work₃ = work₃} l found is {target = target} {a = a} joins {N = N} {t = t} c p =
-      let K : Case = caseOf N t e in
-      let runs = held-are e work-few is in
-      let s = edge-sound (memory-sound (same-memory (h .stage) c)) e in
-      subst (λ (x : List Run). Covers (caseOf N t e) x work₁ work₃ target a) runs
-      (joins K work₁ (found K (edge-at c p e (long work₁ l))) (subst (Sound (pathTotal N)) (sym runs) s))
+  join-ready e {work₁ = work₁} l₁ l₂ found is low high =
+      let d = found (caseOf (h .stage .circuit) (h .test) e) (edge-at (h .stage .tables) (h .pins) e (long work₁ l₁)) in
+      ready-to-join (h .stage .memory) e is d file (h .stage .tables .legal) l₂ low high
 
   pub both-covered : {work₁ work₂ work₃ work₄ : List ℕ} → length work₂ ≡ length work → {up down : Added}
       → ((K : Case) → EdgeAt K file ps cs masks (edges .rises) shape work → Detects K work work₁ up) → {heldUp : List ℕ} → heldUp ≡ edgeWords ws rising → {a : EdgeAnswer}
@@ -114,5 +123,8 @@ module _ {file ps cs masks : List ℕ} {edges : InputEdges} {shape : Shape} {ws 
       → {b : EdgeAnswer}
       → ((K : Case) (w : List ℕ) → Detects K w work₃ down → Sound (pathTotal (K .netlist)) (heldRuns heldDown) → Covers K (heldRuns heldDown) w work₄ (3 * maxRuns) b)
       → {q : BothAnswer} → q ≡ joined a b → (N : Netlist) (t : Test) → CircuitTables N file ps cs shape → PinsOf N t masks edges → CoversBoth N t ws work work₄ q
-  both-covered l fr hr jr ff hf jf is N t c p =
-      covers-both (edge-covered rising (λ i. length work) fr hr jr c p) (edge-covered falling l ff hf jf c p) is
+  both-covered {work₂ = work₂} l fr hr jr ff hf jf is N t c p =
+      let m = same-memory (h .stage) c in
+      let up = fr (caseOf N t rising) (edge-at c p rising (long work (λ i. length work))) in
+      let down = ff (caseOf N t falling) (edge-at c p falling (long work₂ l)) in
+      covers-both (edge-covered m rising hr up jr) (edge-covered m falling hf down jf) is

@@ -15,7 +15,7 @@ use Rattle.model.specs.Store.{storeRules, runsByEdge}
 use Rattle.model.specs.Calls.{workRules, Tested, tested, testStage}
 use Rattle.model.specs.Refusals.{refusalNumber}
 use Rattle.model.specs.declared.Refusal.{Refusal}
-use Rattle.model.proofs.AnswerLaws.{checks→, →checks, pass-first, pass-second, value-inj, checks-both}
+use Rattle.model.proofs.AnswerLaws.{checks→, →checks, pass-first, pass-second, then-second, value-inj, checks-both}
 use Rattle.model.proofs.ListLaws.{length-numbersFrom}
 use Rattle.model.proofs.ReadLaws.{limits}
 use Rattle.netlist.specs.Tables.{CircuitTables, SomeCircuit}
@@ -86,6 +86,9 @@ module _ (N : Netlist) (c : Class) (rec ws : List ℕ) where
 
   pub stage-refused : (n : ℕ) → refused n ≡ checks (placeRules N rec ws) → testStage N c rec ws ≡ refused n
   stage-refused n e = stage-after ∙ rw (← e) refl
+
+  pub stage-is-work : (d : Tested) → testStage N c rec ws ≡ value d → workStage N (testOf N c rec) ws ≡ value d
+  stage-is-work d e = then-second (checks (placeRules N rec ws)) (workStage N (testOf N c rec) ws) (sym stage-after ∙ e)
 
   pub stage-work : value tt ≡ checks (placeRules N rec ws) → testStage N c rec ws ≡ workStage N (testOf N c rec) ws
   stage-work e = stage-after ∙ rw (← e) refl

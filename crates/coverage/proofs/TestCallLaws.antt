@@ -1,38 +1,41 @@
 -- One record counted: the faults that the store holds before and after the stage.
 -- Assumes nothing.
 use mathlib.Core.Path.{_≡_, refl, ap, ap₂, sym, _∙_, subst}
-use mathlib.Core.List.{List, _++_}
+use mathlib.Core.List.{List}
 use Prim.Native.Nat.{ℕ, _+_, _-_, _≤_, _^_}
 use native.Mathlib.Omega.{arith}
-use lib.Dec.{leb, leb→le}
 use lib.ListN.{length}
 use Rattle.model.specs.Base.{Answer, refused, value, passes, after}
 use Rattle.model.specs.Path.{Edge, rising, falling}
-use Rattle.model.specs.Detect.{Class, Test, detectsNumber}
+use Rattle.model.specs.Detect.{Test, detectsNumber}
 use Rattle.model.specs.Runs.{Run, Separated, inRuns, size, howMany}
 use Rattle.model.specs.Netlist.{Netlist, pathTotal}
-use Rattle.model.specs.Read.{classOf, testRules, testOf}
-use Rattle.model.specs.Store.{ByEdge, byEdge, ofEdge, maxRuns, storeRules, storeRuns, runsByEdge}
-use Rattle.model.specs.Calls.{workRules, Tested, storeLeft, tested, heldThen, newThen, runsThen, testStage}
+use Rattle.model.specs.Read.{classOf, testOf}
+use Rattle.model.specs.Store.{ByEdge, byEdge, ofEdge, maxRuns, storeRuns, runsByEdge}
+use Rattle.model.specs.Calls.{Tested, storeLeft, tested, heldThen, newThen, runsThen, testStage}
 use Rattle.model.specs.Refusals.{refusalNumber}
 use Rattle.model.specs.declared.Refusal.{Refusal}
-use Rattle.model.proofs.AnswerLaws.{AllPass, Passed, checks→, →checks, pass-second, not-refused}
+use Rattle.model.proofs.AnswerLaws.{Passed, not-refused}
 use Rattle.model.proofs.RunSizeLaws.{runs-size, howMany-or}
 use Rattle.model.proofs.RunLaws.{runs-of-runs}
 use Rattle.model.proofs.StoreLaws.{runs-store}
-use Rattle.model.proofs.HoldingLaws.{ofEdge-byEdge, at-edge, stage-passes, stage-result, stage-length, stage-sound}
+use Rattle.model.proofs.HoldingLaws.{ofEdge-byEdge}
 use Rattle.netlist.specs.Tables.{CircuitTables}
 use Rattle.netlist.specs.declared.inner.Shape.{Shape}
 use Rattle.store_words.specs.WordAnswers.{totalsIn, totalsBoth}
 use Rattle.store_words.specs.Sound.{SoundWords}
 use Rattle.store_words.specs.declared.inner.StoreTotals.{StoreTotals}
 use Rattle.store_words.proofs.SoundLaws.{sound-words, edge-sound, sound-more}
-use Rattle.coverage.specs.Stage.{MemoryReady, LegalReady, storeAfter, StageIs, StageTrue}
-use Rattle.coverage.specs.TestCall.{testedOf, returnedBy, TestedIs}
+use Rattle.store_words.proofs.SoundLaws.{edge-sound, sound-more}
+use Rattle.coverage.specs.Stage.{MemoryReady, LegalReady, stageOf, storeAfter, workStage, StageIs, StageTrue}
+use Rattle.coverage.specs.TestCall.{testedOf, returnedBy, TestedIs, Counting, SomeCounting}
+use Rattle.coverage.specs.declared.TestAnswer.{TestAnswer}
 use Rattle.coverage.specs.declared.TestAnswer.the-variants.{Taken, Refused}
 use Rattle.coverage.specs.declared.inner.StageAnswer.{StageAnswer}
 use Rattle.coverage.specs.declared.inner.StageAnswer.the-variants as stage
 use Rattle.coverage.proofs.EdgesLaws.{same-memory, few-paths, memory-sound}
+use Rattle.coverage.proofs.WorkMemory.{then-few, work-result, work-memory}
+use Rattle.coverage.proofs.StageLaws.{stage-is-work}
 
 -- what it says of an answer that it passes, or does not
 pub refused-by : {A : Type 0} (x : Answer A) (n : ℕ) → refused n ≡ passes x → x ≡ refused n
@@ -65,110 +68,107 @@ module _ (N : Netlist) (t : Test) (ws : List ℕ) (e : Edge) (a : Separated (pat
       then-size ∙ howMany-or (detectsNumber N t e) (λ k. inRuns (ofEdge (runsByEdge ws) e) k) (pathTotal N)
       ∙ ap (λ n. n + howMany (newThen N (runsByEdge ws) t e) (pathTotal N)) old-size
 
--- A taken record on a sound store: the store afterwards, and what is counted
-module _ {N : Netlist} (class : Class) (rec : List ℕ) {ws ws′ work work′ : List ℕ} (few : pathTotal N ≤ 2 ^ 62) (m : MemoryReady N ws work)
-    (s : StageTrue N class rec ws ws′ work work′ stage.Taken) where
-  then : Tested
-  then = tested N (runsByEdge ws) (testOf N class rec)
+-- A stage that passes on a sound store: the store afterwards, and what is counted
+module _ {N : Netlist} {t : Test} {x : Answer Tested} {ws ws′ work work′ : List ℕ} {before : StoreTotals} {r : StageAnswer}
+    (k : Counting N t x ws ws′ work work′ before r) where
+  pub count-refused : {w : Refusal} → r ≡ stage.Refused w → TestedIs x ws ws′ work work′ (Refused w)
+  count-refused e = as-tested (subst (λ (a : StageAnswer). StageIs x ws ws′ work work′ a) e (k .stage))
 
-  taken-is : testStage N class rec ws ≡ value then
-  unfolding then
-  taken-is =
-      let p = taken-by (testStage N class rec ws) (s .answer) in
-      p .is ∙ ap (λ (t : Tested). value t) (sym (stage-result N class rec ws (p .got) (p .is)))
+  module _ (q : r ≡ stage.Taken) where
+    took : Passed x
+    took = taken-by x (sym (ap stageOf q) ∙ k .stage .answer)
 
-  left-is : ws′ ≡ storeLeft then
-  unfolding storeAfter
-  left-is = s .store ∙ ap (λ (a : Answer Tested). after a ws storeLeft) taken-is
+    work-is : workStage N t ws ≡ value (took .got)
+    work-is = k .isWork (took .got) (took .is)
 
-  rules-pass : AllPass (storeRules (pathTotal N) ws)
-  rules-pass = checks→ (storeRules (pathTotal N) ws) (record { got = tt; is = m .sound })
+    left-is : ws′ ≡ storeLeft (took .got)
+    unfolding storeAfter
+    left-is = k .stage .store ∙ ap (λ (a : Answer Tested). after a ws storeLeft) (took .is)
 
-  sound-after : SoundWords (2 ^ 62) ws′
-  sound-after =
-      subst (λ (x : List ℕ). SoundWords (2 ^ 62) x) (sym left-is)
-      (sound-more (pathTotal N) (2 ^ 62) (storeLeft then) few
-      (sound-words (pathTotal N) (storeLeft then) (stage-length N ws (m .storeLength) rules-pass class rec then taken-is)
-      (sym (→checks (storeRules (pathTotal N) (storeLeft then)) (stage-sound N ws (m .storeLength) rules-pass class rec then taken-is)))))
+    pub after-sound : SoundWords (2 ^ 62) ws′
+    after-sound =
+        sound-more (pathTotal N) (2 ^ 62) ws′ (k .fewPaths)
+        (memory-sound (subst (λ (y : List ℕ). MemoryReady N y work′) (sym left-is) (work-memory N t ws work-is (k .memory) (k .stage .sameLength))))
 
-  few-then : (e : Edge) → length (ofEdge (byEdge (runsThen N (runsByEdge ws) (testOf N class rec))) e) ≤ maxRuns
-  few-then e =
-      let p = pass-second (storeRules (pathTotal N) ws) (workRules N (runsByEdge ws) (testOf N class rec))
-      (pass-second (testRules N rec) (storeRules (pathTotal N) ws ++ workRules N (runsByEdge ws) (testOf N class rec)) (stage-passes N class rec ws then taken-is)) in
-      subst (λ (rs : List Run). length rs ≤ maxRuns) (sym (ofEdge-byEdge (runsThen N (runsByEdge ws) (testOf N class rec)) e))
-      (leb→le (length (runsThen N (runsByEdge ws) (testOf N class rec) e)) maxRuns
-      (at-edge (λ d. leb (length (runsThen N (runsByEdge ws) (testOf N class rec) d)) maxRuns) (p .1 .0) e))
+    few-then : (e : Edge) → length (ofEdge (byEdge (runsThen N (runsByEdge ws) t)) e) ≤ maxRuns
+    few-then e = subst (λ (rs : List Run). length rs ≤ maxRuns) (sym (ofEdge-byEdge (runsThen N (runsByEdge ws) t) e)) (then-few N t ws work-is e)
 
-  size-after : (e : Edge) → size (storeRuns ws′ e) ≡ size (runsThen N (runsByEdge ws) (testOf N class rec) e)
-  unfolding tested then
-  size-after e =
-      ap (λ (x : List ℕ). size (storeRuns x e)) left-is
-      ∙ ap size (runs-store (byEdge (runsThen N (runsByEdge ws) (testOf N class rec))) few-then e ∙ ofEdge-byEdge (runsThen N (runsByEdge ws) (testOf N class rec)) e)
+    size-after : (e : Edge) → size (storeRuns ws′ e) ≡ size (runsThen N (runsByEdge ws) t e)
+    unfolding tested
+    size-after e =
+        ap (λ (y : List ℕ). size (storeRuns y e)) (left-is ∙ ap storeLeft (sym (work-result N t ws work-is)))
+        ∙ ap size (runs-store (byEdge (runsThen N (runsByEdge ws) t)) few-then e ∙ ofEdge-byEdge (runsThen N (runsByEdge ws) t) e)
 
-  module _ {before after : StoreTotals} (eb : totalsIn before ≡ totalsBoth ws) (ea : totalsIn after ≡ totalsBoth ws′) where
-    fresh : Edge → ℕ
-    fresh e = howMany (newThen N (runsByEdge ws) (testOf N class rec) e) (pathTotal N)
+    module _ {after : StoreTotals} (ea : totalsIn after ≡ totalsBoth ws′) where
+      fresh : Edge → ℕ
+      fresh e = howMany (newThen N (runsByEdge ws) t e) (pathTotal N)
 
-    totals-at : (x : ByEdge ℕ) (f : Edge → ℕ) → x ≡ byEdge f → (e : Edge) → ofEdge x e ≡ f e
-    totals-at x f q rising = ap (λ (b : ByEdge ℕ). b .onRising) q
-    totals-at x f q falling = ap (λ (b : ByEdge ℕ). b .onFalling) q
+      totals-at : (y : ByEdge ℕ) (f : Edge → ℕ) → y ≡ byEdge f → (e : Edge) → ofEdge y e ≡ f e
+      totals-at y f p rising = ap (λ (b : ByEdge ℕ). b .onRising) p
+      totals-at y f p falling = ap (λ (b : ByEdge ℕ). b .onFalling) p
 
-    size-is : (e : Edge) → ofEdge (totalsIn after) e ≡ size (runsThen N (runsByEdge ws) (testOf N class rec) e)
-    size-is e = totals-at (totalsIn after) (λ d. size (storeRuns ws′ d)) ea e ∙ size-after e
+      size-is : (e : Edge) → ofEdge (totalsIn after) e ≡ size (runsThen N (runsByEdge ws) t e)
+      size-is e = totals-at (totalsIn after) (λ d. size (storeRuns ws′ d)) ea e ∙ size-after e
 
-    held-is : (e : Edge) → ofEdge (totalsIn after) e ≡ howMany (heldThen N (runsByEdge ws) (testOf N class rec) e) (pathTotal N)
-    held-is e = size-is e ∙ then-size N (testOf N class rec) ws e (edge-sound (memory-sound m) e)
+      held-is : (e : Edge) → ofEdge (totalsIn after) e ≡ howMany (heldThen N (runsByEdge ws) t e) (pathTotal N)
+      held-is e = size-is e ∙ then-size N t ws e (edge-sound (memory-sound (k .memory)) e)
 
-    grows : (e : Edge) → ofEdge (totalsIn after) e ≡ ofEdge (totalsIn before) e + fresh e
-    unfolding fresh
-    grows e =
-        size-is e ∙ more-size N (testOf N class rec) ws e (edge-sound (memory-sound m) e)
-        ∙ ap (λ k. k + fresh e) (sym (totals-at (totalsIn before) (λ d. size (storeRuns ws d)) eb e))
+      grows : (e : Edge) → ofEdge (totalsIn after) e ≡ ofEdge (totalsIn before) e + fresh e
+      unfolding fresh
+      grows e =
+          size-is e ∙ more-size N t ws e (edge-sound (memory-sound (k .memory)) e)
+          ∙ ap (λ n. n + fresh e) (sym (totals-at (totalsIn before) (λ d. size (storeRuns ws d)) (k .totals) e))
 
-    counted : TestedIs (testStage N class rec ws) ws ws′ work work′
-        (Taken (after .rising - before .rising) (after .falling - before .falling) (after .rising) (after .falling))
-    unfolding returnedBy tested then fresh
-    counted = record {
-      answer =
-          ap testedOf
-          (ap₂ (λ (x y : ℕ). Taken x y (after .rising) (after .falling)) (omega (arith, grows rising)) (omega (arith, grows falling))
-          ∙ ap₂ (λ (x y : ℕ). Taken (fresh rising) (fresh falling) x y) (held-is rising) (held-is falling))
-          ∙ rw taken-is refl;
-      store = s .store;
-      sameLength = s .sameLength;
-      pastWork = s .pastWork;
-    }
+      pub more-rising : before .rising ≤ after .rising
+      more-rising = let g = grows rising in omega arith
 
--- The same for every netlist that the tables are of
+      pub more-falling : before .falling ≤ after .falling
+      more-falling = let g = grows falling in omega arith
+
+      pub count-taken : TestedIs x ws ws′ work work′ (Taken (after .rising - before .rising) (after .falling - before .falling) (after .rising) (after .falling))
+      unfolding returnedBy tested fresh
+      count-taken =
+          let is : x ≡ value (tested N (runsByEdge ws) t) = took .is ∙ ap (λ (d : Tested). value d) (sym (work-result N t ws work-is)) in
+          record {
+            answer =
+                ap testedOf
+                (ap₂ (λ (y z : ℕ). Taken y z (after .rising) (after .falling)) (omega (arith, grows rising)) (omega (arith, grows falling))
+                ∙ ap₂ (λ (y z : ℕ). Taken (fresh rising) (fresh falling) y z) (held-is rising) (held-is falling))
+                ∙ sym (ap returnedBy is);
+            store = k .stage .store;
+            sameLength = k .stage .sameLength;
+            pastWork = k .stage .pastWork;
+          }
+
+-- The test stage of a legal record, for every netlist that the tables are of
 module _ {file ps cs : List ℕ} {shape : Shape} {rec ws work : List ℕ} (h : LegalReady file ps cs shape rec ws work) where
   pub before-sound : SoundWords (2 ^ 62) ws
   before-sound = sound-more (pathTotal (h .stage .circuit)) (2 ^ 62) ws (few-paths (h .stage .tables)) (memory-sound (h .stage .memory))
 
-  module _ (class : ℕ) {ws′ work′ : List ℕ} {r : StageAnswer}
+  module _ (class : ℕ) {before : StoreTotals} (eb : totalsIn before ≡ totalsBoth ws) {ws′ work′ : List ℕ} {r : StageAnswer}
       (s : (N : Netlist) → CircuitTables N file ps cs shape → StageTrue N (classOf class) rec ws ws′ work work′ r) where
-    pub count-refused : {w : Refusal} → r ≡ stage.Refused w → (N : Netlist) → CircuitTables N file ps cs shape
-        → TestedIs (testStage N (classOf class) rec ws) ws ws′ work work′ (Refused w)
-    count-refused e N c = as-tested (subst (λ (a : StageAnswer). StageTrue N (classOf class) rec ws ws′ work work′ a) e (s N c))
+    counting-of : (N : Netlist) → CircuitTables N file ps cs shape
+        → Counting N (testOf N (classOf class) rec) (testStage N (classOf class) rec ws) ws ws′ work work′ before r
+    counting-of N c = record {
+      memory = same-memory (h .stage) c;
+      fewPaths = few-paths c;
+      totals = eb;
+      stage = s N c;
+      isWork = stage-is-work N (classOf class) rec ws;
+    }
 
-    module _ (e : r ≡ stage.Taken) where
-      taken : (N : Netlist) → CircuitTables N file ps cs shape → StageTrue N (classOf class) rec ws ws′ work work′ stage.Taken
-      taken N c = subst (λ (a : StageAnswer). StageTrue N (classOf class) rec ws ws′ work work′ a) e (s N c)
+    pub legal-counting : SomeCounting before r ws′
+    legal-counting = record {
+      circuit = h .stage .circuit;
+      test = testOf (h .stage .circuit) (classOf class) rec;
+      made = testStage (h .stage .circuit) (classOf class) rec ws;
+      held = ws;
+      work = work;
+      work′ = work′;
+      counting = counting-of (h .stage .circuit) (h .stage .tables);
+    }
 
-      pub after-sound : SoundWords (2 ^ 62) ws′
-      after-sound = sound-after (classOf class) rec (few-paths (h .stage .tables)) (h .stage .memory) (taken (h .stage .circuit) (h .stage .tables))
-
-      module _ {before after : StoreTotals} (eb : totalsIn before ≡ totalsBoth ws) (ea : totalsIn after ≡ totalsBoth ws′) where
-        more : (e : Edge) → ofEdge (totalsIn before) e ≤ ofEdge (totalsIn after) e
-        more e =
-            let g = grows (classOf class) rec (few-paths (h .stage .tables)) (h .stage .memory) (taken (h .stage .circuit) (h .stage .tables)) eb ea e in
-            omega arith
-
-        pub more-rising : before .rising ≤ after .rising
-        more-rising = more rising
-
-        pub more-falling : before .falling ≤ after .falling
-        more-falling = more falling
-
-        pub count-taken : (N : Netlist) → CircuitTables N file ps cs shape → TestedIs (testStage N (classOf class) rec ws) ws ws′ work work′
-            (Taken (after .rising - before .rising) (after .falling - before .falling) (after .rising) (after .falling))
-        count-taken N c = counted (classOf class) rec (few-paths c) (same-memory (h .stage) c) (taken N c) eb ea
+    pub legal-counted : {a : TestAnswer}
+        → ((N : Netlist) (t : Test) (x : Answer Tested) (held old new : List ℕ) → Counting N t x held ws′ old new before r → TestedIs x held ws′ old new a)
+        → (N : Netlist) → CircuitTables N file ps cs shape → TestedIs (testStage N (classOf class) rec ws) ws ws′ work work′ a
+    legal-counted counts N c = counts N (testOf N (classOf class) rec) (testStage N (classOf class) rec ws) ws work work′ (counting-of N c)

@@ -4,6 +4,7 @@ use mathlib.Core.Path.{_≡_, refl, ap, ap₂, sym, _∙_}
 use mathlib.Core.List.{List}
 use Prim.Native.Nat.{ℕ, _+_, _*_, _≤_}
 use native.Mathlib.Omega.{arith}
+use borrow.Author.Needs.{needs}
 use lib.Dec.{leb, leb→le}
 use lib.ListN.{length}
 use Rattle.model.specs.Base.{refused, value, checks}
@@ -27,9 +28,10 @@ use Rattle.store_writing.specs.declared.inner.Change.{Change}
 use Rattle.store_writing.specs.declared.inner.Change.the-variants.{Made}
 use Rattle.store_writing.proofs.EdgeWriteCases.{sound-has}
 use Rattle.coverage.specs.Both.{bothOf, CoversBoth}
-use Rattle.coverage.specs.Stage.{PinsOf, MemoryReady, WorkReady, storeAfter, workStage, StageIs}
+use Rattle.coverage.specs.Stage.{PinsOf, MemoryReady, WorkReady, BothMade, SomeBothMade, storeAfter, workStage, StageIs}
 use Rattle.coverage.specs.declared.edges.BothAnswer.{BothAnswer}
 use Rattle.coverage.specs.declared.edges.BothAnswer.the-variants.{Fits, WorkOver, StoreOver}
+use Rattle.coverage.specs.declared.inner.StageAnswer.{StageAnswer}
 use Rattle.coverage.specs.declared.inner.StageAnswer.the-variants.{Taken, Refused}
 use Rattle.coverage.proofs.EdgesLaws.{same-memory}
 
@@ -94,28 +96,46 @@ module _ {N : Netlist} {t : Test} {ws work work′ : List ℕ} (m : MemoryReady 
           w₂ runs₁ has₁ ∙ ap₂ (λ (u v : List Run). storeOf (record { onRising = u; onFalling = v })) (x .risingRuns r f fits) (x .fallingRuns r f fits) in
           record { answer = rw c refl; store = made ∙ rw c refl; sameLength = same; pastWork = x .kept workWords (omega arith) }
 
+-- The writes, by what was made of both edges, and what they leave for every test that it was made for
+module _ {b : BothAnswer} {ws work : List ℕ} where
+  pub write-over : b ≡ WorkOver → (N : Netlist) (t : Test) (found : List ℕ) → BothMade N t ws found work b
+      → StageIs (workStage N t ws) ws ws found work (Refused why.WorkingRuns)
+  write-over e N t found x = refused-stage (x .memory) (x .sameLength) (x .covers) why.WorkingRuns (ap bothOf e)
+
+  pub write-full : b ≡ StoreOver → (N : Netlist) (t : Test) (found : List ℕ) → BothMade N t ws found work b
+      → StageIs (workStage N t ws) ws ws found work (Refused why.StoreRuns)
+  write-full e N t found x = refused-stage (x .memory) (x .sameLength) (x .covers) why.StoreRuns (ap bothOf e)
+
+  module _ {r f : Change} (fits : b ≡ Fits r f) where
+    pub write-first : SomeBothMade b ws work → Writable work (2 * maxRuns) r ws
+    write-first h = first-writable (h .made .memory) (h .made .sameLength) (h .made .covers) fits
+
+    module _ {ws₁ : List ℕ} (w₁ : Rewritten work (2 * maxRuns) r rising ws ws₁) where
+      pub write-next : SomeBothMade b ws work → Writable work (3 * maxRuns) f ws₁
+      write-next h = second-writable (h .made .memory) (h .made .sameLength) (h .made .covers) fits w₁
+
+      pub write-taken : {ws₂ : List ℕ} → Rewritten work (3 * maxRuns) f falling ws₁ ws₂
+          → (N : Netlist) (t : Test) (found : List ℕ) → BothMade N t ws found work b → StageIs (workStage N t ws) ws ws₂ found work Taken
+      write-taken w₂ N t found x = taken-stage (x .memory) (x .sameLength) (x .covers) fits w₁ w₂
+
 -- The same for every netlist that the tables are of
 module _ {file ps cs masks : List ℕ} {edges : InputEdges} {shape : Shape} {ws work : List ℕ} (h : WorkReady file ps cs masks edges shape ws work)
     {b : BothAnswer} {work′ : List ℕ} (same : length work′ ≡ length work)
     (covers : (N : Netlist) (t : Test) → CircuitTables N file ps cs shape → PinsOf N t masks edges → CoversBoth N t ws work work′ b) where
-  here : CoversBoth (h .stage .circuit) (h .test) ws work work′ b
-  here = covers (h .stage .circuit) (h .test) (h .stage .tables) (h .pins)
+  both-made : (N : Netlist) (t : Test) → CircuitTables N file ps cs shape → PinsOf N t masks edges → BothMade N t ws work work′ b
+  both-made N t c p = record { memory = same-memory (h .stage) c; sameLength = same; covers = covers N t c p }
 
-  pub work-over : b ≡ WorkOver → (N : Netlist) (t : Test) → CircuitTables N file ps cs shape → PinsOf N t masks edges
-      → StageIs (workStage N t ws) ws ws work work′ (Refused why.WorkingRuns)
-  work-over e N t c p = refused-stage (same-memory (h .stage) c) same (covers N t c p) why.WorkingRuns (ap bothOf e)
+  pub work-writes : SomeBothMade b ws work′
+  work-writes = record {
+    circuit = h .stage .circuit;
+    test = h .test;
+    found = work;
+    made = both-made (h .stage .circuit) (h .test) (h .stage .tables) (h .pins);
+  }
 
-  pub work-full : b ≡ StoreOver → (N : Netlist) (t : Test) → CircuitTables N file ps cs shape → PinsOf N t masks edges
-      → StageIs (workStage N t ws) ws ws work work′ (Refused why.StoreRuns)
-  work-full e N t c p = refused-stage (same-memory (h .stage) c) same (covers N t c p) why.StoreRuns (ap bothOf e)
+  pub work-written : {ws′ : List ℕ} {r : StageAnswer}
+      → ((N : Netlist) (t : Test) (found : List ℕ) → BothMade N t ws found work′ b → StageIs (workStage N t ws) ws ws′ found work′ r)
+      → (N : Netlist) (t : Test) → CircuitTables N file ps cs shape → PinsOf N t masks edges → StageIs (workStage N t ws) ws ws′ work work′ r
+  work-written writes N t c p = writes N t work (both-made N t c p)
 
-  module _ {r f : Change} (fits : b ≡ Fits r f) where
-    pub work-writes : Writable work′ (2 * maxRuns) r ws
-    work-writes = first-writable (h .stage .memory) same here fits
-
-    pub work-writes-next : {ws₁ : List ℕ} → Rewritten work′ (2 * maxRuns) r rising ws ws₁ → Writable work′ (3 * maxRuns) f ws₁
-    work-writes-next w = second-writable (h .stage .memory) same here fits w
-
-    pub work-taken : {ws₁ ws₂ : List ℕ} → Rewritten work′ (2 * maxRuns) r rising ws ws₁ → Rewritten work′ (3 * maxRuns) f falling ws₁ ws₂
-        → (N : Netlist) (t : Test) → CircuitTables N file ps cs shape → PinsOf N t masks edges → StageIs (workStage N t ws) ws ws₂ work work′ Taken
-    work-taken w₁ w₂ N t c p = taken-stage (same-memory (h .stage) c) same (covers N t c p) fits w₁ w₂
+pub ruleset write-cases = (write-over, write-full, write-first, write-next, write-taken, needs)

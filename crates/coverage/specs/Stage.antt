@@ -16,6 +16,8 @@ use Rattle.netlist.specs.Tables.{CircuitTables}
 use Rattle.netlist.specs.declared.inner.Shape.{Shape}
 use Rattle.simulation.specs.Simulated.{OpenMasks}
 use Rattle.test_records.specs.declared.inner.InputEdges.{InputEdges}
+use Rattle.coverage.specs.Both.{CoversBoth}
+use Rattle.coverage.specs.declared.edges.BothAnswer.{BothAnswer}
 use Rattle.coverage.specs.declared.inner.StoreKnown.{StoreKnown}
 use Rattle.coverage.specs.declared.inner.StoreKnown.the-variants as known
 use Rattle.coverage.specs.declared.inner.Checked.{Checked}
@@ -50,6 +52,19 @@ pub record WorkReady (netlist positions counts masks : List ℕ) (edges : InputE
   pub stage : StageReady netlist positions counts shape store work
   pub test : Test
   pub pins : PinsOf (stage .circuit) test masks edges
+
+-- what was made in the words of both edges of a sound store, with words as they were found before
+pub record BothMade (N : Netlist) (t : Test) (ws found work : List ℕ) (b : BothAnswer) : Type 0 where
+  pub memory : MemoryReady N ws found
+  pub sameLength : length work ≡ length found
+  pub covers : CoversBoth N t ws found work b
+
+-- the same for some test
+pub record SomeBothMade (b : BothAnswer) (ws work : List ℕ) : Type 0 where
+  pub circuit : Netlist
+  pub test : Test
+  pub found : List ℕ
+  pub made : BothMade circuit test ws found work b
 
 -- what is known of a store before its place: that it is sound, or the number of paths to check it for
 abbrev pub KnownIs : StoreKnown → ℕ → List ℕ → Type 0

@@ -1,4 +1,4 @@
-// One edge of a store with what the test detects, and both edges.
+// One edge of a store with what the test detects, and both edges, for our own crates. Each caller proves what a function requires.
 ghost use mathlib.Core.Path.{_≡_};
 ghost use mathlib.Core.List.{List};
 ghost use Prim.Native.Nat.{ℕ};
@@ -34,7 +34,7 @@ pub enum EdgeAnswer {
 }
 
 // Joins the detected runs of the second quarter of the words to the runs that an edge holds. Where something is new the union is made at run `target`.
-fn join_edge(detected: Added, held: &[u64], words: &mut [u64], target: usize) -> EdgeAnswer
+pub fn join_edge(detected: Added, held: &[u64], words: &mut [u64], target: usize) -> EdgeAnswer
     requires { ⌜ JoinReady detected (now held) (now words) target ⌝ }
     ensures { λ r. ⌜ ((K : Case) (ws : List ℕ) → Detects K ws (now (words .entry)) detected
         → Sound (pathTotal (K .netlist)) (heldRuns (now (held .entry))) → Covers K (heldRuns (now (held .entry))) ws (now (words .exit)) target r) ⌝ }
@@ -63,7 +63,7 @@ pub enum BothAnswer {
 }
 
 // The answers of two edges as one.
-fn join_answers(rising: EdgeAnswer, falling: EdgeAnswer) -> BothAnswer
+pub fn join_answers(rising: EdgeAnswer, falling: EdgeAnswer) -> BothAnswer
     ensures { λ r. ⌜ r ≡ joined rising falling ⌝ }
 {
     match rising {

@@ -1,13 +1,15 @@
 // The places Test, Store and Work for one record, on a netlist whose tables are at hand. Each caller proves what a function requires.
 ghost use mathlib.Core.Path.{_≡_};
-ghost use Rattle.model.specs.Base.{checks};
+ghost use mathlib.Core.List.{List};
+ghost use Prim.Native.Nat.{ℕ};
+ghost use Rattle.model.specs.Base.{Answer, checks};
 ghost use Rattle.model.specs.Netlist.{Netlist, pathTotal};
 ghost use Rattle.model.specs.Detect.{Test};
 ghost use Rattle.model.specs.Read.{classOf};
-ghost use Rattle.model.specs.Calls.{testStage};
+ghost use Rattle.model.specs.Calls.{Tested, testStage};
 ghost use Rattle.netlist.specs.Tables.{CircuitTables};
-ghost use Rattle.coverage.specs.Stage.{PinsOf, StageReady, LegalReady, WorkReady, KnownIs, CheckReady, placeRules, checkedOf, workStage, StageIs, StageTrue};
-ghost use Rattle.coverage.specs.TestCall.{TestedIs};
+ghost use Rattle.coverage.specs.Stage.{PinsOf, StageReady, LegalReady, WorkReady, BothMade, SomeBothMade, KnownIs, CheckReady, placeRules, checkedOf, workStage, StageIs, StageTrue};
+ghost use Rattle.coverage.specs.TestCall.{TestedIs, Counting, SomeCounting};
 use crate::TestAnswer;
 use crate::count_new;
 use crate::edges::BothAnswer;
@@ -18,6 +20,8 @@ use faults::Edge;
 use model::Refusal;
 use netlist::inner::Shape;
 use simulation::inner::open_pins::open_masks;
+use store_words::inner::StoreTotals;
+use store_words::inner::totals_of;
 use store_words::inner::StoreCheck;
 use store_words::inner::check_words;
 use store_writing::inner::write_runs;
@@ -63,6 +67,23 @@ pub(crate) fn check_places(test: &[u8], inputs: usize, store: &[u64], known: Sto
     }
 }
 
+// Writes the runs made of both edges where both fit, or says why the store may not hold them.
+pub fn write_both(answer: BothAnswer, store: &mut [u64], work: &[u64]) -> StageAnswer
+    requires { ⌜ SomeBothMade answer (now store) (now work) ⌝ }
+    ensures { λ r. ⌜ ((N : Netlist) (t : Test) (found : List ℕ) → BothMade N t (now (store .entry)) found (now (work .entry)) answer
+        → StageIs (workStage N t (now (store .entry))) (now (store .entry)) (now (store .exit)) found (now (work .entry)) r) ⌝ }
+{
+    match answer {
+        BothAnswer::Fits(rising, falling) => {
+            write_runs(work, RISING_UNION, rising, store, Edge::Rising);
+            write_runs(work, FALLING_UNION, falling, store, Edge::Falling);
+            StageAnswer::Taken
+        }
+        BothAnswer::WorkOver => StageAnswer::Refused(Refusal::WorkingRuns),
+        BothAnswer::StoreOver => StageAnswer::Refused(Refusal::StoreRuns),
+    }
+}
+
 // The place Work, from the open pins and the edges of the inputs.
 fn work_on(
     netlist: &[u8],
@@ -80,15 +101,8 @@ fn work_on(
         → StageIs (workStage N t (now (store .entry)))
         (now (store .entry)) (now (store .exit)) (now (work .entry)) (now (work .exit)) r) ⌝ }
 {
-    match cover_both(netlist, positions, counts, masks, edges, shape, store, work) {
-        BothAnswer::Fits(rising, falling) => {
-            write_runs(work, RISING_UNION, rising, store, Edge::Rising);
-            write_runs(work, FALLING_UNION, falling, store, Edge::Falling);
-            StageAnswer::Taken
-        }
-        BothAnswer::WorkOver => StageAnswer::Refused(Refusal::WorkingRuns),
-        BothAnswer::StoreOver => StageAnswer::Refused(Refusal::StoreRuns),
-    }
+    let answer = cover_both(netlist, positions, counts, masks, edges, shape, store, work);
+    write_both(answer, store, work)
 }
 
 // A record that no rule of the place Test refuses, judged in a class.
@@ -119,6 +133,26 @@ pub(crate) fn apply_legal(
         store,
         work,
     )
+}
+
+// The faults that a stage finds new to a store and those then held, from the store's totals before it and what it answered.
+pub fn count_answer(before: StoreTotals, answer: StageAnswer, store: &[u64]) -> TestAnswer
+    requires { ⌜ SomeCounting before answer (now store) ⌝ }
+    ensures { λ r. ⌜ ((N : Netlist) (t : Test) (x : Answer Tested) (held old new : List ℕ)
+        → Counting N t x held (now (store .entry)) old new before answer → TestedIs x held (now (store .entry)) old new r) ⌝ }
+{
+    match answer {
+        StageAnswer::Refused(why) => TestAnswer::Refused(why),
+        StageAnswer::Taken => {
+            let after = totals_of(store);
+            TestAnswer::Taken {
+                new_rising: after.rising - before.rising,
+                new_falling: after.falling - before.falling,
+                held_rising: after.rising,
+                held_falling: after.falling,
+            }
+        }
+    }
 }
 
 // One record, judged in a class: the places Test and Work. The store is sound, so the place Store refuses nothing.

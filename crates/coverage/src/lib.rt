@@ -1,5 +1,5 @@
 // One test on a store: the test call.
-mod edges;
+pub mod edges;
 pub mod inner;
 
 ghost use mathlib.Core.Path.{_≡_};
@@ -16,10 +16,10 @@ ghost use Rattle.coverage.specs.Stage.{LegalReady, CheckReady, placeRule
 ghost use Rattle.coverage.specs.declared.inner.StoreKnown.the-variants.{Unchecked};
 ghost use Rattle.coverage.specs.TestCall.{TestedIs, TestTrue};
 use crate::inner::Checked;
-use crate::inner::StageAnswer;
 use crate::inner::StoreKnown;
 use crate::inner::apply_legal;
 use crate::inner::check_places;
+use crate::inner::count_answer;
 use model::Refusal;
 use model::STORE_WORDS;
 use model::WORK_WORDS;
@@ -57,18 +57,8 @@ pub(crate) fn count_new(
         (now (store .entry)) (now (store .exit)) (now (work .entry)) (now (work .exit)) r) ⌝ }
 {
     let before = totals_of(store);
-    match apply_legal(netlist, positions, counts, shape, test, class, store, work) {
-        StageAnswer::Refused(why) => TestAnswer::Refused(why),
-        StageAnswer::Taken => {
-            let after = totals_of(store);
-            TestAnswer::Taken {
-                new_rising: after.rising - before.rising,
-                new_falling: after.falling - before.falling,
-                held_rising: after.rising,
-                held_falling: after.falling,
-            }
-        }
-    }
+    let answer = apply_legal(netlist, positions, counts, shape, test, class, store, work);
+    count_answer(before, answer, store)
 }
 
 // The class, then the places Test and Store for one record, on a store that is not checked yet.

@@ -118,7 +118,7 @@ module _ (K : Case) where
     OutIs P f o = PlaceIs P f o (leb (K .netlist .inputs) (outputNet (K .netlist) o)) (getD (outputCounts (K .netlist)) o 0) (setRuns K (outputNet (K .netlist) o))
 
     -- one output: at a gate's net its paths follow those of the outputs before, at an input net it has none
-    out-part : (o : ℕ) → o < length (outputCounts N) → addRuns (runsOf D (countsBefore o (outputCounts N)))
+    pub out-part : (o : ℕ) → o < length (outputCounts N) → addRuns (runsOf D (countsBefore o (outputCounts N)))
         (onlyIf (leb (N .inputs) (outputNet N o)) (shiftRuns (countsBefore o (outputCounts N)) (setRuns K (outputNet N o)))) ≡ runsOf D (countsBefore (suc o) (outputCounts N))
     unfolding setRuns
     out-part o h =
@@ -205,7 +205,11 @@ module _ (K : Case) where
 no-bit : (j : ℕ) → bit 0 j ≡ false
 no-bit j = rw (div-eq-of-lt {n = 0} {m = 2 ^ j} (pow-pos j)) refl
 
+-- from the bits of the inputs that make the edge
+pub unmade-edge : (K : Case) → WellFormed (K .netlist) → {edges : ℕ} → edges ≡ 0 → ((j : ℕ) → j < K .netlist .inputs → bit edges j ≡ hasEdge (K .test) (K .edge) j)
+    → (ws : List ℕ) → Detects K ws ws (Count 0)
+unmade-edge K w z made ws = quiet K w (λ j l. sym (made j l) ∙ ap (λ (k : ℕ). bit k j) z ∙ no-bit j) ws
+
 pub no-edge : {K : Case} {file positions pathCounts masks : List ℕ} {edges : ℕ} {shape : Shape} {ws : List ℕ} → edges ≡ 0
     → EdgeAt K file positions pathCounts masks edges shape ws → Detects K ws ws (Count 0)
-no-edge {K} {file} {ws = ws} z a =
-    quiet K (legal file (K .netlist) (a .tables .legal)) (λ j l. sym (a .makesEdge j l) ∙ ap (λ (k : ℕ). bit k j) z ∙ no-bit j) ws
+no-edge {K} {file} {ws = ws} z a = unmade-edge K (legal file (K .netlist) (a .tables .legal)) z (a .makesEdge) ws

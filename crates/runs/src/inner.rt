@@ -1,6 +1,6 @@
 // Lists of runs in lent words, and what is asked of them. A list stands at run places: run i is the words 2i (low) and 2i + 1 (high) of what is lent.
 ghost use mathlib.Core.Path.{_≡_};
-ghost use Prim.Native.Nat.{_-_, _*_, _≤_, _^_};
+ghost use Prim.Native.Nat.{_-_, _*_, _<_, _≤_, _^_};
 ghost use lib.ListN.{length};
 ghost use Rattle.model.specs.Runs;
 ghost use Rattle.model.specs.Runs.{inRuns, separatedRuns};
@@ -76,22 +76,35 @@ pub fn separated(words: &[u64], from: usize, to: usize, limit: u64) -> bool
     true
 }
 
-// The first of the runs from..to that does not end below a number, by binary search. The contract asks less: it is only where a walk begins.
+// 1 where a number below 2^63 is below another: the highest bit of their difference. A comparison would be compiled to a branch.
+fn below(a: u64, b: u64) -> usize
+    ensures { λ r. ⌜ r < 2 ⌝ }
+{
+    (std::num::wrapping_sub_u64(a, b) >> 63) as usize
+}
+
+// A step or none.
+fn step_where(step: usize, once: usize) -> usize
+    requires { ⌜ once < 2 ⌝ }
+    ensures { λ r. ⌜ r ≤ step ⌝ }
+{
+    step * once
+}
+
+// The first of the runs from..to that does not end below a number, by binary search without a branch on the runs: where they lie is without a
+// pattern, and a branch would be mispredicted. The contract asks less: it is only where a walk begins.
 fn first_reaching(words: &[u64], from: usize, to: usize, x: u64) -> usize
     requires { ⌜ (from ≤ to) × (2 * to ≤ length (now words)) ⌝ }
     ensures { λ r. ⌜ (from ≤ r) × (r ≤ to) ⌝ }
 {
-    let mut lo = from;
-    let mut hi = to;
-    while lo < hi {
-        let mid = lo + (hi - lo) / 2;
-        if words[2 * mid + 1] < x {
-            lo = mid + 1;
-        } else {
-            hi = mid;
-        }
+    let mut at = from;
+    let mut left = to - from;
+    while 0 < left {
+        let half = (left + 1) / 2;
+        at += step_where(half, below(words[2 * (at + half) - 1], x));
+        left -= half;
     }
-    lo
+    at
 }
 
 // The same by a walk, for a run that is near.

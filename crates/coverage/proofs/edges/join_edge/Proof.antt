@@ -28,13 +28,15 @@ same-length c = search needs
 
 returns : tie.Need-returns
 returns c =
-    let found = c .before .before .before .before .detected .given .1 in
-    join-known (c .before .before .before .before .before .before .before .before .pre) found (c .if1 .taken) (c .before .inside .ensures)
+    let at-found = c .before .before .before .before in
+    let ready = at-found .before .before .before .before .pre in
+    join-known ready (at-found .detected .given .1) (c .if1 .taken) (c .before .inside .ensures)
 
 union-requires : tie.Need-union-requires
 union-requires c κs =
-    let ready = c .before .before .before .before .before .before .before .before .before .pre in
-    let found = c .before .before .before .before .before .detected .given .1 in
+    let at-found = c .before .before .before .before .before in
+    let found = at-found .detected .given .1 in
+    let ready = at-found .before .before .before .before .pre in
     let few = ready .fewFound _ found in (
       (omega arith, omega arith, omega arith, omega (arith, ready .high)),
       (record { fits = omega arith; inside = ready .room }, (union-held ready, union-found ready found)),
@@ -55,9 +57,12 @@ same-length-2 c = search needs
 returns-3 : tie.Need-returns-3
 returns-3 c =
     let made = c .before .n .given .1 in
-    let united = c .before .before .before .before .before .union .ensures in
-    let found = c .before .before .before .before .before .before .before .before .before .before .before .detected .given .1 in
-    λ K ws d s. join-made (c .before .before .before .before .before .before .before .before .before .before .before .before .before .before .before .pre) found united K ws d s made
+    let at-union = c .before .before .before .before .before in
+    let united = at-union .union .ensures in
+    let at-found = at-union .before .before .before .before .before .before in
+    let found = at-found .detected .given .1 in
+    let ready = at-found .before .before .before .before .pre in
+    λ K ws d s. join-made ready found united K ws d s made
 
 same-length-3 : tie.Need-same-length-3
 same-length-3 c = search needs
@@ -65,9 +70,12 @@ same-length-3 c = search needs
 returns-4 : tie.Need-returns-4
 returns-4 c =
     let full = c .enum-told2 .given .1 in
-    let united = c .before .before .before .before .union .ensures in
-    let found = c .before .before .before .before .before .before .before .before .before .before .detected .given .1 in
-    λ K ws d s. join-full (c .before .before .before .before .before .before .before .before .before .before .before .before .before .before .pre) found united K ws d s full
+    let at-union = c .before .before .before .before in
+    let united = at-union .union .ensures in
+    let at-found = at-union .before .before .before .before .before .before in
+    let found = at-found .detected .given .1 in
+    let ready = at-found .before .before .before .before .pre in
+    λ K ws d s. join-full ready found united K ws d s full
 
 pub join-edge-spec : {M : Type 1} → statement M
 join-edge-spec =

@@ -1,51 +1,57 @@
--- `runs::inner::first_reaching` is safe and ends within its bounds.
+-- `runs::inner::first_reaching` meets its contract. The loop's invariant: what is left of the runs from..to begins at `at`.
 -- Assumes nothing.
 use borrow.Author.Needs.{needs}
-use Prim.Native.Nat.{_-_, _≤_}
+use Prim.Native.Nat.{_+_, _≤_}
 use Rattle.runs.proofs.inner.first_reaching.Statement.{statement}
 use Rattle.runs.proofs.inner.first_reaching.Tie as tie
 
 abbrev Inv-loop : tie.InvT-loop
-Inv-loop words from to x lo₀ hi₀ lo hi = (from ≤ lo) × (lo ≤ hi) × (hi ≤ to)
+Inv-loop words from to x at₀ left₀ at left = (from ≤ at) × (at + left ≤ to)
 
 abbrev μ-loop : tie.MeasureT-loop
-μ-loop words from to x lo₀ hi₀ lo hi = hi - lo
+μ-loop words from to x at₀ left₀ at left = left
+
+sub-left : tie.Need-sub-left Inv-loop μ-loop
+sub-left c = search needs
 
 loop-holds : tie.Need-loop-holds Inv-loop μ-loop
 loop-holds c = search needs
 
-sub-mid : tie.Need-sub-mid Inv-loop μ-loop
-sub-mid c = search needs
+add-half : tie.Need-add-half Inv-loop μ-loop
+add-half c = search needs
 
-add-mid : tie.Need-add-mid Inv-loop μ-loop
-add-mid c = search needs
+add-below : tie.Need-add-below Inv-loop μ-loop
+add-below c = search needs
 
-mul-if1 : tie.Need-mul-if1 Inv-loop μ-loop
-mul-if1 c = search needs
+mul-below : tie.Need-mul-below Inv-loop μ-loop
+mul-below c = search needs
 
-add-if1 : tie.Need-add-if1 Inv-loop μ-loop
-add-if1 c = search needs
+sub-below : tie.Need-sub-below Inv-loop μ-loop
+sub-below c = search needs
 
-mul-if1-2 : tie.Need-mul-if1-2 Inv-loop μ-loop
-mul-if1-2 c = search needs
+mul-below-2 : tie.Need-mul-below-2 Inv-loop μ-loop
+mul-below-2 c = search needs
 
-shared-slice-read-if1 : tie.Need-shared-slice-read-if1 Inv-loop μ-loop
-shared-slice-read-if1 c = search needs
+shared-slice-read-below : tie.Need-shared-slice-read-below Inv-loop μ-loop
+shared-slice-read-below c = search needs
 
-add-lo : tie.Need-add-lo Inv-loop μ-loop
-add-lo c = search needs
+below-requires : tie.Need-below-requires Inv-loop μ-loop
+below-requires c κs = search needs
+
+step-where-requires : tie.Need-step-where-requires Inv-loop μ-loop
+step-where-requires c κs = search needs
+
+add-at : tie.Need-add-at Inv-loop μ-loop
+add-at c = search needs
+
+sub-left-2 : tie.Need-sub-left-2 Inv-loop μ-loop
+sub-left-2 c = search needs
 
 loop-less : tie.Need-loop-less Inv-loop μ-loop
 loop-less c = search needs
 
 loop-again : tie.Need-loop-again Inv-loop μ-loop
 loop-again c = search needs
-
-loop-less-2 : tie.Need-loop-less-2 Inv-loop μ-loop
-loop-less-2 c = search needs
-
-loop-again-2 : tie.Need-loop-again-2 Inv-loop μ-loop
-loop-again-2 c = search needs
 
 returns : tie.Need-returns Inv-loop μ-loop
 returns c = search needs
@@ -56,16 +62,18 @@ first-reaching-spec =
     (tie.spec
     Inv-loop
     μ-loop
+    sub-left
     loop-holds
-    sub-mid
-    add-mid
-    mul-if1
-    add-if1
-    mul-if1-2
-    shared-slice-read-if1
-    add-lo
+    add-half
+    add-below
+    mul-below
+    sub-below
+    mul-below-2
+    shared-slice-read-below
+    below-requires
+    step-where-requires
+    add-at
+    sub-left-2
     loop-less
     loop-again
-    loop-less-2
-    loop-again-2
     returns)

@@ -1,0 +1,98 @@
+-- `block::inner::gates::open_pins` meets its contract. The loop's invariant: the words of the pins from k on are right.
+-- Assumes nothing.
+use native.Mathlib.Omega.{arith}
+use borrow.Author.Needs.{needs}
+use Rattle.block.specs.Words.{pinWord, OpenIs}
+use Rattle.block.proofs.OpenWordCases.{open-at}
+use Rattle.block.proofs.GatePinCases.{pin-place, pin-net}
+use Rattle.block.proofs.WordLaws.{Filling, fill-start, fill-step, fill-end}
+use Rattle.block.proofs.inner.gates.open_pins.Statement.{statement}
+use Rattle.block.proofs.inner.gates.open_pins.Tie as tie
+
+abbrev Inv-loop : tie.InvT-loop
+Inv-loop table gate seen values opens₀ first k₀ opens k = Filling (gate .first) (gate .pins) (λ p w. OpenIs (gate .kind) seen (pinWord table gate values p) w) opens₀ opens k
+
+abbrev μ-loop : tie.MeasureT-loop
+μ-loop table gate seen values opens₀ first k₀ opens k = k
+
+loop-holds : tie.Need-loop-holds Inv-loop μ-loop
+loop-holds c = fill-start _ _ _ _
+
+sub-k : tie.Need-sub-k Inv-loop μ-loop
+sub-k c = search needs
+
+add-wide-word : tie.Need-add-wide-word Inv-loop μ-loop
+add-wide-word c = omega (arith, pin-place (c .before .before .pre .0) (c .before .loop .inv .within) (c .loop-test .taken))
+
+mul-wide-word : tie.Need-mul-wide-word Inv-loop μ-loop
+mul-wide-word c = omega (arith, pin-place (c .before .before .pre .0) (c .before .loop .inv .within) (c .loop-test .taken))
+
+element-copy-out-wide-word : tie.Need-element-copy-out-wide-word Inv-loop μ-loop
+element-copy-out-wide-word c = omega (arith, pin-place (c .before .before .pre .0) (c .before .loop .inv .within) (c .loop-test .taken))
+
+wide-word-requires : tie.Need-wide-word-requires Inv-loop μ-loop
+wide-word-requires c κs = search needs
+
+mul-value : tie.Need-mul-value Inv-loop μ-loop
+mul-value c =
+    let t = c .before .before in
+    omega (arith, pin-net (t .before .before .pre .0) (t .before .loop .inv .within) (t .loop-test .taken) _ (c .wide-word .ensures .0))
+
+element-copy-out-value : tie.Need-element-copy-out-value Inv-loop μ-loop
+element-copy-out-value c =
+    let t = c .before .before in
+    pin-net (t .before .before .pre .0) (t .before .loop .inv .within) (t .loop-test .taken) _ (c .wide-word .ensures .0)
+
+open-word-requires : tie.Need-open-word-requires Inv-loop μ-loop
+open-word-requires c κs = c .before .before .before .before .before .pre .1
+
+add-opens : tie.Need-add-opens Inv-loop μ-loop
+add-opens c =
+    let t = c .before .before .before .before in
+    omega (arith, pin-place (t .before .before .pre .0) (t .before .loop .inv .within) (t .loop-test .taken))
+
+mul-opens : tie.Need-mul-opens Inv-loop μ-loop
+mul-opens c =
+    let t = c .before .before .before .before in
+    omega (arith, pin-place (t .before .before .pre .0) (t .before .loop .inv .within) (t .loop-test .taken))
+
+element-write-opens : tie.Need-element-write-opens Inv-loop μ-loop
+element-write-opens c =
+    let t = c .before .before .before .before in
+    pin-place (t .before .before .pre .0) (t .before .loop .inv .within) (t .loop-test .taken)
+
+loop-less : tie.Need-loop-less Inv-loop μ-loop
+loop-less c = omega (arith, c .before .before .before .before .loop-test .taken)
+
+loop-again : tie.Need-loop-again Inv-loop μ-loop
+loop-again c =
+    let at-wide-word = c .before .before in
+    let t = at-wide-word .before .before in
+    let s = t .before .before in
+    fill-step (t .before .loop .inv) (t .loop-test .taken) (omega (arith, s .pre .0 .few, s .pre .0 .inside, s .pre .2)) _
+    (open-at (s .args .values .now) (at-wide-word .wide-word .ensures .0) (c .open-word .ensures))
+
+returns : tie.Need-returns Inv-loop μ-loop
+returns c = fill-end (c .before .loop .inv) (c .loop-test .left)
+
+pub open-pins-spec : {M : Type 1} → statement M
+open-pins-spec =
+    tie.close
+    (tie.spec
+    Inv-loop
+    μ-loop
+    loop-holds
+    sub-k
+    add-wide-word
+    mul-wide-word
+    element-copy-out-wide-word
+    wide-word-requires
+    mul-value
+    element-copy-out-value
+    open-word-requires
+    add-opens
+    mul-opens
+    element-write-opens
+    loop-less
+    loop-again
+    returns)

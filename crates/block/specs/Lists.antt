@@ -1,0 +1,81 @@
+-- The lists of live gates of the records of a block.
+-- Assumes nothing.
+use mathlib.Core.Path.{_≡_}
+use mathlib.Core.Bool.{Bool, true, false}
+use mathlib.Core.List.{List, [], _∷_, _++_, map}
+use Prim.Native.Nat.{ℕ, _+_, _*_, _≤_, _<_}
+use lib.ListN.{length, getD}
+use Rattle.model.specs.Base.{anyOf, numbersFrom}
+use Rattle.model.specs.Netlist.{Netlist, pinsOf}
+use Rattle.model.specs.Path.{Edge}
+use Rattle.model.specs.Detect.{Test}
+use Rattle.packed_pins.specs.Packed.{oneWhere}
+use Rattle.block.specs.Words.{wordsAt, bitsAt, firstWords}
+use Rattle.block.specs.Block.{liveNet, activePin}
+
+-- values packed into a number, the first in the lowest bit
+abbrev pub packBits : List Bool → ℕ
+packBits [] = 0
+packBits (v ∷ vs) = oneWhere v + 2 * packBits vs
+
+-- those of the list that pass the test
+abbrev pub keepIf : Bool → ℕ → List ℕ → List ℕ
+keepIf true x xs = x ∷ xs
+keepIf false x xs = xs
+
+abbrev pub keep : (ℕ → Bool) → List ℕ → List ℕ
+keep f [] = []
+keep f (x ∷ xs) = keepIf (f x) x (keep f xs)
+
+-- a gate's entry: its net, and the byte of its active pins
+unfoldable pub gateEntry : Netlist → Test → Edge → ℕ → ℕ
+gateEntry N t e net = 256 * net + packBits (map (activePin N t e net) (numbersFrom 0 (length (pinsOf N net))))
+
+-- the entries of the live ones of the first m gates, ascending
+unfoldable pub liveEntries : Netlist → Test → Edge → ℕ → List ℕ
+liveEntries N t e m = map (gateEntry N t e) (keep (liveNet N t e) (numbersFrom (N .inputs) m))
+
+-- the list of record t, from place 528 t on
+abbrev pub entries : List ℕ → List ℕ → ℕ → List ℕ
+entries list lens t = wordsAt list (numbersFrom (528 * t) (getD lens t 0))
+
+-- the list of each record is that of its live gates
+pub record ListsTrue (N : Netlist) (tests : ℕ → Test) (e : Edge) (n : ℕ) (list lens : List ℕ) : Type 0 where
+  pub lists : (t : ℕ) → t < n → entries list lens t ≡ liveEntries N (tests t) e (length (N .gates))
+
+-- room for 64 lists, and for one entry more in each
+pub record ListRoom (list lens : List ℕ) : Type 0 where
+  pub places : 33792 ≤ length list
+  pub records : length lens ≡ 64
+  pub oneMore : (t : ℕ) → t < 64 → getD lens t 0 < 528
+
+-- and for two more
+pub record GateRoom (list lens : List ℕ) : Type 0 where
+  pub places : 33792 ≤ length list
+  pub records : length lens ≡ 64
+  pub twoMore : (t : ℕ) → t < 64 → getD lens t 0 < 527
+
+-- room for 64 lists, each empty
+pub record EmptyLists (list lens : List ℕ) : Type 0 where
+  pub places : 33792 ≤ length list
+  pub records : length lens ≡ 64
+  pub empty : (t : ℕ) → t < 64 → getD lens t 0 ≡ 0
+
+-- from the active words of a gate's pins: it is live in record t, and its entry there
+abbrev pub someActive : List ℕ → ℕ → ℕ → Bool
+someActive rows pins t = anyOf (λ v. v) (bitsAt (firstWords rows pins) t)
+
+abbrev pub entryOf : ℕ → List ℕ → ℕ → ℕ → ℕ
+entryOf net rows pins t = 256 * net + packBits (bitsAt (firstWords rows pins) t)
+
+-- one more at the end
+abbrev pub pushIf : Bool → ℕ → List ℕ → List ℕ
+pushIf true x xs = xs ++ (x ∷ [])
+pushIf false x xs = xs
+
+-- the lists of the records that pass the test have one entry more, that of record t the entry f t
+pub record Pushed (list lens list′ lens′ : List ℕ) (b : ℕ → Bool) (f : ℕ → ℕ) : Type 0 where
+  pub sameLength : length list′ ≡ length list
+  pub sameRecords : length lens′ ≡ length lens
+  pub lists : (t : ℕ) → t < 64 → entries list′ lens′ t ≡ pushIf (b t) (f t) (entries list lens t)
+  pub counts : (t : ℕ) → t < 64 → getD lens′ t 0 ≡ getD lens t 0 + oneWhere (b t)

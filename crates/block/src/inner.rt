@@ -1,0 +1,7 @@
+// Each caller proves what a function requires.
+mod gates;
+pub mod lists;
+mod robust;
+pub mod spread;
+pub mod table;
+pub mod words;

@@ -1,0 +1,68 @@
+-- The loop over the inputs: the spans of the inputs so far are written.
+-- Assumes nothing.
+use mathlib.Core.Path.{_≡_, ap, _∙_, subst}
+use mathlib.Core.List.{List}
+use mathlib.Core.Logic.{⊎-elim}
+use Prim.Native.Nat.{ℕ, _+_, _≤_, _<_}
+use native.Mathlib.Omega.{arith}
+use borrow.Author.Needs.{needs}
+use lib.ListN.{length}
+use Rattle.block.proofs.WordLaws.{same-place}
+use Rattle.block_runs.specs.Spans.{firstOf, endOf, shiftOf, InputSpans}
+use Rattle.block_runs.specs.PinSpans.{withSpan, SameSpan}
+use Rattle.block_runs.proofs.SpanCases.{span-length, span-others, span-first, span-end, span-shift}
+
+-- a value at one place more
+one-more : (f : ℕ → ℕ) (v i : ℕ) → f i ≡ v → ((j : ℕ) → j < i → f j ≡ v) → (j : ℕ) → j < i + 1 → f j ≡ v
+one-more f v i here below j h = ⊎-elim (λ (e : j ≡ i). ap f e ∙ here) (λ (d : j ≡ i → ⊥). below j (omega (arith, d))) (same-place i j)
+
+pub record InputsSpanned (inputs : ℕ) (spans : List ℕ) (input : ℕ) : Type 0 where
+  pub few : inputs ≤ 64
+  pub within : input ≤ inputs
+  pub spanned : InputSpans spans input
+
+pub spans-start : {inputs : ℕ} {spans : List ℕ} → inputs ≤ 64 → length spans ≡ 1536 → InputsSpanned inputs spans 0
+spans-start h room = record {
+  few = h;
+  within = omega arith;
+  spanned = record { room = room; firsts = λ j l. absurd (omega arith); ends = λ j l. absurd (omega arith); shifts = λ j l. absurd (omega arith) };
+}
+
+module _ {inputs : ℕ} {spans : List ℕ} {input : ℕ} (x : InputsSpanned inputs spans input) where
+  pub spans-end : inputs ≤ input → InputSpans spans inputs
+  spans-end h = let e : input ≡ inputs = omega (arith, x .within) in subst (λ n. InputSpans spans n) e (x .spanned)
+
+  module _ (l : input < inputs) where
+    pub input-place : input < 1536
+    input-place = omega (arith, x .few)
+
+    pub input-end-place : 512 + input < 1536
+    input-end-place = omega (arith, x .few)
+
+    pub input-shift-place : 1024 + input < 1536
+    input-shift-place = omega (arith, x .few)
+
+    abbrev now : List ℕ
+    now = withSpan spans input 0 1 0
+
+    few : input < 512
+    few = omega (arith, x .few)
+
+    others : (j : ℕ) → j < input → SameSpan spans now j
+    others j h = span-others spans input 0 1 0 few j (omega arith) (λ e. omega arith)
+
+    pub spans-more : InputsSpanned inputs (withSpan spans input 0 1 0) (input + 1)
+    spans-more =
+        let room = x .spanned .room in
+        record {
+          few = x .few;
+          within = omega arith;
+          spanned = record {
+            room = span-length spans input 0 1 0 ∙ room;
+            firsts = one-more (firstOf now) 0 input (span-first spans input 0 1 0 few room) (λ j h. others j h .firsts ∙ x .spanned .firsts j h);
+            ends = one-more (endOf now) 1 input (span-end spans input 0 1 0 few room) (λ j h. others j h .ends ∙ x .spanned .ends j h);
+            shifts = one-more (shiftOf now) 0 input (span-shift spans input 0 1 0 few room) (λ j h. others j h .shifts ∙ x .spanned .shifts j h);
+          };
+        }
+
+pub ruleset input-span-cases = (spans-start, spans-end, input-place, input-end-place, input-shift-place, spans-more, needs)

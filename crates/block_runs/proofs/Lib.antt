@@ -1,0 +1,12 @@
+pub mod BitRunLaws
+pub mod PinSpanSteps
+pub mod WorkingSteps
+pub mod SpanCases
+pub mod EntryLaws
+pub mod LiveRunLaws
+pub mod SpanStayLaws
+pub mod NetSpanSteps
+pub mod InputSpanCases
+pub mod LiveOutputCases
+pub mod LiveOutputLaws
+pub mod ListedLaws

@@ -1,0 +1,40 @@
+-- The runs that the live outputs add one after the other: those of their nets, shifted by the paths of the outputs before.
+-- Assumes nothing.
+use mathlib.Core.Path.{_≡_}
+use mathlib.Core.Bool.{true}
+use mathlib.Core.List.{List, []}
+use Prim.Native.Nat.{ℕ, _+_, _*_, _^_, _≤_, _<_}
+use lib.ListN.{length, getD}
+use Rattle.model.specs.Base.{bit}
+use Rattle.model.specs.Runs.{Run}
+use Rattle.model.specs.Store.{maxRuns}
+use Rattle.runs.specs.RunLists.{Sound, addRuns, shiftRuns}
+use Rattle.block_runs.specs.Spans.{firstOf, endOf, shiftOf, standing}
+use Rattle.block_runs.specs.PinSpans.{bitRuns}
+
+-- of an output: its net, by how much its runs are higher than those that stand for the net, and its runs
+abbrev pub outNet : List ℕ → ℕ → ℕ
+outNet places o = getD places (4160 + o) 0
+
+abbrev pub outShift : List ℕ → List ℕ → ℕ → ℕ
+outShift places spans o = shiftOf spans (outNet places o) + getD places (4096 + o) 0
+
+abbrev pub runsOfOutput : List ℕ → List ℕ → List ℕ → ℕ → List Run
+runsOfOutput places spans ws o = shiftRuns (outShift places spans o) (standing spans ws (outNet places o))
+
+-- the runs of the outputs of a word, joined
+abbrev pub runsOfOutputs : List ℕ → ℕ → List ℕ → List ℕ → List Run
+runsOfOutputs places outs spans ws = addRuns [] (bitRuns (runsOfOutput places spans ws) outs 64)
+
+-- the runs of an output's net stand in the first quarter of the words
+pub record OutputReady (places spans ws : List ℕ) (o : ℕ) : Type 0 where
+  pub isNet : outNet places o < 512
+  pub ordered : firstOf spans (outNet places o) ≤ endOf spans (outNet places o)
+  pub before : endOf spans (outNet places o) ≤ maxRuns
+  pub small : outShift places spans o ≤ 2 ^ 62
+  pub sound : Sound (2 ^ 62) (standing spans ws (outNet places o))
+
+-- those of each output of a word, and there is room in the second quarter
+pub record OutputsReady (places : List ℕ) (outs : ℕ) (spans ws : List ℕ) : Type 0 where
+  pub room : 4 * maxRuns ≤ length ws
+  pub each : (o : ℕ) → o < 64 → bit outs o ≡ true → OutputReady places spans ws o

@@ -1,0 +1,2 @@
+pub mod RecordEdgeLaws
+pub mod BlockSteps

@@ -1,0 +1,62 @@
+// Each caller proves what a function requires.
+ghost use Prim.Native.Nat.{ℕ};
+ghost use Rattle.model.specs.Netlist.{Netlist};
+ghost use Rattle.model.specs.Detect.{Test};
+ghost use Rattle.coverage.specs.Stage.{MemoryReady};
+ghost use Rattle.block_stage.specs.Stage.{BlockAt, BlockReady, BlockTaken, MemoryKept};
+use crate::listed::apply_listed;
+use crate::listed::edges_at;
+use block_marks::inner::Batch;
+use block_runs::inner::input_spans;
+use coverage::inner::StageAnswer;
+
+// The number of records taken before the first that was refused, all of them if none was, and what they answer.
+pub struct Applied {
+    pub taken: usize,
+    pub answer: StageAnswer,
+}
+
+// The place Work with the records of a block in order, each on the store that the one before it left.
+pub fn apply_block(
+    table: &[u16; 5120],
+    places: &[u64; 4224],
+    ups: &[u32],
+    downs: &[u32],
+    marks: &[u64; 384],
+    batch: Batch,
+    store: &mut [u64],
+    work: &mut [u64],
+) -> Applied
+    requires { ⌜ BlockReady (now table) (now places) (now ups) (now downs) (now marks) batch (now store) (now work) ⌝ }
+    ensures { λ r. ⌜
+        MemoryKept (now (store .exit)) (now (work .entry)) (now (work .exit))
+        × ((N : Netlist) (tests : ℕ → Test)
+        → BlockAt N tests (now (table .entry)) (now (places .entry)) (now (ups .entry)) (now (downs .entry)) (now (marks .entry)) batch
+        → MemoryReady N (now (store .entry)) (now (work .entry))
+        → BlockTaken r N tests (batch .records) (now (store .entry)) (now (store .exit)))
+        ⌝ }
+{
+    let inputs = batch.inputs;
+    let records = batch.records;
+    let mut spans = [0u64; 1536];
+    input_spans(&mut spans, inputs);
+    let mut t = 0;
+    while t < records {
+        let at = 528 * t;
+        let up = &ups[at..at + marks[256 + t] as usize];
+        let down = &downs[at..at + marks[320 + t] as usize];
+        let edges = edges_at(marks, t, inputs);
+        let stage = apply_listed(table, places, up, down, edges, store, &mut spans, work);
+        match stage {
+            StageAnswer::Refused(why) => {
+                let answer = StageAnswer::Refused(why);
+                return Applied { taken: t, answer };
+            }
+            StageAnswer::Taken => {
+                t += 1;
+            }
+        }
+    }
+    let answer = StageAnswer::Taken;
+    Applied { taken: t, answer }
+}

@@ -1,0 +1,138 @@
+// The place Work of one record of a block, from its lists of live gates. Each caller proves what a function requires.
+ghost use mathlib.Core.Path.{_≡_};
+ghost use Prim.Native.Nat.{_<_};
+ghost use Rattle.model.specs.Netlist.{Netlist};
+ghost use Rattle.model.specs.Detect.{Test};
+ghost use Rattle.coverage.specs.Both.{CoversBoth};
+ghost use Rattle.coverage.specs.Stage.{workStage, StageIs};
+ghost use Rattle.coverage.specs.TestCall.{TestedIs};
+ghost use Rattle.block_runs.specs.Spans.{InputSpans};
+ghost use Rattle.block_stage.specs.Listed.{edgesAt, ListedBoth, SomeListedBoth};
+use block_runs::inner::listed_runs;
+use coverage::TestAnswer;
+use coverage::edges::BothAnswer;
+use coverage::edges::FALLING_UNION;
+use coverage::edges::RISING_UNION;
+use coverage::edges::join_answers;
+use coverage::edges::join_edge;
+use coverage::inner::StageAnswer;
+use coverage::inner::count_answer;
+use coverage::inner::write_both;
+use faults::Edge;
+use store_words::inner::parts::edge_runs;
+use store_words::inner::totals_of;
+
+// The marks of one record: a bit for each input that rises or falls, a bit for each live output of the rising and of the falling edge, the number of inputs.
+pub struct RecordEdges {
+    pub rises: u64,
+    pub falls: u64,
+    pub up_outs: u64,
+    pub down_outs: u64,
+    pub inputs: usize,
+}
+
+// The marks of record t of a block.
+pub fn edges_at(marks: &[u64; 384], t: usize, inputs: usize) -> RecordEdges
+    requires { ⌜ t < 64 ⌝ }
+    ensures { λ r. ⌜ r ≡ edgesAt (now (marks .entry)) t inputs ⌝ }
+{
+    RecordEdges {
+        rises: marks[t],
+        falls: marks[64 + t],
+        up_outs: marks[128 + t],
+        down_outs: marks[192 + t],
+        inputs,
+    }
+}
+
+// Covers both edges of a store with what a record detects: the rising runs are made in the third quarter of the words, the falling ones in the last.
+pub(crate) fn cover_listed(
+    table: &[u16; 5120],
+    places: &[u64; 4224],
+    ups: &[u32],
+    downs: &[u32],
+    edges: RecordEdges,
+    store: &[u64],
+    spans: &mut [u64; 1536],
+    words: &mut [u64],
+) -> BothAnswer
+    requires { ⌜ SomeListedBoth (now table) (now places) (now ups) (now downs) edges (now store) (now spans) (now words) ⌝ }
+    ensures { λ r. ⌜
+        InputSpans (now (spans .exit)) (edges .inputs)
+        × ((N : Netlist) (t : Test)
+        → ListedBoth N t (now (table .entry)) (now (places .entry)) (now (ups .entry)) (now (downs .entry)) edges (now (store .entry)) (now (spans .entry)) (now (words .entry))
+        → CoversBoth N t (now (store .entry)) (now (words .entry)) (now (words .exit)) r)
+        ⌝ }
+{
+    let inputs = edges.inputs;
+    let up = listed_runs(
+        table,
+        places,
+        ups,
+        edges.rises,
+        edges.up_outs,
+        inputs,
+        spans,
+        words,
+    );
+    let rising = join_edge(up, edge_runs(store, Edge::Rising), words, RISING_UNION);
+    let down = listed_runs(
+        table,
+        places,
+        downs,
+        edges.falls,
+        edges.down_outs,
+        inputs,
+        spans,
+        words,
+    );
+    let falling = join_edge(down, edge_runs(store, Edge::Falling), words, FALLING_UNION);
+    join_answers(rising, falling)
+}
+
+// The place Work of one record on a sound store.
+pub(crate) fn apply_listed(
+    table: &[u16; 5120],
+    places: &[u64; 4224],
+    ups: &[u32],
+    downs: &[u32],
+    edges: RecordEdges,
+    store: &mut [u64],
+    spans: &mut [u64; 1536],
+    work: &mut [u64],
+) -> StageAnswer
+    requires { ⌜ SomeListedBoth (now table) (now places) (now ups) (now downs) edges (now store) (now spans) (now work) ⌝ }
+    ensures { λ r. ⌜
+        InputSpans (now (spans .exit)) (edges .inputs)
+        × ((N : Netlist) (t : Test)
+        → ListedBoth N t (now (table .entry)) (now (places .entry)) (now (ups .entry)) (now (downs .entry)) edges (now (store .entry)) (now (spans .entry)) (now (work .entry))
+        → StageIs (workStage N t (now (store .entry))) (now (store .entry)) (now (store .exit)) (now (work .entry)) (now (work .exit)) r)
+        ⌝ }
+{
+    let answer = cover_listed(table, places, ups, downs, edges, store, spans, work);
+    write_both(answer, store, work)
+}
+
+// The same, with the faults counted that are new to the store and those then held.
+pub fn count_listed(
+    table: &[u16; 5120],
+    places: &[u64; 4224],
+    ups: &[u32],
+    downs: &[u32],
+    edges: RecordEdges,
+    store: &mut [u64],
+    spans: &mut [u64; 1536],
+    work: &mut [u64],
+) -> TestAnswer
+    requires { ⌜ SomeListedBoth (now table) (now places) (now ups) (now downs) edges (now store) (now spans) (now work) ⌝ }
+    ensures { λ r. ⌜
+        InputSpans (now (spans .exit)) (edges .inputs)
+        × ((N : Netlist) (t : Test)
+        → ListedBoth N t (now (table .entry)) (now (places .entry)) (now (ups .entry)) (now (downs .entry)) edges (now (store .entry)) (now (spans .entry)) (now (work .entry))
+        → TestedIs (workStage N t (now (store .entry))) (now (store .entry)) (now (store .exit)) (now (work .entry)) (now (work .exit)) r)
+        ⌝ }
+{
+    let before = totals_of(store);
+    let answer = apply_listed(table, places, ups, downs, edges, store, spans, work);
+    count_answer(before, answer, store)
+}

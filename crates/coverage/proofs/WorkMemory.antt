@@ -1,0 +1,54 @@
+-- The place Work, once its rules pass: what it comes to, and that it leaves a store that no rule refuses.
+-- Assumes nothing.
+use mathlib.Core.Path.{_≡_, ap, sym, _∙_, subst}
+use mathlib.Core.List.{List}
+use Prim.Native.Nat.{ℕ, _≤_}
+use native.Mathlib.Omega.{arith}
+use lib.Dec.{leb, leb→le}
+use lib.ListN.{length}
+use Rattle.model.specs.Base.{value, checks}
+use Rattle.model.specs.Netlist.{Netlist, pathTotal}
+use Rattle.model.specs.Path.{Edge, rising, falling}
+use Rattle.model.specs.Detect.{Test}
+use Rattle.model.specs.Runs.{Run, runsOf, inRuns}
+use Rattle.model.specs.Store.{maxRuns, storeOf, storeRuns, storeRules, runsByEdge}
+use Rattle.model.specs.Calls.{workRules, Tested, storeLeft, tested, runsThen}
+use Rattle.model.proofs.AnswerLaws.{AllPass, checks→, →checks, then-first, then-second, value-inj}
+use Rattle.model.proofs.HoldingLaws.{Sets, Holding, withTest, at-edge, runs-then, holding-own, holding-length, holding-passes}
+use Rattle.coverage.specs.Stage.{MemoryReady, workStage}
+
+-- the numbers in a store's runs
+abbrev ownSets : List ℕ → Sets
+ownSets ws e = inRuns (storeRuns ws e)
+
+module _ (N : Netlist) (t : Test) (ws : List ℕ) {d : Tested} (q : workStage N t ws ≡ value d) where
+  pub work-passes : AllPass (workRules N (runsByEdge ws) t)
+  unfolding workStage
+  work-passes = checks→ (workRules N (runsByEdge ws) t) (then-first (checks (workRules N (runsByEdge ws) t)) (value (tested N (runsByEdge ws) t)) q)
+
+  pub work-result : tested N (runsByEdge ws) t ≡ d
+  unfolding workStage
+  work-result = value-inj (then-second (checks (workRules N (runsByEdge ws) t)) (value (tested N (runsByEdge ws) t)) q)
+
+  pub then-few : (e : Edge) → length (runsThen N (runsByEdge ws) t e) ≤ maxRuns
+  then-few e =
+      leb→le (length (runsThen N (runsByEdge ws) t e)) maxRuns (at-edge (λ d. leb (length (runsThen N (runsByEdge ws) t d)) maxRuns) (work-passes .1 .0) e)
+
+  module _ {work : List ℕ} (m : MemoryReady N ws work) where
+    then-runs : (e : Edge) → runsThen N (runsByEdge ws) t e ≡ runsOf (withTest N t (ownSets ws) e) (pathTotal N)
+    then-runs e =
+        runs-then N ws (ownSets ws) (holding-own N ws (m .storeLength) (checks→ (storeRules (pathTotal N) ws) (record { got = tt; is = m .sound }))) t e
+
+    holds-then : Holding N (storeLeft d) (withTest N t (ownSets ws))
+    unfolding tested
+    holds-then = record {
+      is = ap storeLeft (sym work-result) ∙ ap storeOf (λ i. record { onRising = then-runs rising i; onFalling = then-runs falling i });
+      fits = λ e. subst (λ (rs : List Run). length rs ≤ maxRuns) (then-runs e) (then-few e);
+    }
+
+    pub work-memory : {work′ : List ℕ} → length work′ ≡ length work → MemoryReady N (storeLeft d) work′
+    work-memory same = record {
+      storeLength = holding-length N (storeLeft d) (withTest N t (ownSets ws)) holds-then;
+      sound = →checks (storeRules (pathTotal N) (storeLeft d)) (holding-passes N (storeLeft d) (withTest N t (ownSets ws)) holds-then);
+      workLength = omega (arith, m .workLength);
+    }
