@@ -20,7 +20,7 @@ use Rattle.model.proofs.ListLaws.{length-numbersFrom}
 use Rattle.coverage.specs.Stage.{MemoryReady, workStage}
 use Rattle.coverage.proofs.StageLaws.{stage-work, stage-refused}
 use Rattle.block_marks.specs.Marks.{recordAt, testAt}
-use Rattle.block_stage.specs.Stage.{workAll, oneMoreTest, workTaken}
+use Rattle.block_stage.specs.BlockStage.{workAll, oneMoreTest, workTaken}
 use Rattle.audit.specs.TestFile.{oneMore, takenOf}
 use Rattle.audit.proofs.MemoryLaws.{all-memory}
 

@@ -28,9 +28,9 @@ use Rattle.block.specs.Block.{BlockOf}
 use Rattle.block.specs.Table.{CircuitTable}
 use Rattle.block_marks.specs.Marks.{PlaceTable, MarksTrue, VectorsOf, testAt, BlockRead}
 use Rattle.block_marks.specs.declared.inner.Batch.{Batch}
-use Rattle.block_stage.specs.Stage.{BlockAt, BlockReady, BlockTaken, MemoryKept, appliedOf}
+use Rattle.block_stage.specs.BlockStage.{BlockAt, BlockReady, BlockTaken, MemoryKept, appliedOf}
 use Rattle.block_stage.specs.declared.inner.Applied.{Applied}
-use Rattle.block_marks.specs.EdgeMarks.{BatchTables}
+use Rattle.block_marks.specs.EdgeMarks.{BatchTables, WorkKept}
 use Rattle.audit.specs.TestFile.{fileOf, takenOf}
 use Rattle.audit.specs.Blocks.{BlockTables, BlocksReady, BlockTrue, BlockDone}
 use Rattle.audit.specs.declared.inner.TakenRecords.{TakenRecords}
@@ -88,7 +88,8 @@ module _ {table places : List ℕ} {file : FileNumbers} {ups downs ws work : Lis
     }
 
     module _ {ups′ downs′ marks : List ℕ} (filled : (N : Netlist) (tests : ℕ → Test) → CircuitTable N table (file .inputs) (file .nets) → PlaceTable N places
-        → length (N .outputs) ≡ file .outputs → BlockOf tests (classOf (file .class)) n → VectorsOf N tests n vectors → MarksTrue N tests n ups′ downs′ marks) where
+        → length (N .outputs) ≡ file .outputs → BlockOf tests (classOf (file .class)) n → VectorsOf N tests n vectors → MarksTrue N tests n ups′ downs′ marks)
+        {work₁ : List ℕ} (lent : WorkKept work work₁) where
       block-at : (N : Netlist) → BlockTables N table places file → BlockAt N (testAt N c part) table places ups′ downs′ marks batch
       block-at N t = record {
         few = few;
@@ -98,11 +99,14 @@ module _ {table places : List ℕ} {file : FileNumbers} {ups downs ws work : Lis
             (record { few = few; inClass = λ i h. in-class N c _ }) (read-of N t .vectorsAre c);
       }
 
-      pub block-ready : BlockReady table places ups′ downs′ marks batch ws work
-      block-ready = record { netlist = s .netlist; tests = testAt (s .netlist) c part; block = block-at (s .netlist) (s .tables); memory = s .memory }
+      still-ready : (N : Netlist) → MemoryReady N ws work → MemoryReady N ws work₁
+      still-ready N m = record { storeLength = m .storeLength; sound = m .sound; workLength = omega (arith, m .workLength, lent .sameLength) }
 
-      module _ {ws′ work′ : List ℕ} {r : Applied} (kept : MemoryKept ws′ work work′)
-          (applied : (N : Netlist) (tests : ℕ → Test) → BlockAt N tests table places ups′ downs′ marks batch → MemoryReady N ws work → BlockTaken r N tests n ws ws′)
+      pub block-ready : BlockReady table places ups′ downs′ marks batch ws work₁
+      block-ready = record { netlist = s .netlist; tests = testAt (s .netlist) c part; block = block-at (s .netlist) (s .tables); memory = still-ready (s .netlist) (s .memory) }
+
+      module _ {ws′ work′ : List ℕ} {r : Applied} (kept : MemoryKept ws′ work₁ work′)
+          (applied : (N : Netlist) (tests : ℕ → Test) → BlockAt N tests table places ups′ downs′ marks batch → MemoryReady N ws work₁ → BlockTaken r N tests n ws ws′)
           (sameUps : length ups′ ≡ length ups) (sameDowns : length downs′ ≡ length downs) where
         -- what the block's records answer, and those of the whole part
         module _ (N : Netlist) (t : BlockTables N table places file) (m : MemoryReady N ws work) where
@@ -116,10 +120,10 @@ module _ {table places : List ℕ} {file : FileNumbers} {ups downs ws work : Lis
           rest = fileRecords N (drop (recordLength N * n) part)
 
           answers : testAll N c block ws ≡ appliedOf (r .answer) ws′
-          answers = block-all N c part work n m (b .legal) ∙ sym (applied N (testAt N c part) (block-at N t) m .answer)
+          answers = block-all N c part work n m (b .legal) ∙ sym (applied N (testAt N c part) (block-at N t) (still-ready N m) .answer)
 
           count : r .taken ≡ takenOf N c block ws
-          count = applied N (testAt N c part) (block-at N t) m .taken ∙ sym (block-taken N c part work n m (b .legal))
+          count = applied N (testAt N c part) (block-at N t) (still-ready N m) .taken ∙ sym (block-taken N c part work n m (b .legal))
 
           all-of : testAll N c (fileRecords N part) ws ≡ (testAll N c block ws >>= λ left. testAll N c rest left)
           all-of = ap (λ (rs : List (List ℕ)). testAll N c rs ws) (file-block N part n (b .whole)) ∙ testAll-append N c block rest ws
@@ -179,7 +183,7 @@ module _ {table places : List ℕ} {file : FileNumbers} {ups downs ws work : Lis
                 some = some-taken o;
                 rest = sym goes-on;
                 counted = sym counts-on;
-                memory = all-memory N c ws work work′ m (kept .sameLength) block ws′ made;
+                memory = all-memory N c ws work work′ m (kept .sameLength ∙ lent .sameLength) block ws′ made;
               };
               refuses = λ v z. (let y : _≡_ {A = ℕ} 0 1 = cc in absurd (omega arith));
             }
@@ -189,7 +193,12 @@ module _ {table places : List ℕ} {file : FileNumbers} {ups downs ws work : Lis
         done h f = record {
           few = omega (arith, few);
           storeLength = kept .storeLength ∙ sym (s .memory .storeLength);
-          kept = record { sameUps = sameUps; sameDowns = sameDowns; sameLength = kept .sameLength; pastWork = kept .pastWork };
+          kept = record {
+            sameUps = sameUps;
+            sameDowns = sameDowns;
+            sameLength = kept .sameLength ∙ lent .sameLength;
+            pastWork = kept .pastWork ∙ lent .pastWork;
+          };
           ofCircuit = f;
         }
 

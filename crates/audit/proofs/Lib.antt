@@ -3,7 +3,7 @@ pub mod MemoryLaws
 pub mod TakenRecordLaws
 pub mod BlockFileLaws
 pub mod BlockTakeCases
-pub mod BlockSteps
+pub mod FileBlockSteps
 pub mod FileTableCases
 pub mod AuditCases
 pub mod PromisesHold

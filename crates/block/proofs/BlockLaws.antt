@@ -38,31 +38,31 @@ module _ {N : Netlist} {table : List ℕ} {inputs netCount : ℕ} (c : CircuitTa
   }
 
 -- the open words of each class
-pub plain-true : {table : List ℕ} {inputs netCount : ℕ} {lasts start values opens : List ℕ} → Copied lasts inputs start
-    → PlainNets table inputs netCount start values opens → (firsts : List ℕ) → OpensTrue nonRobust table inputs netCount firsts lasts opens
+pub plain-true : {table : List ℕ} {inputs netCount : ℕ} {lasts start values opens₀ opens : List ℕ} → Copied lasts inputs start
+    → PlainNets table inputs netCount start values opens₀ opens → (firsts : List ℕ) → OpensTrue nonRobust table inputs netCount firsts lasts opens₀ opens
 plain-true x p firsts = record {
-  openRoom = p .openRoom;
+  openKept = p .openKept;
   right = λ N tests n c b y. p .right N tests n c b (last-copied c y x) .1;
 }
 
-pub robust-true : {table : List ℕ} {inputs netCount : ℕ} {firsts lasts firsts₀ lasts₀ steadies₀ firsts′ lasts′ steadies′ opens : List ℕ} → Copied firsts inputs firsts₀
-    → Copied lasts inputs lasts₀ → Agreed firsts lasts inputs steadies₀ → RobustNets table inputs netCount firsts₀ lasts₀ steadies₀ firsts′ lasts′ steadies′ opens
-    → OpensTrue robust table inputs netCount firsts lasts opens
+pub robust-true : {table : List ℕ} {inputs netCount : ℕ} {firsts lasts firsts₀ lasts₀ steadies₀ firsts′ lasts′ steadies′ opens₀ opens : List ℕ} → Copied firsts inputs firsts₀
+    → Copied lasts inputs lasts₀ → Agreed firsts lasts inputs steadies₀ → RobustNets table inputs netCount firsts₀ lasts₀ steadies₀ firsts′ lasts′ steadies′ opens₀ opens
+    → OpensTrue robust table inputs netCount firsts lasts opens₀ opens
 robust-true x₁ x₂ x₃ p = record {
-  openRoom = p .openRoom;
+  openKept = p .openKept;
   right = λ N tests n c b y.
       p .right N tests n c b (record { first = first-copied c y x₁; last = last-copied c y x₂; steady = steady-agreed c y (b .few) x₃ }) .1;
 }
 
-pub class-robust : {class : ℕ} {table : List ℕ} {inputs netCount : ℕ} {firsts lasts opens : List ℕ} → class ≡ 2
-    → OpensTrue robust table inputs netCount firsts lasts opens → OpensTrue (classOf class) table inputs netCount firsts lasts opens
-class-robust {class} {table} {inputs} {netCount} {firsts} {lasts} {opens} e x =
-    subst (λ k. OpensTrue (classOf k) table inputs netCount firsts lasts opens) (sym e) x
+pub class-robust : {class : ℕ} {table : List ℕ} {inputs netCount : ℕ} {firsts lasts opens₀ opens : List ℕ} → class ≡ 2
+    → OpensTrue robust table inputs netCount firsts lasts opens₀ opens → OpensTrue (classOf class) table inputs netCount firsts lasts opens₀ opens
+class-robust {class} {table} {inputs} {netCount} {firsts} {lasts} {opens₀} {opens} e x =
+    subst (λ k. OpensTrue (classOf k) table inputs netCount firsts lasts opens₀ opens) (sym e) x
 
-pub class-plain : {class : ℕ} {table : List ℕ} {inputs netCount : ℕ} {firsts lasts opens : List ℕ} → (class ≡ 2 → ⊥)
-    → OpensTrue nonRobust table inputs netCount firsts lasts opens → OpensTrue (classOf class) table inputs netCount firsts lasts opens
-class-plain {class} {table} {inputs} {netCount} {firsts} {lasts} {opens} d x =
-    subst (λ c. OpensTrue c table inputs netCount firsts lasts opens) (sym (other class d)) x
+pub class-plain : {class : ℕ} {table : List ℕ} {inputs netCount : ℕ} {firsts lasts opens₀ opens : List ℕ} → (class ≡ 2 → ⊥)
+    → OpensTrue nonRobust table inputs netCount firsts lasts opens₀ opens → OpensTrue (classOf class) table inputs netCount firsts lasts opens₀ opens
+class-plain {class} {table} {inputs} {netCount} {firsts} {lasts} {opens₀} {opens} d x =
+    subst (λ c. OpensTrue c table inputs netCount firsts lasts opens₀ opens) (sym (other class d)) x
   where
     other : (k : ℕ) → (k ≡ 2 → ⊥) → classOf k ≡ nonRobust
     other zero n = refl

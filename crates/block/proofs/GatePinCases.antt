@@ -163,13 +163,13 @@ module _ {table : List ℕ} {first n : ℕ} {opens live : List ℕ} where
         }
 
 pub active-end : {table : List ℕ} {g : Gate} {opens live words : List ℕ} {some more k : ℕ}
-    → Activating table (g .first) (g .pins) opens live words some more k → k ≤ 0 → ActiveIs table g opens live (record { pins = words; some = some; more = more })
+    → Activating table (g .first) (g .pins) opens live words some more k → k ≤ 0 → ActiveIs table g opens live words (record { some = some; more = more })
 active-end {table} {g} {opens} {live} {words} {some} {more} {k} x z =
     let n : g .pins - k ≡ g .pins = omega arith in
     let o : k ≡ 0 = omega arith in
     let q : wordsAt words (numbersFrom k (g .pins - k)) ≡ firstWords words (g .pins) = ap₂ (λ a b. wordsAt words (numbersFrom a b)) o n in
     record {
+      room = x .room;
       each = λ p h t. x .each p (omega arith) h t;
-      some = subst (λ ws. AnyIs ws some) q (x .somes);
-      more = subst (λ ws. MoreIs ws more) q (x .mores);
+      marks = record { some = subst (λ ws. AnyIs ws some) q (x .somes); more = subst (λ ws. MoreIs ws more) q (x .mores) };
     }

@@ -65,28 +65,28 @@ any-map g (n ∷ ns) = ap (λ b. g n || b) (any-map g ns)
 -- one gate in one record
 module _ {N : Netlist} {table : List ℕ} {net : ℕ} {g : Gate} (w : WellFormed N) (low : N .inputs ≤ net) (high : net < nets N) (r : GateRow N table net)
     (i : GateIs table net g) (tests : ℕ → Test) (e : Edge) {n top : ℕ} (above : net < top) {opens live : List ℕ} (o : OpenWords N tests n top opens)
-    (x : LiveWords N tests e n net live) {active : Active} (a : ActiveIs table g opens live active) (t : ℕ) (h : t < n) where
-  pin-bit : (p : ℕ) → p < length (pinsOf N net) → bit (getD (active .pins) p 0) t ≡ activePin N (tests t) e net p
+    (x : LiveWords N tests e n net live) {rows : List ℕ} {active : Active} (a : ActiveIs table g opens live rows active) (t : ℕ) (h : t < n) where
+  pin-bit : (p : ℕ) → p < length (pinsOf N net) → bit (getD rows p 0) t ≡ activePin N (tests t) e net p
   unfolding activePin
   pin-bit p l =
       a .each p (omega (arith, count-is w low high r i)) t
       ∙ ap₂ (λ y z. y && z) (ap (λ f. bit (getD opens (f + p) 0) t) (i .firstIs) ∙ o .words net p low above l t h)
       (ap (λ q. bit (getD live q 0) t) (pin-is w low high r i p l) ∙ x .words (pinNet N net p) (lower w low high r i p l) t h)
 
-  active-row : bitsAt (firstWords (active .pins) (g .pins)) t ≡ map (activePin N (tests t) e net) (numbersFrom 0 (length (pinsOf N net)))
+  active-row : bitsAt (firstWords rows (g .pins)) t ≡ map (activePin N (tests t) e net) (numbersFrom 0 (length (pinsOf N net)))
   active-row =
-      ap (λ m. bitsAt (firstWords (active .pins) m) t) (count-is w low high r i)
-      ∙ row-bits (active .pins) (activePin N (tests t) e net) t (length (pinsOf N net)) 0 (λ p l m. pin-bit p (omega arith))
+      ap (λ m. bitsAt (firstWords rows m) t) (count-is w low high r i)
+      ∙ row-bits rows (activePin N (tests t) e net) t (length (pinsOf N net)) 0 (λ p l m. pin-bit p (omega arith))
 
-  some-true : someActive (active .pins) (g .pins) t ≡ liveNet N (tests t) e net
+  some-true : someActive rows (g .pins) t ≡ liveNet N (tests t) e net
   some-true =
       ap (λ (vs : List Bool). anyOf (λ v. v) vs) active-row ∙ any-map (activePin N (tests t) e net) (numbersFrom 0 (length (pinsOf N net)))
       ∙ sym (live-gate N w (tests t) e net low high)
 
   live-true : bit (active .some) t ≡ liveNet N (tests t) e net
-  live-true = a .some t ∙ some-true
+  live-true = a .marks .some t ∙ some-true
 
-  entry-true : entryOf net (active .pins) (g .pins) t ≡ gateEntry N (tests t) e net
+  entry-true : entryOf net rows (g .pins) t ≡ gateEntry N (tests t) e net
   unfolding gateEntry
   entry-true = ap (λ (vs : List Bool). 256 * net + packBits vs) active-row
 
@@ -128,16 +128,16 @@ module _ {table : List ℕ} {inputs netCount : ℕ} (s : SomeTable table inputs 
       twoMore = λ q h. omega (arith, x .counts q h, few-nets s);
     }
 
-    pub lists-step : net < netCount → {g : Gate} → GateIs table net g → {active : Active} → ActiveIs table g opens live active
-        → {list′ lens′ : List ℕ} → Pushed list lens list′ lens′ (someActive (active .pins) (g .pins)) (entryOf net (active .pins) (g .pins))
+    pub lists-step : net < netCount → {g : Gate} → GateIs table net g → {rows : List ℕ} {active : Active} → ActiveIs table g opens live rows active
+        → {list′ lens′ : List ℕ} → Pushed list lens list′ lens′ (someActive rows (g .pins)) (entryOf net rows (g .pins))
         → Listing table inputs netCount opens start (set live net (active .some)) list₀ list′ lens′ (net + 1)
-    lists-step t {g} i {active} a {list′} {lens′} p = record {
+    lists-step t {g} i {rows} {active} a {list′} {lens′} p = record {
       fromInputs = omega (arith, x .fromInputs);
       toNets = omega arith;
       liveRoom = length-set live net (active .some) ∙ x .liveRoom;
       places = p .sameLength ∙ x .places;
       records = p .sameRecords ∙ x .records;
-      counts = λ q h. omega (arith, p .counts q h, x .counts q h, x .fromInputs, at-most-one (someActive (active .pins) (g .pins) q));
+      counts = λ q h. omega (arith, p .counts q h, x .counts q h, x .fromInputs, at-most-one (someActive rows (g .pins) q));
       right = λ N tests e n c few o y.
           let w = well c in
           let low : N .inputs ≤ net = omega (arith, c .inputsAre, x .fromInputs) in
@@ -152,7 +152,7 @@ module _ {table : List ℕ} {inputs netCount : ℕ} (s : SomeTable table inputs 
             },
             λ q h.
                 p .lists q (omega arith)
-                ∙ ap (λ v. pushIf (someActive (active .pins) (g .pins) q) v (entries list lens q)) (entry-true w low high r i tests e t o (z .0) a q h)
+                ∙ ap (λ v. pushIf (someActive rows (g .pins) q) v (entries list lens q)) (entry-true w low high r i tests e t o (z .0) a q h)
                 ∙ ap₂ (λ v (u : List ℕ). pushIf v (gateEntry N (tests q) e net) u) (some-true w low high r i tests e t o (z .0) a q h) (z .1 q h)
                 ∙ ap (λ j. pushIf (liveNet N (tests q) e j) (gateEntry N (tests q) e j) (liveEntries N (tests q) e (net - inputs))) (sym k)
                 ∙ sym (entries-more N (tests q) e (net - inputs)) ∙ ap (λ j. liveEntries N (tests q) e j) (sym m),

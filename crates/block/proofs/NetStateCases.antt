@@ -12,40 +12,39 @@ use Rattle.block.specs.Words.{WordIs, GateIs, SeenIs, ValueIs}
 use Rattle.block.specs.Robust.{HeldIs, SteadyIs, RobustFilled}
 use Rattle.block.specs.Table.{CircuitTable, SomeTable}
 use Rattle.block.specs.Block.{BlockOf, evaluated, StateWords, OpenWords}
-use Rattle.block.specs.NetWords.{StateRoom, RobustNets}
+use Rattle.block.specs.NetWords.{OpensKept, StateRoom, RobustNets}
 use Rattle.block.specs.declared.inner.gates.Gate.{Gate}
 use Rattle.block.specs.declared.inner.gates.Seen.{Seen}
-use Rattle.block.proofs.GateTableLaws.{few-nets, from-inputs, well}
+use Rattle.block.proofs.GateTableLaws.{few-nets, from-inputs, well, gate-pins}
 use Rattle.block.proofs.BlockNetLaws.{value-first, value-last, steady-true, robust-true, opens-more}
-use Rattle.block.proofs.PlainCases.{no-opens}
+use Rattle.block.proofs.PlainCases.{no-opens, kept-start, kept-more}
 
 -- the nets before `net` are done
-pub record Stated (table : List ℕ) (inputs netCount : ℕ) (firsts₀ lasts₀ steadies₀ firsts lasts steadies opens : List ℕ) (net : ℕ) : Type 0 where
+pub record Stated (table : List ℕ) (inputs netCount : ℕ) (firsts₀ lasts₀ steadies₀ firsts lasts steadies opens₀ opens : List ℕ) (net : ℕ) : Type 0 where
   pub fromInputs : inputs ≤ net
   pub toNets : net ≤ netCount
   pub stateRoom : StateRoom firsts lasts steadies
-  pub openRoom : length opens ≡ 4096
+  pub openKept : OpensKept opens₀ opens
   pub right : (N : Netlist) (tests : ℕ → Test) (n : ℕ) → CircuitTable N table inputs netCount → BlockOf tests robust n
       → StateWords N tests n inputs firsts₀ lasts₀ steadies₀ → StateWords N tests n net firsts lasts steadies × OpenWords N tests n net opens
 
-module _ {table : List ℕ} {inputs netCount : ℕ} (s : SomeTable table inputs netCount) {firsts₀ lasts₀ steadies₀ : List ℕ} where
-  pub state-start : {opens : List ℕ} → StateRoom firsts₀ lasts₀ steadies₀ → length opens ≡ 4096
-      → Stated table inputs netCount firsts₀ lasts₀ steadies₀ firsts₀ lasts₀ steadies₀ opens inputs
-  state-start {opens} r q = record {
+module _ {table : List ℕ} {inputs netCount : ℕ} (s : SomeTable table inputs netCount) {firsts₀ lasts₀ steadies₀ opens₀ : List ℕ} where
+  pub state-start : StateRoom firsts₀ lasts₀ steadies₀ → Stated table inputs netCount firsts₀ lasts₀ steadies₀ firsts₀ lasts₀ steadies₀ opens₀ opens₀ inputs
+  state-start r = record {
     fromInputs = omega arith;
     toNets = from-inputs s;
     stateRoom = r;
-    openRoom = q;
-    right = λ N tests n c b x. (x, no-opens c tests n opens);
+    openKept = kept-start;
+    right = λ N tests n c b x. (x, no-opens c tests n opens₀);
   }
 
-  module _ {firsts lasts steadies opens : List ℕ} {net : ℕ} (x : Stated table inputs netCount firsts₀ lasts₀ steadies₀ firsts lasts steadies opens net) where
+  module _ {firsts lasts steadies opens : List ℕ} {net : ℕ} (x : Stated table inputs netCount firsts₀ lasts₀ steadies₀ firsts lasts steadies opens₀ opens net) where
     pub state-step : net < netCount → {g : Gate} → GateIs table net g → {first last loose : Seen} → SeenIs table g (g .flip) firsts first
         → SeenIs table g (g .flip) lasts last → SeenIs table g (2 ^ 64 - 1) steadies loose → {held : ℕ} → HeldIs table g lasts steadies held
         → {opens′ : List ℕ} → RobustFilled table g last loose firsts lasts steadies opens opens′
         → {v1 v2 steady : ℕ} → ValueIs (g .kind) (first .one) (first .parity) v1 → ValueIs (g .kind) (last .one) (last .parity) v2
         → SteadyIs (g .kind) (loose .one) held steady
-        → Stated table inputs netCount firsts₀ lasts₀ steadies₀ (set firsts net v1) (set lasts net v2) (set steadies net steady) opens′ (net + 1)
+        → Stated table inputs netCount firsts₀ lasts₀ steadies₀ (set firsts net v1) (set lasts net v2) (set steadies net steady) opens₀ opens′ (net + 1)
     state-step t {g} i {first} {last} {loose} s₁ s₂ s₃ {held} a {opens′} f {v1} {v2} {steady} m₁ m₂ m₃ = record {
       fromInputs = omega (arith, x .fromInputs);
       toNets = omega arith;
@@ -54,7 +53,7 @@ module _ {table : List ℕ} {inputs netCount : ℕ} (s : SomeTable table inputs 
         last = length-set lasts net v2 ∙ x .stateRoom .last;
         steady = length-set steadies net steady ∙ x .stateRoom .steady;
       };
-      openRoom = f .sameLength ∙ x .openRoom;
+      openKept = kept-more (gate-pins s (x .fromInputs) t i) f (x .openKept);
       right = λ N tests n c b y.
           let low : N .inputs ≤ net = omega (arith, c .inputsAre, x .fromInputs) in
           let high : net < nets N = omega (arith, c .netsAre) in
@@ -79,11 +78,11 @@ module _ {table : List ℕ} {inputs netCount : ℕ} (s : SomeTable table inputs 
           );
     }
 
-    pub state-end : netCount ≤ net → RobustNets table inputs netCount firsts₀ lasts₀ steadies₀ firsts lasts steadies opens
+    pub state-end : netCount ≤ net → RobustNets table inputs netCount firsts₀ lasts₀ steadies₀ firsts lasts steadies opens₀ opens
     state-end h =
         let e : net ≡ netCount = omega (arith, x .toNets) in
         record {
           stateRoom = x .stateRoom;
-          openRoom = x .openRoom;
+          openKept = x .openKept;
           right = λ N tests n c b y. subst (λ m. StateWords N tests n m firsts lasts steadies × OpenWords N tests n m opens) e (x .right N tests n c b y);
         }

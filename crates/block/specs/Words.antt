@@ -111,8 +111,13 @@ OpensFilled table g seen values before after = Filled (g .first) (g .pins) (λ p
 abbrev pub firstWords : List ℕ → ℕ → List ℕ
 firstWords array n = wordsAt array (numbersFrom 0 n)
 
--- a pin is active where it is open and its net live; where one or more are, and two or more
-pub record ActiveIs (table : List ℕ) (g : Gate) (opens live : List ℕ) (r : Active) : Type 0 where
-  pub each : (p : ℕ) → p < g .pins → (t : ℕ) → bit (getD (r .pins) p 0) t ≡ (bit (getD opens (g .first + p) 0) t && bit (pinWord table g live p) t)
-  pub some : (t : ℕ) → bit (r .some) t ≡ anyOf (λ v. v) (bitsAt (firstWords (r .pins) (g .pins)) t)
-  pub more : (t : ℕ) → bit (r .more) t ≡ twoOf (λ v. v) (bitsAt (firstWords (r .pins) (g .pins)) t)
+-- where one or more of the first words have a bit, and where two or more
+pub record Marked (rows : List ℕ) (pins : ℕ) (r : Active) : Type 0 where
+  pub some : (t : ℕ) → bit (r .some) t ≡ anyOf (λ v. v) (bitsAt (firstWords rows pins) t)
+  pub more : (t : ℕ) → bit (r .more) t ≡ twoOf (λ v. v) (bitsAt (firstWords rows pins) t)
+
+-- a pin is active where it is open and its net live
+pub record ActiveIs (table : List ℕ) (g : Gate) (opens live rows : List ℕ) (r : Active) : Type 0 where
+  pub room : length rows ≡ 8
+  pub each : (p : ℕ) → p < g .pins → (t : ℕ) → bit (getD rows p 0) t ≡ (bit (getD opens (g .first + p) 0) t && bit (pinWord table g live p) t)
+  pub marks : Marked rows (g .pins) r

@@ -6,3 +6,4 @@ pub mod OneMoreLaws
 pub mod BlockReadCases
 pub mod PlaceCases
 pub mod PlaceTableLaws
+pub mod LentWorkLaws

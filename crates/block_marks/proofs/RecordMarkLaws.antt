@@ -61,9 +61,9 @@ module _ {vectors upOuts upLens downOuts downLens marks₀ marks₁ marks : List
         w₂ .edges t j h ∙ ap₂ (λ y z. not y && z) (v .second t j h l) (first-at j l) ∙ and-turn (not (getD (tests t .v2) j false)) (getD (tests t .v1) j false)
 
 -- all marks, from what the steps promise
-module _ {table places : List ℕ} {b : Batch} (s : BatchTables table places b) {vectors firsts lasts opens ups₀ ups downs₀ downs marks₀ marks₁ marks : List ℕ} {up down : Listed}
+module _ {table places : List ℕ} {b : Batch} (s : BatchTables table places b) {vectors firsts lasts opens₀ opens ups₀ ups downs₀ downs marks₀ marks₁ marks : List ℕ} {up down : Listed}
     (s₁ : SpreadIs vectors 0 (b .records) firsts) (s₂ : SpreadIs vectors 64 (b .records) lasts)
-    (o : OpensTrue (classOf (b .class)) table (b .inputs) (b .nets) firsts lasts opens)
+    (o : OpensTrue (classOf (b .class)) table (b .inputs) (b .nets) firsts lasts opens₀ opens)
     (r₁ : 33792 ≤ length ups₀) (e₁ : EdgeListed table places b firsts lasts opens ups₀ ups up) (w₁ : EdgeWritten vectors (b .records) 0 (up .outs) (up .lens) marks₀ marks₁)
     (r₂ : 33792 ≤ length downs₀) (e₂ : EdgeListed table places b lasts firsts opens downs₀ downs down)
     (w₂ : EdgeWritten vectors (b .records) 64 (down .outs) (down .lens) marks₁ marks) where

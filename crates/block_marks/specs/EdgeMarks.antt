@@ -5,9 +5,10 @@ use mathlib.Core.Bool.{_&&_, not}
 use mathlib.Core.List.{List}
 use Prim.Native.Nat.{ℕ, _+_, _-_, _≤_, _<_}
 use lib.Dec.{leb, ltb}
-use lib.ListN.{length, getD}
+use lib.ListN.{length, getD, drop}
 use Rattle.model.specs.Base.{bit}
 use Rattle.model.specs.Netlist.{Netlist}
+use Rattle.model.specs.Calls.{workWords}
 use Rattle.model.specs.Path.{Edge}
 use Rattle.model.specs.Detect.{Test, hasEdge}
 use Rattle.block.specs.Block.{OpenWords}
@@ -56,3 +57,8 @@ pub record EdgeWritten (vectors : List ℕ) (n first : ℕ) (outs lens before af
   pub outsAt : (t : ℕ) → t < n → getD after (128 + first + t) 0 ≡ getD outs t 0
   pub lensAt : (t : ℕ) → t < n → getD after (256 + first + t) 0 ≡ getD lens t 0
   pub others : (k : ℕ) → ((t : ℕ) → t < 64 → (k ≡ first + t → ⊥) × (k ≡ 128 + first + t → ⊥) × (k ≡ 256 + first + t → ⊥)) → getD after k 0 ≡ getD before k 0
+
+-- the working memory after a use that leaves what stands past it
+pub record WorkKept (before after : List ℕ) : Type 0 where
+  pub sameLength : length after ≡ length before
+  pub pastWork : drop workWords after ≡ drop workWords before

@@ -8,9 +8,10 @@ use native.Mathlib.Omega.{arith}
 use borrow.Author.Needs.{needs}
 use lib.ListN.{length}
 use Rattle.block.proofs.WordLaws.{same-place}
-use Rattle.block_runs.specs.Spans.{firstOf, endOf, shiftOf, InputSpans}
+use Rattle.block_runs.specs.Spans.{firstOf, endOf, shiftOf, Ascending, InputSpans}
 use Rattle.block_runs.specs.PinSpans.{withSpan, SameSpan}
-use Rattle.block_runs.proofs.SpanCases.{span-length, span-others, span-first, span-end, span-shift}
+use Rattle.block_runs.proofs.SectionLaws.{ascending-same}
+use Rattle.block_runs.proofs.SpanCases.{span-length, span-others, span-past, span-first, span-end, span-shift}
 
 -- a value at one place more
 one-more : (f : ℕ → ℕ) (v i : ℕ) → f i ≡ v → ((j : ℕ) → j < i → f j ≡ v) → (j : ℕ) → j < i + 1 → f j ≡ v
@@ -21,11 +22,11 @@ pub record InputsSpanned (inputs : ℕ) (spans : List ℕ) (input : ℕ) : Type 
   pub within : input ≤ inputs
   pub spanned : InputSpans spans input
 
-pub spans-start : {inputs : ℕ} {spans : List ℕ} → inputs ≤ 64 → length spans ≡ 1536 → InputsSpanned inputs spans 0
-spans-start h room = record {
+pub spans-start : {inputs : ℕ} {spans : List ℕ} → inputs ≤ 64 → length spans ≡ 1666 → Ascending spans 1536 → Ascending spans 1601 → InputsSpanned inputs spans 0
+spans-start h room up down = record {
   few = h;
   within = omega arith;
-  spanned = record { room = room; firsts = λ j l. absurd (omega arith); ends = λ j l. absurd (omega arith); shifts = λ j l. absurd (omega arith) };
+  spanned = record { room = room; rising = up; falling = down; firsts = λ j l. absurd (omega arith); ends = λ j l. absurd (omega arith); shifts = λ j l. absurd (omega arith) };
 }
 
 module _ {inputs : ℕ} {spans : List ℕ} {input : ℕ} (x : InputsSpanned inputs spans input) where
@@ -33,13 +34,13 @@ module _ {inputs : ℕ} {spans : List ℕ} {input : ℕ} (x : InputsSpanned inpu
   spans-end h = let e : input ≡ inputs = omega (arith, x .within) in subst (λ n. InputSpans spans n) e (x .spanned)
 
   module _ (l : input < inputs) where
-    pub input-place : input < 1536
+    pub input-place : input < 1666
     input-place = omega (arith, x .few)
 
-    pub input-end-place : 512 + input < 1536
+    pub input-end-place : 512 + input < 1666
     input-end-place = omega (arith, x .few)
 
-    pub input-shift-place : 1024 + input < 1536
+    pub input-shift-place : 1024 + input < 1666
     input-shift-place = omega (arith, x .few)
 
     abbrev now : List ℕ
@@ -59,6 +60,8 @@ module _ {inputs : ℕ} {spans : List ℕ} {input : ℕ} (x : InputsSpanned inpu
           within = omega arith;
           spanned = record {
             room = span-length spans input 0 1 0 ∙ room;
+            rising = ascending-same (λ k p q. span-past spans input 0 1 0 few k p) (x .spanned .rising);
+            falling = ascending-same (λ k p q. span-past spans input 0 1 0 few k (omega arith)) (x .spanned .falling);
             firsts = one-more (firstOf now) 0 input (span-first spans input 0 1 0 few room) (λ j h. others j h .firsts ∙ x .spanned .firsts j h);
             ends = one-more (endOf now) 1 input (span-end spans input 0 1 0 few room) (λ j h. others j h .ends ∙ x .spanned .ends j h);
             shifts = one-more (shiftOf now) 0 input (span-shift spans input 0 1 0 few room) (λ j h. others j h .shifts ∙ x .spanned .shifts j h);

@@ -1,6 +1,9 @@
 pub mod BitRunLaws
 pub mod PinSpanSteps
 pub mod WorkingSteps
+pub mod SectionLaws
+pub mod SectionCases
+pub mod HeldLaws
 pub mod SpanCases
 pub mod EntryLaws
 pub mod LiveRunLaws

@@ -1,4 +1,4 @@
--- One record and edge: the runs of the listed nets, then those of the detected path numbers; Full exactly where the working runs are over 1,024.
+-- One record and edge: the runs of the listed nets, Full exactly where the working runs are over 1,024; and those of the detected path numbers after them.
 -- Assumes nothing.
 use mathlib.Core.Path.{_≡_, refl, sym, ap, _∙_}
 use mathlib.Core.Bool.{Bool, true, false, not, cond}
@@ -28,7 +28,7 @@ use Rattle.intervals.proofs.StandLaws.{kept-then}
 use Rattle.intervals.proofs.DetectedLaws.{unmade-edge, input-set, few-detected}
 use Rattle.block_runs.specs.Spans.{InputSpans, ListedAt, SomeListedAt, SpansMade}
 use Rattle.block_runs.specs.PinSpans.{NetsListed, SomeNetsListed}
-use Rattle.block_runs.specs.LiveOutputs.{runsOfOutputs, OutputsReady}
+use Rattle.block_runs.specs.LiveOutputs.{runsOfOutputs, SpansListed}
 use Rattle.block_runs.proofs.LiveOutputLaws.{outputs-detect, outputs-ready}
 
 over-true : {b : Bool} {n : ℕ} → b ≡ true → b ≡ not (leb n maxRuns) → maxRuns < n
@@ -64,8 +64,8 @@ begun-run ws h =
     (getD-set-other (set ws 0 1) 1 0 1 0 (λ e. omega arith) ∙ getD-set-same ws 0 1 0 (omega arith))
     (getD-set-same (set ws 0 1) 1 1 0 (omega (arith, length-set ws 0 1)))
 
-module _ {table places entries : List ℕ} {edges outs inputs : ℕ} {spans ws : List ℕ} where
-  module _ {K : Case} (a : ListedAt K table places entries edges outs inputs spans ws) where
+module _ {table places entries : List ℕ} {edges inputs : ℕ} {spans ws : List ℕ} where
+  module _ {K : Case} {outs : ℕ} (a : ListedAt K table places entries edges outs inputs spans ws) where
     well : WellFormed (K .netlist)
     well = legal (a .circuit .file) (K .netlist) (a .circuit .legal)
 
@@ -101,53 +101,70 @@ module _ {table places entries : List ℕ} {edges outs inputs : ℕ} {spans ws :
         let e : onlyIf (bit edges n) (run 1 1 ∷ []) ≡ setRuns K n = ap (λ b. onlyIf b (run 1 1 ∷ [])) (a .listed .makesEdge n i) ∙ input-set K well n i in
         omega (arith, inputs-before n (omega arith), ap (length {A = Run}) e)
 
-  pub listed-nets : SomeListedAt table places entries edges outs inputs spans ws → SomeNetsListed table places entries spans (set (set ws 0 1) 1 1)
+  pub listed-nets : SomeListedAt table places entries edges inputs spans ws → SomeNetsListed table places entries spans (set (set ws 0 1) 1 1)
   listed-nets k = record { case = k .case; inputs = inputs; at-nets = begun-listed (k .at-list) }
 
   -- after the nets
   module _ {ws₁ spans₁ : List ℕ} {q : Added}
       (made : (K : Case) (inputs : ℕ) → NetsListed K inputs table places entries spans (set (set ws 0 1) 1 1) → SpansMade K inputs (set (set ws 0 1) 1 1) ws₁ spans₁ q) where
-    pub listed-spans : SomeListedAt table places entries edges outs inputs spans ws → InputSpans spans₁ inputs
+    pub listed-spans : SomeListedAt table places entries edges inputs spans ws → InputSpans spans₁ inputs
     listed-spans k = made (k .case) inputs (begun-listed (k .at-list)) .inputSpans
 
-    module _ {K : Case} (a : ListedAt K table places entries edges outs inputs spans ws) where
+    module _ {K : Case} {outs : ℕ} (a : ListedAt K table places entries edges outs inputs spans ws) where
       m : SpansMade K inputs (set (set ws 0 1) 1 1) ws₁ spans₁ q
       m = made K inputs (begun-listed a)
 
       kept : Kept ws ws₁
       kept = kept-then (begun-kept ws) (m .kept)
 
-      over : maxRuns < working K → Detects K ws ws₁ Full
+      over : maxRuns < working K → SpansListed K places outs spans₁ ws ws₁ Full
       over l = record {
-        answers = ap (λ x. cond x (Count (length (detected K))) Full) (sym (lt-leb (working K) maxRuns l));
-        runsAre = λ n p. absurd (full-count p);
-        kept = λ k h. kept .above k (omega arith);
+        kept = kept;
+        over = λ e. l;
+        fits = λ n p. absurd (full-count p);
+        ready = λ n p. absurd (full-count p);
+        detects = λ n p. absurd (full-count p);
       }
 
-      pub listed-full : q ≡ Full → Detects K ws ws₁ Full
+      pub listed-full : q ≡ Full → SpansListed K places outs spans₁ ws ws₁ Full
       listed-full t = over (m .full t)
 
       module _ {n : ℕ} (t : q ≡ Count n) {b : Bool} (e : b ≡ not (leb (runsBefore (inputRuns edges) inputs + n) maxRuns)) where
         working-is : runsBefore (inputRuns edges) inputs + n ≡ working K
         working-is = ap (λ k. k + n) (inputs-before a inputs (omega arith)) ∙ m .total n t
 
-        pub listed-over : b ≡ true → Detects K ws ws₁ Full
+        pub listed-over : b ≡ true → SpansListed K places outs spans₁ ws ws₁ Full
         listed-over o = over (omega (arith, over-true {n = runsBefore (inputRuns edges) inputs + n} o e, working-is))
 
-        pub listed-ready : OutputsReady places outs spans₁ ws₁
-        listed-ready = outputs-ready K (well a) (lim a) (a .placed) (a .listed) (m .spans n t) (omega (arith, a .room, kept .same))
+        pub listed-fits : b ≡ false → SpansListed K places outs spans₁ ws ws₁ (Count n)
+        listed-fits f = record {
+          kept = kept;
+          over = λ p. absurd (full-count (sym p));
+          fits = λ k p. omega (arith, over-false {n = runsBefore (inputRuns edges) inputs + n} f e, working-is);
+          ready = λ k p. outputs-ready K (well a) (lim a) (a .placed) (a .listed) (m .spans n t) (omega (arith, a .room, kept .same));
+          detects = λ k p. outputs-detect K (well a) (lim a) (a .placed) (a .listed) (m .spans n t);
+        }
 
-        pub listed-detects : {ws₂ : List ℕ} {r : Added} → b ≡ false → Adds ws₁ ws₂ maxRuns maxRuns (runsOfOutputs places outs spans₁ ws₁) r → Detects K ws ws₂ r
-        listed-detects {ws₂} {r} f x =
-            let y : Adds ws₁ ws₂ maxRuns maxRuns (detected K) r = as-adds (outputs-detect K (well a) (lim a) (a .placed) (a .listed) (m .spans n t)) refl x in
-            let fit : working K ≤ maxRuns = omega (arith, over-false {n = runsBefore (inputRuns edges) inputs + n} f e, working-is) in
-            record {
-              answers =
-                  y .answers ∙ answer-fits maxRuns (detected K) (length (detected K)) refl (omega (arith, few-detected K (well a)))
-                  ∙ ap (λ z. cond z (Count (length (detected K))) Full) (sym (le-leb (working K) maxRuns fit));
-              runsAre = λ k p. adds-count ws₁ ws₂ maxRuns maxRuns k (detected K) r (omega (arith, a .room, kept .same)) p y .2;
-              kept = λ k h. adds-kept k (omega arith) y ∙ kept .above k (omega arith);
-            }
+  -- what was made of the list, as the detected runs
+  module _ {K : Case} {outs : ℕ} (a : ListedAt K table places entries edges outs inputs spans ws) {ws₁ spans₁ : List ℕ} {q : Added}
+      (s : SpansListed K places outs spans₁ ws ws₁ q) where
+    pub spans-over : q ≡ Full → Detects K ws ws₁ Full
+    spans-over t = record {
+      answers = ap (λ x. cond x (Count (length (detected K))) Full) (sym (lt-leb (working K) maxRuns (s .over t)));
+      runsAre = λ n p. absurd (full-count p);
+      kept = λ k h. s .kept .above k (omega arith);
+    }
 
-pub ruleset listed-cases =
-    (begun-same, listed-inputs, listed-none, listed-nets, listed-spans, listed-full, listed-over, listed-ready, listed-detects, needs)
+    pub spans-detect : {n : ℕ} → q ≡ Count n → {ws₂ : List ℕ} {r : Added} → Adds ws₁ ws₂ maxRuns maxRuns (runsOfOutputs places outs spans₁ ws₁) r → Detects K ws ws₂ r
+    spans-detect {n} t {ws₂} {r} x =
+        let y : Adds ws₁ ws₂ maxRuns maxRuns (detected K) r = as-adds (s .detects n t) refl x in
+        let fit : working K ≤ maxRuns = s .fits n t in
+        record {
+          answers =
+              y .answers ∙ answer-fits maxRuns (detected K) (length (detected K)) refl (omega (arith, few-detected K (well a)))
+              ∙ ap (λ z. cond z (Count (length (detected K))) Full) (sym (le-leb (working K) maxRuns fit));
+          runsAre = λ k p. adds-count ws₁ ws₂ maxRuns maxRuns k (detected K) r (omega (arith, a .room, s .kept .same)) p y .2;
+          kept = λ k h. adds-kept k (omega arith) y ∙ s .kept .above k (omega arith);
+        }
+
+pub ruleset listed-cases = (begun-same, listed-inputs, listed-nets, listed-spans, listed-full, listed-over, listed-fits, needs)

@@ -61,11 +61,14 @@ module _ (spans : List ℕ) (net first end shift : ℕ) where
         minus : (k a b : ℕ) → k + a ≡ k + b → a ≡ b
         minus k a b e = omega arith
 
-    module _ (room : length spans ≡ 1536) where
-      long : length (set spans net first) ≡ 1536
+    pub span-past : (k : ℕ) → 1536 ≤ k → getD (withSpan spans net first end shift) k 0 ≡ getD spans k 0
+    span-past k h = elsewhere k (λ e. far k net (omega arith) e) (λ e. far k (512 + net) (omega arith) e) (λ e. far k (1024 + net) (omega arith) e)
+
+    module _ (room : length spans ≡ 1666) where
+      long : length (set spans net first) ≡ 1666
       long = length-set spans net first ∙ room
 
-      longer : length (set (set spans net first) (512 + net) end) ≡ 1536
+      longer : length (set (set spans net first) (512 + net) end) ≡ 1666
       longer = length-set (set spans net first) (512 + net) end ∙ long
 
       pub span-first : firstOf (withSpan spans net first end shift) net ≡ first
@@ -161,6 +164,7 @@ module _ {table places : List ℕ} {entry : ℕ} {spans ws : List ℕ} {made : �
       below = λ f k h. refl;
       sameRoom = ap length e ∙ span-length spans net first end shift;
       others = λ q h d. subst (λ x. SameSpan spans x q) (sym e) (span-others spans net first end shift (r .isNet) q h d);
+      sections = λ k h. ap (λ (x : List ℕ). getD x k 0) e ∙ span-past spans net first end shift (r .isNet) k h;
       over = λ p. absurd (made-over p);
       spanned = as-made (record {
         counted = n ∙ sym (ap length one-runs ∙ length-shift shift (standing spans ws source) ∙ length-runs ws first (end - first));
@@ -212,6 +216,7 @@ module _ {table places : List ℕ} {entry : ℕ} {spans ws : List ℕ} {made : �
       below = below;
       sameRoom = refl;
       others = λ p h k. record { firsts = refl; ends = refl; shifts = refl };
+      sections = λ k h. refl;
       over = λ p. omega (arith, answer-over (maxRuns - made) s (sym t ∙ d .answers), r .byte .used);
       spanned = λ count after p. absurd (over-made p);
     }
@@ -230,6 +235,7 @@ module _ {table places : List ℕ} {entry : ℕ} {spans ws : List ℕ} {made : �
         below = below;
         sameRoom = ap length e ∙ span-length spans net made (made + c) 0;
         others = λ p h k. subst (λ x. SameSpan spans x p) (sym e) (span-others spans net made (made + c) 0 (r .isNet) p h k);
+        sections = λ k h. ap (λ (x : List ℕ). getD x k 0) e ∙ span-past spans net made (made + c) 0 (r .isNet) k h;
         over = λ p. absurd (made-over p);
         spanned = as-made (record {
           counted = added .1;

@@ -19,6 +19,7 @@ use Rattle.block.proofs.LiveLaws.{live-input}
 use Rattle.block_runs.specs.Spans.{firstOf, endOf, standing, SpanIs, InputSpans}
 use Rattle.block_runs.specs.PinSpans.{SameSpan, NetSpanned, NetsListed}
 use Rattle.block_runs.specs.declared.nets.Grown.{Grown}
+use Rattle.block_runs.proofs.SectionLaws.{ascending-same}
 
 -- nets without runs add none
 pub runs-dead : (f : ℕ → List Run) (n m : ℕ) → n ≤ m → ((q : ℕ) → n ≤ q → q < m → f q ≡ []) → runsBefore f m ≡ runsBefore f n
@@ -52,6 +53,8 @@ module _ {made net : ℕ} {s : List Run} {spans ws spans′ ws′ : List ℕ} {r
       let o : (j : ℕ) → j < inputs → SameSpan spans spans′ j = λ j k. m .others j (omega arith) (λ e. omega arith) in
       record {
         room = m .sameRoom ∙ x .room;
+        rising = ascending-same (λ k p q. m .sections k p) (x .rising);
+        falling = ascending-same (λ k p q. m .sections k (omega arith)) (x .falling);
         firsts = λ j k. o j k .firsts ∙ x .firsts j k;
         ends = λ j k. o j k .ends ∙ x .ends j k;
         shifts = λ j k. o j k .shifts ∙ x .shifts j k;

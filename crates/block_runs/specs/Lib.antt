@@ -1,3 +1,4 @@
 pub mod Spans
 pub mod PinSpans
 pub mod LiveOutputs
+pub mod Sections

@@ -1,4 +1,5 @@
--- The runs that the live outputs add one after the other: those of their nets, shifted by the paths of the outputs before.
+-- The runs that the live outputs add one after the other: those of their nets, shifted by the paths of the outputs before. And what is made of a record's list
+-- before them.
 -- Assumes nothing.
 use mathlib.Core.Path.{_≡_}
 use mathlib.Core.Bool.{true}
@@ -9,6 +10,10 @@ use Rattle.model.specs.Base.{bit}
 use Rattle.model.specs.Runs.{Run}
 use Rattle.model.specs.Store.{maxRuns}
 use Rattle.runs.specs.RunLists.{Sound, addRuns, shiftRuns}
+use Rattle.runs.specs.declared.inner.Added.{Added}
+use Rattle.runs.specs.declared.inner.Added.the-variants.{Count, Full}
+use Rattle.intervals.specs.Edges.{Case, detected, working}
+use Rattle.intervals.specs.Nets.{Kept}
 use Rattle.block_runs.specs.Spans.{firstOf, endOf, shiftOf, standing}
 use Rattle.block_runs.specs.PinSpans.{bitRuns}
 
@@ -38,3 +43,11 @@ pub record OutputReady (places spans ws : List ℕ) (o : ℕ) : Type 0 where
 pub record OutputsReady (places : List ℕ) (outs : ℕ) (spans ws : List ℕ) : Type 0 where
   pub room : 4 * maxRuns ≤ length ws
   pub each : (o : ℕ) → o < 64 → bit outs o ≡ true → OutputReady places spans ws o
+
+-- the runs of a record's listed nets stand, by their spans: Full exactly where the working runs are over 1,024, and else the live outputs add the detected runs
+pub record SpansListed (K : Case) (places : List ℕ) (outs : ℕ) (spans′ ws ws′ : List ℕ) (r : Added) : Type 0 where
+  pub kept : Kept ws ws′
+  pub over : r ≡ Full → maxRuns < working K
+  pub fits : (n : ℕ) → r ≡ Count n → working K ≤ maxRuns
+  pub ready : (n : ℕ) → r ≡ Count n → OutputsReady places outs spans′ ws′
+  pub detects : (n : ℕ) → r ≡ Count n → runsOfOutputs places outs spans′ ws′ ≡ detected K

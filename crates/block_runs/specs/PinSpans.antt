@@ -55,7 +55,7 @@ pub record ByteReady (table places spans ws : List ℕ) (made first byte : ℕ) 
 -- a list's entry: 256 net + byte of active pins
 pub record EntryReady (table places : List ℕ) (entry : ℕ) (spans ws : List ℕ) (made : ℕ) : Type 0 where
   pub isNet : entry / 256 < 512
-  pub spanRoom : length spans ≡ 1536
+  pub spanRoom : length spans ≡ 1666
   pub byte : ByteReady table places spans ws made (8 * (entry / 256)) (entry % 256)
 
 abbrev pub entryRuns : List ℕ → List ℕ → ℕ → List ℕ → List ℕ → List Run
@@ -89,6 +89,7 @@ pub record NetSpanned (made net : ℕ) (s : List Run) (spans ws spans′ ws′ :
   pub below : (f k : ℕ) → f + k ≤ made → runsInWords ws′ f k ≡ runsInWords ws f k
   pub sameRoom : length spans′ ≡ length spans
   pub others : (q : ℕ) → q < 512 → (q ≡ net → ⊥) → SameSpan spans spans′ q
+  pub sections : (k : ℕ) → 1536 ≤ k → getD spans′ k 0 ≡ getD spans k 0
   pub over : r ≡ Over → maxRuns < made + length s
   pub spanned : (count after : ℕ) → r ≡ Made count after → SpanMade made net s spans′ ws′ count after
 

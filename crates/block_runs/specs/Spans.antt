@@ -38,9 +38,17 @@ pub record SpanIs (K : Case) (spans ws : List ℕ) (made net : ℕ) : Type 0 whe
   pub sound : Sound (2 ^ 62) (standing spans ws net)
   pub runs : shiftRuns (shiftOf spans net) (standing spans ws net) ≡ setRuns K net
 
--- every input has the run at run place 0, which is 1 to 1 where it makes the edge
+-- the sections of an edge's held runs, one for each output, from place `base` on: each begins no lower than the one before it and no higher than the last ends.
+-- Where they are begun says nothing of the runs: what is looked for in a section is compared with the run that is found.
+pub record Ascending (spans : List ℕ) (base : ℕ) : Type 0 where
+  pub next : (o : ℕ) → o < 64 → getD spans (base + o) 0 ≤ getD spans (base + o + 1) 0
+  pub most : (o : ℕ) → o ≤ 64 → getD spans (base + o) 0 ≤ getD spans (base + 64) 0
+
+-- every input has the run at run place 0, which is 1 to 1 where it makes the edge; after the spans stand the sections of the rising and of the falling edge
 pub record InputSpans (spans : List ℕ) (inputs : ℕ) : Type 0 where
-  pub room : length spans ≡ 1536
+  pub room : length spans ≡ 1666
+  pub rising : Ascending spans 1536
+  pub falling : Ascending spans 1601
   pub firsts : (j : ℕ) → j < inputs → firstOf spans j ≡ 0
   pub ends : (j : ℕ) → j < inputs → endOf spans j ≡ 1
   pub shifts : (j : ℕ) → j < inputs → shiftOf spans j ≡ 0
@@ -53,8 +61,9 @@ pub record ListedAt (K : Case) (table places entries : List ℕ) (edges outs inp
   pub inputSpans : InputSpans spans inputs
   pub room : 4 * maxRuns ≤ length ws
 
-pub record SomeListedAt (table places entries : List ℕ) (edges outs inputs : ℕ) (spans ws : List ℕ) : Type 0 where
+pub record SomeListedAt (table places entries : List ℕ) (edges inputs : ℕ) (spans ws : List ℕ) : Type 0 where
   pub case : Case
+  pub outs : ℕ
   pub at-list : ListedAt case table places entries edges outs inputs spans ws
 
 -- the runs of the listed nets: the number of all of them, those that stand and those by reference; Full only where the working runs are over 1,024

@@ -1,19 +1,21 @@
 // Each caller proves what a function requires.
 ghost use mathlib.Core.Path.{_≡_};
-ghost use Prim.Native.Nat.{_≤_};
+ghost use Prim.Native.Nat.{ℕ, _≤_};
 ghost use lib.ListN.{length};
-ghost use Rattle.intervals.specs.Edges.{Case, Detects};
+ghost use Rattle.intervals.specs.Edges.{Case};
 ghost use Rattle.block_runs.specs.Spans.{InputSpans, ListedAt, SomeListedAt};
+ghost use Rattle.block_runs.specs.LiveOutputs.{SpansListed};
 use crate::nets::net_spans;
 use crate::nets::over_working;
-use crate::outputs::out_runs;
+use crate::sections::clear_sections;
 use runs::inner::Added;
 
-// The spans of the inputs, the same for every record and edge: each has the run at run place 0.
-pub fn input_spans(spans: &mut [u64; 1536], inputs: usize)
-    requires { ⌜ (inputs ≤ 64) × (length (now spans) ≡ 1536) ⌝ }
+// The spans of the inputs, the same for every record and edge: each has the run at run place 0. The sections of both edges are empty until they are found.
+pub fn input_spans(spans: &mut [u64; 1666], inputs: usize)
+    requires { ⌜ (inputs ≤ 64) × (length (now spans) ≡ 1666) ⌝ }
     ensures { λ _. ⌜ InputSpans (now (spans .exit)) inputs ⌝ }
 {
+    clear_sections(spans);
     let mut input = 0;
     while input < inputs {
         spans[input] = 0;
@@ -23,27 +25,24 @@ pub fn input_spans(spans: &mut [u64; 1536], inputs: usize)
     }
 }
 
-// Makes the runs of the path numbers that the record's test detects, in the second quarter of the words, or answers Full where the working runs are over 1,024.
-pub fn listed_runs(
+// Makes the runs of a record's listed nets in the first quarter of the words, or answers Full where the working runs are over 1,024.
+pub fn listed_spans(
     table: &[u16; 5120],
     places: &[u64; 4224],
     entries: &[u32],
     edges: u64,
-    outs: u64,
     inputs: usize,
-    spans: &mut [u64; 1536],
+    spans: &mut [u64; 1666],
     words: &mut [u64],
 ) -> Added
-    requires { ⌜ SomeListedAt (now table) (now places) (now entries) edges outs inputs (now spans) (now words) ⌝ }
+    requires { ⌜ SomeListedAt (now table) (now places) (now entries) edges inputs (now spans) (now words) ⌝ }
     ensures { λ r. ⌜
         InputSpans (now (spans .exit)) inputs
-        × ((K : Case) → ListedAt K (now (table .entry)) (now (places .entry)) (now (entries .entry)) edges outs inputs (now (spans .entry)) (now (words .entry))
-        → Detects K (now (words .entry)) (now (words .exit)) r)
+        × ((K : Case) (outs : ℕ)
+        → ListedAt K (now (table .entry)) (now (places .entry)) (now (entries .entry)) edges outs inputs (now (spans .entry)) (now (words .entry))
+        → SpansListed K (now (places .entry)) outs (now (spans .exit)) (now (words .entry)) (now (words .exit)) r)
         ⌝ }
 {
-    if edges == 0 {
-        return Added::Count(0);
-    }
     words[0] = 1;
     words[1] = 1;
     match net_spans(table, places, entries, spans, words) {
@@ -52,7 +51,7 @@ pub fn listed_runs(
             if over_working(total, edges, inputs) {
                 return Added::Full;
             }
-            out_runs(places, outs, spans, words)
+            Added::Count(total)
         }
     }
 }

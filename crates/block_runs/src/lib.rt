@@ -2,4 +2,5 @@
 // crates call it.
 pub mod inner;
 mod nets;
-mod outputs;
+pub mod outputs;
+pub mod sections;

@@ -17,6 +17,8 @@ use Rattle.model.proofs.ReadLaws.{limits}
 use Rattle.coverage.specs.Stage.{MemoryReady, workStage, storeAfter, stageOf, StageIs}
 use Rattle.coverage.specs.declared.inner.StageAnswer.{StageAnswer}
 use Rattle.coverage.specs.declared.inner.StageAnswer.the-variants as stage
+use Rattle.store_words.specs.Sound.{FewRuns}
+use Rattle.coverage.proofs.EdgesLaws.{memory-few}
 use Rattle.coverage.proofs.TestCallLaws.{refused-by, taken-by}
 use Rattle.coverage.proofs.WorkMemory.{work-memory}
 use Rattle.block.specs.Table.{CircuitTable}
@@ -24,7 +26,7 @@ use Rattle.block_marks.specs.Marks.{PlaceTable, MarksTrue, entriesOf}
 use Rattle.block_marks.specs.declared.inner.Batch.{Batch}
 use Rattle.block_runs.specs.Spans.{InputSpans}
 use Rattle.block_stage.specs.Listed.{edgesAt, ListedBoth, SomeListedBoth}
-use Rattle.block_stage.specs.Stage.{workAll, oneMoreTest, workTaken, BlockAt, BlockReady, BlockTaken, MemoryKept}
+use Rattle.block_stage.specs.BlockStage.{workAll, oneMoreTest, workTaken, BlockAt, BlockReady, BlockTaken, MemoryKept}
 use Rattle.block_stage.specs.declared.listed.RecordEdges.{RecordEdges}
 
 -- a block by the numbers that the loop holds, and the store and the words that it is handed
@@ -117,14 +119,14 @@ module _ {table places ups downs marks ws₀ work₀ : List ℕ} {inputs records
       pub down-inside : 528 * t + getD marks (320 + t) 0 ≤ length downs
       down-inside = g .block .marked .each t h .downRoom
 
-      module _ {edges : RecordEdges} (ee : edges ≡ edgesAt marks t inputs) where
+      module _ {edges : RecordEdges} {outputs : ℕ} (ee : edges ≡ edgesAt marks t inputs outputs) where
         -- what the record's place Work is handed
         listed-here : (N : Netlist) (tests : ℕ → Test) → BlockIn N tests table places ups downs marks inputs records ws₀ work₀
             → ListedBoth N (tests t) table places upPart downPart edges ws spans work
         listed-here N tests b =
             let r = b .marked .each t h in
             let part : (n : ℕ) → n ≡ 528 * t + n - 528 * t = λ n. omega arith in
-            let both : ListedBoth N (tests t) table places (entriesOf ups (getD marks (256 + t) 0) t) (entriesOf downs (getD marks (320 + t) 0) t) (edgesAt marks t inputs) ws spans work =
+            let both : ListedBoth N (tests t) table places (entriesOf ups (getD marks (256 + t) 0) t) (entriesOf downs (getD marks (320 + t) 0) t) (edgesAt marks t inputs outputs) ws spans work =
             record {
               circuit = b .circuit;
               placed = b .placed;
@@ -134,9 +136,9 @@ module _ {table places ups downs marks ws₀ work₀ : List ℕ} {inputs records
               memory = g .soFar N tests b .memory;
             } in
             subst (λ (e : RecordEdges). ListedBoth N (tests t) table places upPart downPart e ws spans work) (sym ee)
-            (subst (λ (n : ℕ). ListedBoth N (tests t) table places upPart (take n (drop (528 * t) downs)) (edgesAt marks t inputs) ws spans work)
+            (subst (λ (n : ℕ). ListedBoth N (tests t) table places upPart (take n (drop (528 * t) downs)) (edgesAt marks t inputs outputs) ws spans work)
             (part (getD marks (320 + t) 0))
-            (subst (λ (n : ℕ). ListedBoth N (tests t) table places (take n (drop (528 * t) ups)) (entriesOf downs (getD marks (320 + t) 0) t) (edgesAt marks t inputs) ws spans work)
+            (subst (λ (n : ℕ). ListedBoth N (tests t) table places (take n (drop (528 * t) ups)) (entriesOf downs (getD marks (320 + t) 0) t) (edgesAt marks t inputs outputs) ws spans work)
             (part (getD marks (256 + t) 0)) both))
 
         pub some-listed : SomeListedBoth table places upPart downPart edges ws spans work
@@ -208,6 +210,9 @@ module _ {table places ups downs marks ws₀ work₀ : List ℕ} {inputs records
 module _ {table places ups downs marks : List ℕ} {batch : Batch} {ws₀ work₀ : List ℕ} (h : BlockReady table places ups downs marks batch ws₀ work₀) where
   pub block-inputs : batch .inputs ≤ 64
   block-inputs = let c = h .block .circuit in omega (arith, c .inputsAre, limits (c .file) (h .netlist) (c .legal) .fewInputs)
+
+  pub block-few : FewRuns ws₀
+  block-few = memory-few (h .memory)
 
   pub block-start : {spans : List ℕ} → InputSpans spans (batch .inputs) → Applying table places ups downs marks ws₀ work₀ (batch .inputs) (batch .records) ws₀ work₀ spans 0
   block-start i = record {

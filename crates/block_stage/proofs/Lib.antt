@@ -1,2 +1,3 @@
+pub mod CoverEdgeLaws
 pub mod RecordEdgeLaws
 pub mod BlockSteps

@@ -1,100 +1,119 @@
 -- One record of a block as the code goes through its edges: what each step is handed, and what was made of a store's runs.
 -- Assumes nothing.
-use mathlib.Core.Path.{_≡_}
+use mathlib.Core.Path.{_≡_, refl, ap, sym, _∙_, subst}
+use mathlib.Core.Logic.{_⊎_, inl, inr}
 use mathlib.Core.List.{List}
-use Prim.Native.Nat.{ℕ, _*_, _^_}
+use Prim.Native.Nat.{ℕ, _+_, _*_, _^_, _≤_}
 use native.Mathlib.Omega.{arith}
 use lib.ListN.{length}
-use Rattle.model.specs.Base.{Answer}
-use Rattle.model.specs.Netlist.{Netlist, pathTotal}
-use Rattle.model.specs.Path.{rising, falling}
+use Rattle.model.specs.Base.{Answer, refused, value, after}
+use Rattle.model.specs.Netlist.{Netlist, nets, pathTotal}
+use Rattle.model.specs.Path.{Edge, rising, falling}
 use Rattle.model.specs.Detect.{Test}
 use Rattle.model.specs.Store.{maxRuns}
-use Rattle.model.specs.Calls.{Tested}
+use Rattle.model.specs.Calls.{Tested, storeLeft}
 use Rattle.model.proofs.ReadLaws.{limits}
+use Rattle.model.specs.Runs.{Run}
 use Rattle.runs.specs.RunLists.{Sound}
-use Rattle.runs.specs.declared.inner.Added.{Added}
 use Rattle.store_words.specs.Sound.{FewRuns, SoundWords, edgeWords}
 use Rattle.store_words.specs.WordAnswers.{totalsIn, totalsBoth}
 use Rattle.store_words.specs.declared.inner.StoreTotals.{StoreTotals}
-use Rattle.store_words.proofs.SoundLaws.{sound-more}
-use Rattle.intervals.specs.Edges.{Case, Detects}
-use Rattle.coverage.specs.Covers.{heldRuns, JoinReady, Covers}
+use Rattle.store_words.proofs.SoundLaws.{sound-more, edge-sound, edge-few}
+use Rattle.intervals.specs.Edges.{Case}
+use Rattle.coverage.specs.Covers.{heldRuns, Covers}
 use Rattle.coverage.specs.Both.{caseOf, joined, CoversBoth}
-use Rattle.coverage.specs.Stage.{BothMade, SomeBothMade, workStage, StageIs}
+use Rattle.coverage.specs.Stage.{MemoryReady, BothMade, SomeBothMade, workStage, storeAfter, StageIs}
 use Rattle.coverage.specs.TestCall.{TestedIs, Counting, SomeCounting}
 use Rattle.coverage.specs.declared.TestAnswer.{TestAnswer}
 use Rattle.coverage.specs.declared.edges.EdgeAnswer.{EdgeAnswer}
 use Rattle.coverage.specs.declared.edges.BothAnswer.{BothAnswer}
 use Rattle.coverage.specs.declared.inner.StageAnswer.{StageAnswer}
+use Rattle.coverage.proofs.WorkMemory.{work-memory}
 use Rattle.coverage.proofs.BothLaws.{covers-both}
-use Rattle.coverage.proofs.EdgesLaws.{memory-sound, memory-few, ready-to-join, edge-covered}
-use Rattle.block_runs.specs.Spans.{InputSpans, ListedAt, SomeListedAt}
+use Rattle.coverage.proofs.EdgesLaws.{held-half, held-are, memory-sound, memory-few}
+use Rattle.block_runs.specs.Spans.{InputSpans}
+use Rattle.block.specs.Table.{CircuitTable}
+use Rattle.block_marks.specs.Marks.{ListedEdge}
+use Rattle.block_stage.specs.Covering.{EdgeReady, SomeEdgeReady}
+use Rattle.block_stage.specs.declared.covering.EdgeMarks.{EdgeMarks}
 use Rattle.block_stage.specs.Listed.{ListedBoth, SomeListedBoth}
 use Rattle.block_stage.specs.declared.listed.RecordEdges.{RecordEdges}
 
-module _ {table places ups downs : List ℕ} {edges : RecordEdges} {ws spans work : List ℕ} where
-  -- each edge's list, the falling one's after the rising edge is covered
-  up-listed : {N : Netlist} {t : Test} → ListedBoth N t table places ups downs edges ws spans work
-      → ListedAt (caseOf N t rising) table places ups (edges .rises) (edges .«up_outs») (edges .inputs) spans work
-  up-listed h = record {
-    circuit = h .circuit;
-    placed = h .placed;
-    listed = h .rises;
-    inputSpans = h .inputSpans;
-    room = omega (arith, h .memory .workLength);
-  }
+-- the store after the place Work has no more runs than a store may have
+stage-few : {N : Netlist} (t : Test) {ws work : List ℕ} → MemoryReady N ws work → {ws′ work′ : List ℕ} {r : StageAnswer} → StageIs (workStage N t ws) ws ws′ work work′ r → FewRuns ws′
+unfolding storeAfter
+stage-few {N} t {ws} {work} m {ws′} {work′} s = go (workStage N t ws) refl
+  where
+    go : (x : Answer Tested) → workStage N t ws ≡ x → FewRuns ws′
+    go (refused n) e = subst FewRuns (sym (s .store ∙ ap (λ (y : Answer Tested). after y ws storeLeft) e)) (memory-few m)
+    go (value d) e =
+        subst FewRuns (sym (s .store ∙ ap (λ (y : Answer Tested). after y ws storeLeft) e)) (memory-few {work = work′} (work-memory N t ws e m (s .sameLength)))
 
-  down-listed : {N : Netlist} {t : Test} → ListedBoth N t table places ups downs edges ws spans work → {spans₁ work₂ : List ℕ}
-      → InputSpans spans₁ (edges .inputs) → length work₂ ≡ length work
-      → ListedAt (caseOf N t falling) table places downs (edges .falls) (edges .«down_outs») (edges .inputs) spans₁ work₂
-  down-listed h s l = record {
-    circuit = h .circuit;
-    placed = h .placed;
-    listed = h .falls;
-    inputSpans = s;
-    room = omega (arith, h .memory .workLength);
-  }
+-- the marks of each edge of a record
+abbrev pub upMarks : RecordEdges → EdgeMarks
+upMarks edges = record { edges = edges .rises; outs = edges .«up_outs»; inputs = edges .inputs; base = 1536; target = 2048 }
+
+abbrev pub downMarks : RecordEdges → EdgeMarks
+downMarks edges = record { edges = edges .falls; outs = edges .«down_outs»; inputs = edges .inputs; base = 1601; target = 3072 }
+
+module _ {table places ups downs : List ℕ} {edges : RecordEdges} {ws spans work : List ℕ} where
+  -- the runs of an edge, and what is handed over to cover them: the falling ones after the rising ones are covered
+  module _ {N : Netlist} {t : Test} (h : ListedBoth N t table places ups downs edges ws spans work) where
+    edge-ready : (e : Edge) {entries : List ℕ} {marks : EdgeMarks} → ListedEdge N t e entries (marks .edges) (marks .outs) → marks .inputs ≡ edges .inputs
+        → (marks .base ≡ 1536) ⊎ (marks .base ≡ 1601) → 2 * maxRuns ≤ marks .target → marks .target + maxRuns ≤ 4 * maxRuns → {held : List ℕ} → held ≡ edgeWords ws e
+        → {spans₁ work₁ : List ℕ} → InputSpans spans₁ (edges .inputs) → length work₁ ≡ length work → EdgeReady (caseOf N t e) table places entries marks held spans₁ work₁
+    edge-ready e {marks = marks} listed same base low high is {spans₁ = spans₁} i l =
+        let runs = held-are e (memory-few (h .memory)) is in
+        let half = held-half e (memory-few (h .memory)) is in
+        record {
+          listed = record {
+            circuit = subst (λ (n : ℕ). CircuitTable N table n (nets N)) (sym same) (h .circuit);
+            placed = h .placed;
+            listed = listed;
+            inputSpans = subst (λ (n : ℕ). InputSpans spans₁ n) (sym same) i;
+            room = omega (arith, l, h .memory .workLength);
+          };
+          soundHeld = subst (Sound (pathTotal N)) (sym runs) (edge-sound (memory-sound (h .memory)) e);
+          fewHeld = omega (arith, half, edge-few (memory-few (h .memory)) e);
+          sections = base;
+          high = low;
+          room = omega (arith, l, h .memory .workLength);
+        }
+
+    up-ready : {held : List ℕ} → held ≡ edgeWords ws rising → EdgeReady (caseOf N t rising) table places ups (upMarks edges) held spans work
+    up-ready is = edge-ready rising (h .rises) refl (inl refl) (omega arith) (omega arith) is (h .inputSpans) refl
+
+    down-ready : {held : List ℕ} → held ≡ edgeWords ws falling → {spans₁ work₁ : List ℕ} → InputSpans spans₁ (edges .inputs) → length work₁ ≡ length work
+        → EdgeReady (caseOf N t falling) table places downs (downMarks edges) held spans₁ work₁
+    down-ready is i l = edge-ready falling (h .falls) refl (inr refl) (omega arith) (omega arith) is i l
 
   module _ (h : SomeListedBoth table places ups downs edges ws spans work) where
+    pub listed-inputs : edges .inputs ≤ 64
+    listed-inputs = let c = h .listed .circuit in omega (arith, c .inputsAre, limits (c .file) (h .circuit) (c .legal) .fewInputs)
+
     pub some-few : FewRuns ws
     some-few = memory-few (h .listed .memory)
 
-    pub some-up : SomeListedAt table places ups (edges .rises) (edges .«up_outs») (edges .inputs) spans work
-    some-up = record { case = caseOf (h .circuit) (h .test) rising; at-list = up-listed (h .listed) }
+    pub some-up : {held : List ℕ} → held ≡ edgeWords ws rising → SomeEdgeReady table places ups (upMarks edges) held spans work
+    some-up is = record { case = caseOf (h .circuit) (h .test) rising; ready = up-ready (h .listed) is }
 
-    pub some-down : {spans₁ work₂ : List ℕ} → InputSpans spans₁ (edges .inputs) → length work₂ ≡ length work
-        → SomeListedAt table places downs (edges .falls) (edges .«down_outs») (edges .inputs) spans₁ work₂
-    some-down s l = record { case = caseOf (h .circuit) (h .test) falling; at-list = down-listed (h .listed) s l }
+    pub some-down : {held : List ℕ} → held ≡ edgeWords ws falling → {spans₁ work₁ : List ℕ} → InputSpans spans₁ (edges .inputs) → length work₁ ≡ length work
+        → SomeEdgeReady table places downs (downMarks edges) held spans₁ work₁
+    some-down is i l = record { case = caseOf (h .circuit) (h .test) falling; ready = down-ready (h .listed) is i l }
 
-  module _ {work₁ : List ℕ} {up : Added}
-      (found : (K : Case) → ListedAt K table places ups (edges .rises) (edges .«up_outs») (edges .inputs) spans work → Detects K work work₁ up)
-      {heldUp : List ℕ} (hu : heldUp ≡ edgeWords ws rising) where
-    pub join-up : SomeListedBoth table places ups downs edges ws spans work → length work₁ ≡ length work → JoinReady up heldUp work₁ (2 * maxRuns)
-    join-up h l =
-        let b = h .listed in
-        ready-to-join (b .memory) rising hu (found (caseOf (h .circuit) (h .test) rising) (up-listed b)) (b .circuit .file) (b .circuit .legal) l (omega arith) (omega arith)
-
-    module _ {work₂ : List ℕ} (l₂ : length work₂ ≡ length work) {a : EdgeAnswer}
-        (joined-up : (K : Case) (w : List ℕ) → Detects K w work₁ up → Sound (pathTotal (K .netlist)) (heldRuns heldUp) → Covers K (heldRuns heldUp) w work₂ (2 * maxRuns) a)
-        {spans₁ : List ℕ} (s₁ : InputSpans spans₁ (edges .inputs)) {work₃ : List ℕ} {down : Added}
-        (next : (K : Case) → ListedAt K table places downs (edges .falls) (edges .«down_outs») (edges .inputs) spans₁ work₂ → Detects K work₂ work₃ down)
-        {heldDown : List ℕ} (hd : heldDown ≡ edgeWords ws falling) where
-      pub both-listed : {work₄ : List ℕ} {b : EdgeAnswer}
-          → ((K : Case) (w : List ℕ) → Detects K w work₃ down → Sound (pathTotal (K .netlist)) (heldRuns heldDown) → Covers K (heldRuns heldDown) w work₄ (3 * maxRuns) b)
-          → {q : BothAnswer} → q ≡ joined a b → (N : Netlist) (t : Test) → ListedBoth N t table places ups downs edges ws spans work → CoversBoth N t ws work work₄ q
-      both-listed joined-down is N t h =
-          covers-both (edge-covered (h .memory) rising hu (found (caseOf N t rising) (up-listed h)) joined-up)
-          (edge-covered (h .memory) falling hd (next (caseOf N t falling) (down-listed h s₁ l₂)) joined-down) is
-
-  pub join-down : SomeListedBoth table places ups downs edges ws spans work → {spans₁ work₂ : List ℕ} → length work₂ ≡ length work → InputSpans spans₁ (edges .inputs)
-      → {work₃ : List ℕ} {down : Added}
-      → ((K : Case) → ListedAt K table places downs (edges .falls) (edges .«down_outs») (edges .inputs) spans₁ work₂ → Detects K work₂ work₃ down)
-      → {heldDown : List ℕ} → heldDown ≡ edgeWords ws falling → length work₃ ≡ length work → JoinReady down heldDown work₃ (3 * maxRuns)
-  join-down h l₂ s₁ next hd l =
-      let b = h .listed in
-      let d = next (caseOf (h .circuit) (h .test) falling) (down-listed b s₁ l₂) in
-      ready-to-join (b .memory) falling hd d (b .circuit .file) (b .circuit .legal) l (omega arith) (omega arith)
+  -- both edges are covered
+  module _ {heldUp : List ℕ} (hu : heldUp ≡ edgeWords ws rising) {work₁ : List ℕ} (l₁ : length work₁ ≡ length work) {a : EdgeAnswer}
+      (up : (K : Case) → EdgeReady K table places ups (upMarks edges) heldUp spans work → Covers K (heldRuns heldUp) work work₁ (2 * maxRuns) a)
+      {heldDown : List ℕ} (hd : heldDown ≡ edgeWords ws falling) {spans₁ : List ℕ} (s₁ : InputSpans spans₁ (edges .inputs)) {work₂ : List ℕ} {b : EdgeAnswer}
+      (down : (K : Case) → EdgeReady K table places downs (downMarks edges) heldDown spans₁ work₁ → Covers K (heldRuns heldDown) work₁ work₂ (3 * maxRuns) b) where
+    pub both-listed : {q : BothAnswer} → q ≡ joined a b → (N : Netlist) (t : Test) → ListedBoth N t table places ups downs edges ws spans work → CoversBoth N t ws work work₂ q
+    both-listed is N t h =
+        covers-both
+        (subst (λ (s : List Run). Covers (caseOf N t rising) s work work₁ (2 * maxRuns) a) (held-are rising (memory-few (h .memory)) hu)
+        (up (caseOf N t rising) (up-ready h hu)))
+        (subst (λ (s : List Run). Covers (caseOf N t falling) s work₁ work₂ (3 * maxRuns) b) (held-are falling (memory-few (h .memory)) hd)
+        (down (caseOf N t falling) (down-ready h hd s₁ l₁)))
+        is
 
   -- what was made is written
   module _ {work′ : List ℕ} (same : length work′ ≡ length work) {q : BothAnswer}
@@ -109,6 +128,11 @@ module _ {table places ups downs : List ℕ} {edges : RecordEdges} {ws spans wor
         → ((N : Netlist) (t : Test) (found : List ℕ) → BothMade N t ws found work′ q → StageIs (workStage N t ws) ws ws′ found work′ r)
         → (N : Netlist) (t : Test) → ListedBoth N t table places ups downs edges ws spans work → StageIs (workStage N t ws) ws ws′ work work′ r
     listed-written writes N t h = writes N t work (listed-made h)
+
+    pub listed-few : {ws′ : List ℕ} {r : StageAnswer}
+        → ((N : Netlist) (t : Test) (found : List ℕ) → BothMade N t ws found work′ q → StageIs (workStage N t ws) ws ws′ found work′ r)
+        → SomeListedBoth table places ups downs edges ws spans work → FewRuns ws′
+    listed-few writes h = stage-few (h .test) (h .listed .memory) (listed-written writes (h .circuit) (h .test) (h .listed))
 
   -- the faults are counted
   pub listed-sound : SomeListedBoth table places ups downs edges ws spans work → SoundWords (2 ^ 62) ws

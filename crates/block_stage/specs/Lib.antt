@@ -1,2 +1,3 @@
+pub mod Covering
 pub mod Listed
-pub mod Stage
+pub mod BlockStage

@@ -13,13 +13,14 @@ use Rattle.block_runs.specs.Spans.{InputSpans}
 use Rattle.block_stage.specs.declared.listed.RecordEdges.{RecordEdges}
 
 -- record t of a block, from the words of its marks
-abbrev pub edgesAt : List ℕ → ℕ → ℕ → RecordEdges
-edgesAt marks t n = record {
+abbrev pub edgesAt : List ℕ → ℕ → ℕ → ℕ → RecordEdges
+edgesAt marks t n outputs = record {
   rises = getD marks t 0;
   falls = getD marks (64 + t) 0;
   «up_outs» = getD marks (128 + t) 0;
   «down_outs» = getD marks (192 + t) 0;
   inputs = n;
+  outputs = outputs;
 }
 
 -- the tables of a netlist, the lists and the marks of a test, the spans of the inputs, and a sound store

@@ -3,11 +3,11 @@ ghost use Prim.Native.Nat.{ℕ};
 ghost use Rattle.model.specs.Netlist.{Netlist};
 ghost use Rattle.model.specs.Detect.{Test};
 ghost use Rattle.coverage.specs.Stage.{MemoryReady};
-ghost use Rattle.block_stage.specs.Stage.{BlockAt, BlockReady, BlockTaken, MemoryKept};
+ghost use Rattle.block_stage.specs.BlockStage.{BlockAt, BlockReady, BlockTaken, MemoryKept};
 use crate::listed::apply_listed;
 use crate::listed::edges_at;
+use crate::spans::begin_spans;
 use block_marks::inner::Batch;
-use block_runs::inner::input_spans;
 use coverage::inner::StageAnswer;
 
 // The number of records taken before the first that was refused, all of them if none was, and what they answer.
@@ -37,15 +37,16 @@ pub fn apply_block(
         ⌝ }
 {
     let inputs = batch.inputs;
+    let outputs = batch.outputs;
     let records = batch.records;
-    let mut spans = [0u64; 1536];
-    input_spans(&mut spans, inputs);
+    let mut spans = [0u64; 1666];
+    begin_spans(places, inputs, outputs, store, &mut spans);
     let mut t = 0;
     while t < records {
         let at = 528 * t;
         let up = &ups[at..at + marks[256 + t] as usize];
         let down = &downs[at..at + marks[320 + t] as usize];
-        let edges = edges_at(marks, t, inputs);
+        let edges = edges_at(marks, t, inputs, outputs);
         let stage = apply_listed(table, places, up, down, edges, store, &mut spans, work);
         match stage {
             StageAnswer::Refused(why) => {

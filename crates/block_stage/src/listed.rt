@@ -8,13 +8,16 @@ ghost use Rattle.coverage.specs.Stage.{workStage, StageIs};
 ghost use Rattle.coverage.specs.TestCall.{TestedIs};
 ghost use Rattle.block_runs.specs.Spans.{InputSpans};
 ghost use Rattle.block_stage.specs.Listed.{edgesAt, ListedBoth, SomeListedBoth};
-use block_runs::inner::listed_runs;
+use crate::covering::EdgeMarks;
+use crate::covering::cover_edge;
+use crate::spans::renew_sections;
+use block_runs::sections::FALLING_SECTIONS;
+use block_runs::sections::RISING_SECTIONS;
 use coverage::TestAnswer;
 use coverage::edges::BothAnswer;
 use coverage::edges::FALLING_UNION;
 use coverage::edges::RISING_UNION;
 use coverage::edges::join_answers;
-use coverage::edges::join_edge;
 use coverage::inner::StageAnswer;
 use coverage::inner::count_answer;
 use coverage::inner::write_both;
@@ -22,19 +25,21 @@ use faults::Edge;
 use store_words::inner::parts::edge_runs;
 use store_words::inner::totals_of;
 
-// The marks of one record: a bit for each input that rises or falls, a bit for each live output of the rising and of the falling edge, the number of inputs.
+// The marks of one record: a bit for each input that rises or falls, a bit for each live output of the rising and of the falling edge, the numbers of inputs and
+// outputs.
 pub struct RecordEdges {
     pub rises: u64,
     pub falls: u64,
     pub up_outs: u64,
     pub down_outs: u64,
     pub inputs: usize,
+    pub outputs: usize,
 }
 
 // The marks of record t of a block.
-pub fn edges_at(marks: &[u64; 384], t: usize, inputs: usize) -> RecordEdges
+pub fn edges_at(marks: &[u64; 384], t: usize, inputs: usize, outputs: usize) -> RecordEdges
     requires { ⌜ t < 64 ⌝ }
-    ensures { λ r. ⌜ r ≡ edgesAt (now (marks .entry)) t inputs ⌝ }
+    ensures { λ r. ⌜ r ≡ edgesAt (now (marks .entry)) t inputs outputs ⌝ }
 {
     RecordEdges {
         rises: marks[t],
@@ -42,6 +47,7 @@ pub fn edges_at(marks: &[u64; 384], t: usize, inputs: usize) -> RecordEdges
         up_outs: marks[128 + t],
         down_outs: marks[192 + t],
         inputs,
+        outputs,
     }
 }
 
@@ -53,7 +59,7 @@ pub(crate) fn cover_listed(
     downs: &[u32],
     edges: RecordEdges,
     store: &[u64],
-    spans: &mut [u64; 1536],
+    spans: &mut [u64; 1666],
     words: &mut [u64],
 ) -> BothAnswer
     requires { ⌜ SomeListedBoth (now table) (now places) (now ups) (now downs) edges (now store) (now spans) (now words) ⌝ }
@@ -64,29 +70,38 @@ pub(crate) fn cover_listed(
         → CoversBoth N t (now (store .entry)) (now (words .entry)) (now (words .exit)) r)
         ⌝ }
 {
-    let inputs = edges.inputs;
-    let up = listed_runs(
+    let up = EdgeMarks {
+        edges: edges.rises,
+        outs: edges.up_outs,
+        inputs: edges.inputs,
+        base: RISING_SECTIONS,
+        target: RISING_UNION,
+    };
+    let rising = cover_edge(
         table,
         places,
         ups,
-        edges.rises,
-        edges.up_outs,
-        inputs,
+        up,
+        edge_runs(store, Edge::Rising),
         spans,
         words,
     );
-    let rising = join_edge(up, edge_runs(store, Edge::Rising), words, RISING_UNION);
-    let down = listed_runs(
+    let down = EdgeMarks {
+        edges: edges.falls,
+        outs: edges.down_outs,
+        inputs: edges.inputs,
+        base: FALLING_SECTIONS,
+        target: FALLING_UNION,
+    };
+    let falling = cover_edge(
         table,
         places,
         downs,
-        edges.falls,
-        edges.down_outs,
-        inputs,
+        down,
+        edge_runs(store, Edge::Falling),
         spans,
         words,
     );
-    let falling = join_edge(down, edge_runs(store, Edge::Falling), words, FALLING_UNION);
     join_answers(rising, falling)
 }
 
@@ -98,7 +113,7 @@ pub(crate) fn apply_listed(
     downs: &[u32],
     edges: RecordEdges,
     store: &mut [u64],
-    spans: &mut [u64; 1536],
+    spans: &mut [u64; 1666],
     work: &mut [u64],
 ) -> StageAnswer
     requires { ⌜ SomeListedBoth (now table) (now places) (now ups) (now downs) edges (now store) (now spans) (now work) ⌝ }
@@ -110,7 +125,9 @@ pub(crate) fn apply_listed(
         ⌝ }
 {
     let answer = cover_listed(table, places, ups, downs, edges, store, spans, work);
-    write_both(answer, store, work)
+    let stage = write_both(answer, store, work);
+    renew_sections(places, edges.outputs, answer, store, spans);
+    stage
 }
 
 // The same, with the faults counted that are new to the store and those then held.
@@ -121,7 +138,7 @@ pub fn count_listed(
     downs: &[u32],
     edges: RecordEdges,
     store: &mut [u64],
-    spans: &mut [u64; 1536],
+    spans: &mut [u64; 1666],
     work: &mut [u64],
 ) -> TestAnswer
     requires { ⌜ SomeListedBoth (now table) (now places) (now ups) (now downs) edges (now store) (now spans) (now work) ⌝ }

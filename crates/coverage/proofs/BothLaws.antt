@@ -1,6 +1,6 @@
 -- Both edges: the rising runs stay while the falling ones are made.
 -- Assumes nothing.
-use Prim.Native.Nat.{ℕ, _*_, _≤_}
+use Prim.Native.Nat.{ℕ, _+_, _-_, _*_, _≤_}
 use mathlib.Core.Path.{_≡_, refl, sym, ap, ap₂, _∙_}
 use mathlib.Core.Bool.{Bool, true, false, _&&_, true≢false}
 use mathlib.Core.List.{List, [], _∷_}
@@ -17,10 +17,12 @@ use Rattle.model.specs.Store.{maxRuns, storeRuns, runsByEdge}
 use Rattle.model.specs.Calls.{runsThen}
 use Rattle.model.proofs.AnswerLaws.{not-refused}
 use Rattle.model.proofs.RefusalLaws.{refused-inj}
+use Rattle.runs.specs.RunLists.{runsInWords}
 use Rattle.runs.proofs.RunWordLaws.{length-runs}
-use Rattle.store_writing.specs.Writing.{changed}
+use Rattle.store_writing.specs.Writing.{replaced, changed}
 use Rattle.store_writing.specs.declared.inner.Change.{Change}
 use Rattle.store_writing.specs.declared.inner.Change.the-variants.{Kept, Made}
+use Rattle.store_writing.proofs.EdgeWriteLaws.{length-replaced}
 use Rattle.intervals.specs.Edges.{Case, working}
 use Rattle.coverage.specs.Covers.{thenRuns, edgeOf, Covers}
 use Rattle.coverage.specs.Both.{caseOf, joined, bothOf, CoversBoth}
@@ -104,12 +106,14 @@ few-fit false c l h e = absurd (not-refused (sym e))
 still-made : {K F : Case} {s f : List Run} {ws₀ ws₁ ws₂ : List ℕ} {a b : EdgeAnswer} → Covers K s ws₀ ws₁ (2 * maxRuns) a → Covers F f ws₁ ws₂ (3 * maxRuns) b
     → (d : Change) → a ≡ Covered d → changed d ws₂ (2 * maxRuns) s ≡ thenRuns K s
 still-made x y Kept e = x .runsAre Kept e
-still-made {K = K} {s = s} {ws₁ = ws₁} x y (Made n) e =
-    let made = x .runsAre (Made n) e in
+still-made {K = K} {s = s} {ws₁ = ws₁} x y (Made from to n) e =
+    let made = x .runsAre (Made from to n) e in
     let few : length (thenRuns K s) ≤ maxRuns =
     few-fit (leb (working K) maxRuns) (leb (length (thenRuns K s)) maxRuns) (length (thenRuns K s)) refl (ap edgeOf (sym e) ∙ x .answers) in
-    let count : n ≡ length (thenRuns K s) = sym (length-runs ws₁ (2 * maxRuns) n) ∙ ap (length {A = Run}) made in
-    y .between (2 * maxRuns) n (omega arith) (omega arith) ∙ made
+    let cut = x .within (Made from to n) e in
+    let count : from + n + (length s - to) ≡ length (thenRuns K s) =
+    omega (arith, length-replaced from to (runsInWords ws₁ (2 * maxRuns) n) s (omega (arith, cut .0, cut .1)), length-runs ws₁ (2 * maxRuns) n, ap (length {A = Run}) made) in
+    ap (λ (rs : List Run). replaced from to rs s) (y .between (2 * maxRuns) n (omega arith) (omega arith)) ∙ made
 
 pub covers-both : {N : Netlist} {t : Test} {ws ws₀ ws₁ ws₂ : List ℕ} {a b : EdgeAnswer} {q : BothAnswer}
     → Covers (caseOf N t rising) (storeRuns ws rising) ws₀ ws₁ (2 * maxRuns) a → Covers (caseOf N t falling) (storeRuns ws falling) ws₁ ws₂ (3 * maxRuns) b
@@ -122,5 +126,7 @@ covers-both {N = N} {t = t} {ws = ws} {a = a} {b = b} x y e = record {
       (leb (length (runsThen N (runsByEdge ws) t rising)) maxRuns) (leb (length (runsThen N (runsByEdge ws) t falling)) maxRuns) (x .answers) (y .answers);
   risingRuns = λ r f p. still-made x y r (fits-parts a b r f (sym e ∙ p) .0);
   fallingRuns = λ r f p. y .runsAre f (fits-parts a b r f (sym e ∙ p) .1);
+  risingWithin = λ r f p. x .within r (fits-parts a b r f (sym e ∙ p) .0);
+  fallingWithin = λ r f p. y .within f (fits-parts a b r f (sym e ∙ p) .1);
   kept = λ k h. y .kept k (omega arith) ∙ x .kept k (omega arith);
 }

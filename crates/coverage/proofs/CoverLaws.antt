@@ -1,14 +1,17 @@
 -- One edge: the detected runs, joined to those that the store holds.
 -- Assumes nothing.
-use Prim.Native.Nat.{ℕ, zero, suc, _+_, _-_, _*_, _/_, _≤_, _<_, _^_}
+use Prim.Native.Nat.{ℕ, zero, suc, _+_, _-_, _*_, _/_, _≤_, _^_}
 use mathlib.Core.Path.{_≡_, refl, sym, ap, ap₂, _∙_, subst, subst⁻¹}
 use mathlib.Core.Bool.{Bool, true, false, cond, _||_, or-comm}
 use mathlib.Core.List.{List, [], _∷_}
 use native.Mathlib.Omega.{arith}
+use mir.Syntax.{w64}
+use mir.Val.{Fits}
 use lib.Dec.{leb}
-use lib.ListN.{length, getD, take, drop}
+use lib.ListN.{length, getD, drop}
 use lib.Seq.{getD-drop}
-use borrow.Author.Tests.{le-leb, lt-leb, leb-true}
+use borrow.Author.Needs.{needs}
+use borrow.Author.Tests.{le-leb, leb-true}
 use Rattle.model.specs.Base.{refused, value, checks}
 use Rattle.model.specs.Store.{maxRuns}
 use Rattle.model.specs.Netlist.{pathTotal}
@@ -17,22 +20,20 @@ use Rattle.model.specs.Detect.{detectsNumber}
 use Rattle.model.specs.Runs.{Run, runsOf, inRuns}
 use Rattle.model.proofs.RunLaws.{runs-separated, runs-test, runs-same}
 use Rattle.runs.specs.RunLists.{Sound, inEither, runAt, runsInWords}
-use Rattle.runs.specs.Answers.{answer, Adds, InsideWhere}
+use Rattle.runs.specs.Answers.{InsideWhere}
 use Rattle.runs.specs.declared.inner.Added.{Added}
 use Rattle.runs.specs.declared.inner.Added.the-variants.{Count, Full}
 use Rattle.runs.proofs.MemberLaws.{run-path, sound-mono}
 use Rattle.runs.proofs.RunWordLaws.{length-runs}
-use Rattle.run_union.proofs.RunWriteLaws.{runs-write-before}
-use Rattle.runs.proofs.InsideSteps.{inside-union}
-use Rattle.run_union.proofs.Adding.{answer-over, adds-count}
-use Rattle.store_writing.specs.Writing.{changed}
+use Rattle.runs.proofs.InsideSteps.{walked-none, inside-union}
+use Rattle.store_writing.specs.Writing.{changed, Within}
 use Rattle.store_writing.specs.declared.inner.Change.{Change}
-use Rattle.store_writing.specs.declared.inner.Change.the-variants.{Kept, Made}
+use Rattle.store_writing.specs.declared.inner.Change.the-variants.{Kept}
 use Rattle.intervals.specs.Edges.{Case, detected, working, Detects}
-use Rattle.intervals.proofs.AddLaws.{as-adds, adds-kept}
 use Rattle.intervals.proofs.DetectedLaws.{few-detected}
 use Rattle.coverage.specs.Covers.{thenRuns, heldRuns, JoinReady, Covers}
-use Rattle.coverage.specs.declared.edges.EdgeAnswer.the-variants.{Covered, OverWork, OverStore}
+use Rattle.coverage.specs.declared.edges.EdgeAnswer.{EdgeAnswer}
+use Rattle.coverage.specs.declared.edges.EdgeAnswer.the-variants.{Covered, OverWork}
 
 -- ---- words that are the same from a place on
 
@@ -45,7 +46,7 @@ at-drop n j a b e h =
     ∙ getD-drop n b (j - n) 0
     ∙ ap (λ (k : ℕ). getD b k 0) i
 
-runs-drop : (k n f : ℕ) (a b : List ℕ) → drop n a ≡ drop n b → n ≤ 2 * f → runsInWords a f k ≡ runsInWords b f k
+pub runs-drop : (k n f : ℕ) (a b : List ℕ) → drop n a ≡ drop n b → n ≤ 2 * f → runsInWords a f k ≡ runsInWords b f k
 runs-drop zero n f a b e h = refl
 runs-drop (suc k) n f a b e h =
     λ t. run-path {r = runAt a f} {s = runAt b f} (at-drop n (2 * f) a b e h) (at-drop n (2 * f + 1) a b e (omega arith)) t
@@ -66,20 +67,20 @@ unfolding detected
 detected-apart K = runs-separated (detectsNumber (K .netlist) (K .test) (K .edge)) (pathTotal (K .netlist))
 
 module _ {K : Case} {ws₀ ws₁ : List ℕ} {q : Added} (d : Detects K ws₀ ws₁ q) {n : ℕ} (t : q ≡ Count n) where
-  found-is : (leb (working K) maxRuns ≡ true) × (n ≡ length (detected K))
+  pub found-is : (leb (working K) maxRuns ≡ true) × (n ≡ length (detected K))
   found-is = count-cases (leb (working K) maxRuns) (length (detected K)) n (sym t ∙ d .answers)
 
   pub found-few : WellFormed (K .netlist) → n ≤ maxRuns
   found-few w = omega (arith, found-is .1, leb-true (working K) maxRuns (found-is .0), few-detected K w)
 
-  found-apart : Sound (pathTotal (K .netlist)) (runsInWords ws₁ maxRuns n)
+  pub found-apart : Sound (pathTotal (K .netlist)) (runsInWords ws₁ maxRuns n)
   found-apart = subst⁻¹ (λ (s : List Run). Sound (pathTotal (K .netlist)) s) (d .runsAre n t) (detected-apart K)
 
   pub found-sound : pathTotal (K .netlist) ≤ 2 ^ 62 → Sound (2 ^ 62) (runsInWords ws₁ maxRuns n)
   found-sound h = sound-mono 1 (pathTotal (K .netlist)) (2 ^ 62) (runsInWords ws₁ maxRuns n) h found-apart
 
 -- the union of the store's runs and the detected runs
-then-is : (K : Case) (s : List Run) → runsOf (inEither s (detected K)) (pathTotal (K .netlist)) ≡ thenRuns K s
+pub then-is : (K : Case) (s : List Run) → runsOf (inEither s (detected K)) (pathTotal (K .netlist)) ≡ thenRuns K s
 unfolding detected thenRuns
 then-is K s =
     runs-same (inEither s (runsOf (detectsNumber (K .netlist) (K .test) (K .edge)) (pathTotal (K .netlist))))
@@ -93,10 +94,10 @@ then-is K s =
 rules-work : {a : Bool} (c : Bool) → a ≡ false → refused 50 ≡ checks ((50, a) ∷ (51, c) ∷ [])
 rules-work c e = rw e refl
 
-rules-store : {a c : Bool} → a ≡ true → c ≡ false → refused 51 ≡ checks ((50, a) ∷ (51, c) ∷ [])
+pub rules-store : {a c : Bool} → a ≡ true → c ≡ false → refused 51 ≡ checks ((50, a) ∷ (51, c) ∷ [])
 rules-store e d = rw (e, d) refl
 
-rules-fit : {a c : Bool} → a ≡ true → c ≡ true → value tt ≡ checks ((50, a) ∷ (51, c) ∷ [])
+pub rules-fit : {a c : Bool} → a ≡ true → c ≡ true → value tt ≡ checks ((50, a) ∷ (51, c) ∷ [])
 rules-fit e d = rw (e, d) refl
 
 -- ---- the cases of joining
@@ -109,6 +110,7 @@ module _ {q : Added} {held ws₁ : List ℕ} {target : ℕ} (h : JoinReady q hel
       record {
         answers = rules-work (leb (length (thenRuns K (heldRuns held))) maxRuns) b;
         runsAre = λ c p. (let z : _≡_ {A = ℕ} 0 1 = cc in absurd (omega arith));
+        within = λ c p. (let z : _≡_ {A = ℕ} 0 1 = cc in absurd (omega arith));
         kept = λ k l. d .kept k (omega (arith, h .high));
         between = λ f k l m. runs-drop k (4 * maxRuns) f ws₁ ws₀ (d .kept (4 * maxRuns) (omega arith)) (omega arith);
       }
@@ -116,16 +118,16 @@ module _ {q : Added} {held ws₁ : List ℕ} {target : ℕ} (h : JoinReady q hel
   as-held : runsInWords held 0 (length held / 2 - 0) ≡ heldRuns held
   as-held = let e : length held / 2 - 0 ≡ length held / 2 = omega arith in ap (λ (k : ℕ). runsInWords held 0 k) e
 
-  -- what the union is handed
-  pub union-held : Sound (2 ^ 62) (runsInWords held 0 (length held / 2 - 0))
-  union-held = subst⁻¹ (λ (x : List Run). Sound (2 ^ 62) x) as-held (h .soundHeld)
-
   module _ {n : ℕ} (t : q ≡ Count n) where
+    -- the place after the detected runs
+    pub place-fits : Fits w64 (maxRuns + n)
+    place-fits = omega (arith, h .fewFound n t)
+
+    pub found-inside : 2 * (maxRuns + n) ≤ length ws₁
+    found-inside = omega (arith, h .fewFound n t, h .high, h .room)
+
     as-found : runsInWords ws₁ maxRuns (maxRuns + n - maxRuns) ≡ runsInWords ws₁ maxRuns n
     as-found = let e : maxRuns + n - maxRuns ≡ n = omega arith in ap (λ (k : ℕ). runsInWords ws₁ maxRuns k) e
-
-    pub union-found : Sound (2 ^ 62) (runsInWords ws₁ maxRuns (maxRuns + n - maxRuns))
-    union-found = subst⁻¹ (λ (x : List Run). Sound (2 ^ 62) x) as-found (h .soundFound n t)
 
     union-then : (K : Case) (ws₀ : List ℕ) → Detects K ws₀ ws₁ q
         → runsOf (inEither (runsInWords held 0 (length held / 2 - 0)) (runsInWords ws₁ maxRuns (maxRuns + n - maxRuns))) (pathTotal (K .netlist))
@@ -146,45 +148,23 @@ module _ {q : Added} {held ws₁ : List ℕ} {target : ℕ} (h : JoinReady q hel
         record {
           answers = rules-fit (found-is d t .0) (le-leb (length (thenRuns K (heldRuns held))) maxRuns (omega (arith, l, h .fewHeld)));
           runsAre = λ g p. (let i : Kept ≡ g = cc in subst (λ (x : Change). changed x ws₁ target (heldRuns held) ≡ thenRuns K (heldRuns held)) i same);
+          within = λ g p. (let i : Kept ≡ g = cc in subst (λ (x : Change). Within x (length (heldRuns held))) i tt);
           kept = λ k m. d .kept k (omega (arith, h .high));
           between = λ f k m o. runs-drop k (4 * maxRuns) f ws₁ ws₀ (d .kept (4 * maxRuns) (omega arith)) (omega arith);
         }
 
-    module _ {ws₂ : List ℕ} {r : Added}
-        (u : (p : ℕ) → Sound p (runsInWords held 0 (length held / 2 - 0)) → Sound p (runsInWords ws₁ maxRuns (maxRuns + n - maxRuns))
-        → Adds ws₁ ws₂ target maxRuns (runsOf (inEither (runsInWords held 0 (length held / 2 - 0)) (runsInWords ws₁ maxRuns (maxRuns + n - maxRuns))) p) r)
-        (K : Case) (ws₀ : List ℕ) (d : Detects K ws₀ ws₁ q) (so : Sound (pathTotal (K .netlist)) (heldRuns held)) where
-      united : Adds ws₁ ws₂ target maxRuns (thenRuns K (heldRuns held)) r
-      united =
-          as-adds (union-then K ws₀ d) refl
-          (u (pathTotal (K .netlist)) (subst⁻¹ (λ (x : List Run). Sound (pathTotal (K .netlist)) x) as-held so)
-          (subst⁻¹ (λ (x : List Run). Sound (pathTotal (K .netlist)) x) as-found (found-apart d t)))
+    -- nothing is detected
+    pub join-none : n ≡ 0 → (K : Case) (ws₀ : List ℕ) → Detects K ws₀ ws₁ q → Sound (pathTotal (K .netlist)) (heldRuns held)
+        → Covers K (heldRuns held) ws₀ ws₁ target (Covered Kept)
+    join-none z = join-known refl (walked-none held 0 (length held / 2) ws₁ maxRuns (maxRuns + n) (omega arith))
 
-      kept₂ : (k : ℕ) → 2 * (target + maxRuns) ≤ k → drop k ws₂ ≡ drop k ws₀
-      kept₂ k l = adds-kept k l united ∙ d .kept k (omega (arith, h .high))
+    -- something may be new
+    pub ready-count : JoinReady (Count n) held ws₁ target
+    ready-count = subst (λ (x : Added). JoinReady x held ws₁ target) t h
 
-      between₂ : (f k : ℕ) → 2 * maxRuns ≤ f → f + k ≤ target → runsInWords ws₂ f k ≡ runsInWords ws₀ f k
-      between₂ f k l m =
-          ap (λ (x : List ℕ). runsInWords x f k) (united .writes)
-          ∙ runs-write-before ws₁ target f k (take maxRuns (thenRuns K (heldRuns held))) m
-          ∙ runs-drop k (4 * maxRuns) f ws₁ ws₀ (d .kept (4 * maxRuns) (omega arith)) (omega arith)
+    pub join-count : {ws₂ : List ℕ} {a : EdgeAnswer}
+        → ((K : Case) (ws₀ : List ℕ) → Detects K ws₀ ws₁ (Count n) → Sound (pathTotal (K .netlist)) (heldRuns held) → Covers K (heldRuns held) ws₀ ws₂ target a)
+        → (K : Case) (ws₀ : List ℕ) → Detects K ws₀ ws₁ q → Sound (pathTotal (K .netlist)) (heldRuns held) → Covers K (heldRuns held) ws₀ ws₂ target a
+    join-count made K ws₀ d so = made K ws₀ (subst (λ (x : Added). Detects K ws₀ ws₁ x) t d) so
 
-      pub join-full : r ≡ Full → Covers K (heldRuns held) ws₀ ws₂ target OverStore
-      join-full e =
-          let o : maxRuns < length (thenRuns K (heldRuns held)) = answer-over maxRuns (thenRuns K (heldRuns held)) (sym e ∙ united .answers) in
-          record {
-            answers = rules-store (found-is d t .0) (lt-leb (length (thenRuns K (heldRuns held))) maxRuns o);
-            runsAre = λ c p. (let z : _≡_ {A = ℕ} 0 1 = cc in absurd (omega arith));
-            kept = kept₂;
-            between = between₂;
-          }
-
-      pub join-made : {m : ℕ} → r ≡ Count m → Covers K (heldRuns held) ws₀ ws₂ target (Covered (Made m))
-      join-made {m = m} e =
-          let c = adds-count ws₁ ws₂ target maxRuns m (thenRuns K (heldRuns held)) r (h .room) e united in
-          record {
-            answers = rules-fit (found-is d t .0) (le-leb (length (thenRuns K (heldRuns held))) maxRuns (c .0));
-            runsAre = λ g p. (let i : Made m ≡ g = cc in subst (λ (x : Change). changed x ws₂ target (heldRuns held) ≡ thenRuns K (heldRuns held)) i (c .2));
-            kept = kept₂;
-            between = between₂;
-          }
+pub ruleset join-cases = (join-over, place-fits, found-inside, join-known, join-none, ready-count, join-count, needs)

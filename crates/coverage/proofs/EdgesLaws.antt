@@ -45,12 +45,12 @@ pub memory-sound : {N : Netlist} {ws work : List ℕ} → MemoryReady N ws work 
 memory-sound {N = N} {ws = ws} m = sound-words (pathTotal N) ws (m .storeLength) (sym (m .sound))
 
 module _ {ws held : List ℕ} (e : Edge) (f : FewRuns ws) (is : held ≡ edgeWords ws e) where
-  held-half : length held / 2 ≡ runCount ws e
+  pub held-half : length held / 2 ≡ runCount ws e
   held-half =
       let l : length held ≡ 2 * runCount ws e = ap (λ (x : List ℕ). length x) is ∙ edge-words-fit ws e f in
       omega arith
 
-  held-are : heldRuns held ≡ storeRuns ws e
+  pub held-are : heldRuns held ≡ storeRuns ws e
   held-are = ap (λ (k : ℕ). runsInWords held 0 k) held-half ∙ ap (λ (x : List ℕ). runsInWords x 0 (runCount ws e)) is ∙ edge-words-runs ws e
 
 -- One edge of a sound store, from the detected runs of a case of its netlist

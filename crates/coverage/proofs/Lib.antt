@@ -1,4 +1,5 @@
 pub mod CoverLaws
+pub mod JoinNewCases
 pub mod BothLaws
 pub mod EdgesLaws
 pub mod WorkLaws

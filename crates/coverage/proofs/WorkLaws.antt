@@ -2,7 +2,7 @@
 -- Assumes nothing.
 use mathlib.Core.Path.{_≡_, refl, ap, ap₂, sym, _∙_}
 use mathlib.Core.List.{List}
-use Prim.Native.Nat.{ℕ, _+_, _*_, _≤_}
+use Prim.Native.Nat.{ℕ, _*_, _≤_}
 use native.Mathlib.Omega.{arith}
 use borrow.Author.Needs.{needs}
 use lib.Dec.{leb, leb→le}
@@ -21,11 +21,9 @@ use Rattle.model.proofs.AnswerLaws.{checks→}
 use Rattle.model.proofs.HoldingLaws.{at-edge}
 use Rattle.netlist.specs.Tables.{CircuitTables}
 use Rattle.netlist.specs.declared.inner.Shape.{Shape}
-use Rattle.runs.proofs.RunWordLaws.{length-runs}
 use Rattle.test_records.specs.declared.inner.InputEdges.{InputEdges}
-use Rattle.store_writing.specs.Writing.{changed, withRuns, StoreHas, MadeAt, Writable, Rewritten}
+use Rattle.store_writing.specs.Writing.{changed, withRuns, StoreHas, Writable, Rewritten}
 use Rattle.store_writing.specs.declared.inner.Change.{Change}
-use Rattle.store_writing.specs.declared.inner.Change.the-variants.{Made}
 use Rattle.store_writing.proofs.EdgeWriteCases.{sound-has}
 use Rattle.coverage.specs.Both.{bothOf, CoversBoth}
 use Rattle.coverage.specs.Stage.{PinsOf, MemoryReady, WorkReady, BothMade, SomeBothMade, storeAfter, workStage, StageIs}
@@ -37,13 +35,6 @@ use Rattle.coverage.proofs.EdgesLaws.{same-memory}
 
 store-has : {N : Netlist} {ws work : List ℕ} → MemoryReady N ws work → StoreHas ws (runsByEdge ws)
 store-has {N = N} {ws = ws} m = sound-has (pathTotal N) ws (m .storeLength) (m .sound)
-
--- runs that are made are as many as they are said to be
-made-at : (d : Change) (words : List ℕ) (from : ℕ) (old new : List Run) → changed d words from old ≡ new → length new ≤ maxRuns → 2 * (from + maxRuns) ≤ length words
-    → (n : ℕ) → d ≡ Made n → MadeAt words from n
-made-at d words from old new is few room n e =
-    let l : n ≡ length new = sym (length-runs words from n) ∙ ap (length {A = Run}) (ap (λ (x : Change). changed x words from old) (sym e) ∙ is) in
-    record { few = omega arith; inside = omega arith }
 
 module _ {N : Netlist} {t : Test} {ws work work′ : List ℕ} (m : MemoryReady N ws work) (same : length work′ ≡ length work) {b : BothAnswer}
     (x : CoversBoth N t ws work work′ b) where
@@ -62,12 +53,11 @@ module _ {N : Netlist} {t : Test} {ws work work′ : List ℕ} (m : MemoryReady 
         leb→le (length (runsThen N (runsByEdge ws) t e)) maxRuns
         (at-edge (λ d. leb (length (runsThen N (runsByEdge ws) t d)) maxRuns) (checks→ (workRules N (runsByEdge ws) t) (record { got = tt; is = passing }) .1 .0) e)
 
-    first-writable : Writable work′ (2 * maxRuns) r ws
-    first-writable = record {
-      runs = runsByEdge ws;
-      has = store-has m;
-      made = made-at r work′ (2 * maxRuns) (storeRuns ws rising) (runsThen N (runsByEdge ws) t rising) (x .risingRuns r f fits) (few-then rising) (omega (arith, m .workLength));
-    }
+    few-rising : length (changed r work′ (2 * maxRuns) (storeRuns ws rising)) ≤ maxRuns
+    few-rising = omega (arith, few-then rising, ap (length {A = Run}) (x .risingRuns r f fits))
+
+    first-writable : Writable work′ (2 * maxRuns) r rising ws
+    first-writable = record { runs = runsByEdge ws; has = store-has m; within = x .risingWithin r f fits; few = few-rising; room = omega (arith, m .workLength) }
 
     module _ {ws₁ : List ℕ} (w₁ : Rewritten work′ (2 * maxRuns) r rising ws ws₁) where
       runs₁ : ByEdge (List Run)
@@ -78,14 +68,17 @@ module _ {N : Netlist} {t : Test} {ws work work′ : List ℕ} (m : MemoryReady 
       has₁ = record { is = w₁ (runsByEdge ws) (store-has m); few = few₁ }
         where
           few₁ : (e : Edge) → length (ofEdge (withRuns rising (changed r work′ (2 * maxRuns) (storeRuns ws rising)) (runsByEdge ws)) e) ≤ maxRuns
-          few₁ rising = omega (arith, few-then rising, ap (length {A = Run}) (x .risingRuns r f fits))
+          few₁ rising = few-rising
           few₁ falling = store-has m .few falling
 
-      second-writable : Writable work′ (3 * maxRuns) f ws₁
+      second-writable : Writable work′ (3 * maxRuns) f falling ws₁
+      unfolding runs₁
       second-writable = record {
         runs = runs₁;
         has = has₁;
-        made = made-at f work′ (3 * maxRuns) (storeRuns ws falling) (runsThen N (runsByEdge ws) t falling) (x .fallingRuns r f fits) (few-then falling) (omega (arith, m .workLength));
+        within = x .fallingWithin r f fits;
+        few = omega (arith, few-then falling, ap (length {A = Run}) (x .fallingRuns r f fits));
+        room = omega (arith, m .workLength);
       }
 
       taken-stage : {ws₂ : List ℕ} → Rewritten work′ (3 * maxRuns) f falling ws₁ ws₂ → StageIs (workStage N t ws) ws ws₂ work work′ Taken
@@ -107,11 +100,11 @@ module _ {b : BothAnswer} {ws work : List ℕ} where
   write-full e N t found x = refused-stage (x .memory) (x .sameLength) (x .covers) why.StoreRuns (ap bothOf e)
 
   module _ {r f : Change} (fits : b ≡ Fits r f) where
-    pub write-first : SomeBothMade b ws work → Writable work (2 * maxRuns) r ws
+    pub write-first : SomeBothMade b ws work → Writable work (2 * maxRuns) r rising ws
     write-first h = first-writable (h .made .memory) (h .made .sameLength) (h .made .covers) fits
 
     module _ {ws₁ : List ℕ} (w₁ : Rewritten work (2 * maxRuns) r rising ws ws₁) where
-      pub write-next : SomeBothMade b ws work → Writable work (3 * maxRuns) f ws₁
+      pub write-next : SomeBothMade b ws work → Writable work (3 * maxRuns) f falling ws₁
       write-next h = second-writable (h .made .memory) (h .made .sameLength) (h .made .covers) fits w₁
 
       pub write-taken : {ws₂ : List ℕ} → Rewritten work (3 * maxRuns) f falling ws₁ ws₂

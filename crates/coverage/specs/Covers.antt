@@ -14,7 +14,7 @@ use Rattle.model.specs.Runs.{Run, runsOf, inRuns}
 use Rattle.runs.specs.RunLists.{Sound, runsInWords}
 use Rattle.runs.specs.declared.inner.Added.{Added}
 use Rattle.runs.specs.declared.inner.Added.the-variants.{Count}
-use Rattle.store_writing.specs.Writing.{changed}
+use Rattle.store_writing.specs.Writing.{changed, Within}
 use Rattle.store_writing.specs.declared.inner.Change.{Change}
 use Rattle.intervals.specs.Edges.{Case, working}
 use Rattle.coverage.specs.declared.edges.EdgeAnswer.{EdgeAnswer}
@@ -47,9 +47,10 @@ edgeOf OverStore = refused 51
 abbrev pub edgeRules : Case → List Run → List Rule
 edgeRules K s = (50, leb (working K) maxRuns) ∷ (51, leb (length (thenRuns K s)) maxRuns) ∷ []
 
--- the answer, the runs afterwards, kept or made at run place `target`, and the words that stay
+-- the answer, the runs afterwards, kept or partly made at run place `target`, and the words that stay
 pub record Covers (K : Case) (s : List Run) (ws ws′ : List ℕ) (target : ℕ) (r : EdgeAnswer) : Type 0 where
   pub answers : edgeOf r ≡ checks (edgeRules K s)
   pub runsAre : (d : Change) → r ≡ Covered d → changed d ws′ target s ≡ thenRuns K s
+  pub within : (d : Change) → r ≡ Covered d → Within d (length s)
   pub kept : (k : ℕ) → 2 * (target + maxRuns) ≤ k → drop k ws′ ≡ drop k ws
   pub between : (f k : ℕ) → 2 * maxRuns ≤ f → f + k ≤ target → runsInWords ws′ f k ≡ runsInWords ws f k

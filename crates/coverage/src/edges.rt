@@ -1,11 +1,12 @@
 // One edge of a store with what the test detects, and both edges, for our own crates. Each caller proves what a function requires.
 ghost use mathlib.Core.Path.{_≡_};
 ghost use mathlib.Core.List.{List};
-ghost use Prim.Native.Nat.{ℕ};
+ghost use Prim.Native.Nat.{ℕ, _≤_};
 ghost use Rattle.model.specs.Netlist.{Netlist, pathTotal};
 ghost use Rattle.model.specs.Detect.{Test};
 ghost use Rattle.netlist.specs.Tables.{CircuitTables};
 ghost use Rattle.runs.specs.RunLists.{Sound};
+ghost use Rattle.runs.specs.declared.inner.Added.the-variants.{Count};
 ghost use Rattle.intervals.specs.Edges.{Case, Detects};
 ghost use Rattle.coverage.specs.Covers.{heldRuns, JoinReady, Covers};
 ghost use Rattle.coverage.specs.Both.{joined, CoversBoth};
@@ -14,6 +15,8 @@ use faults::Edge;
 use intervals::inner::detected_runs;
 use model::MAX_RUNS;
 use netlist::inner::Shape;
+use run_union::inner::merging::first_apart;
+use run_union::inner::merging::first_joined;
 use run_union::inner::merging::union;
 use runs::inner::Added;
 use runs::inner::inside;
@@ -33,7 +36,29 @@ pub enum EdgeAnswer {
     OverStore,
 }
 
-// Joins the detected runs of the second quarter of the words to the runs that an edge holds. Where something is new the union is made at run `target`.
+// Joins detected runs of which some are new. Only those that an edge holds between the first and the last of them are united with them, at run `target`.
+fn join_new(found: usize, held: &[u64], words: &mut [u64], target: usize) -> EdgeAnswer
+    requires { ⌜ JoinReady (Count found) (now held) (now words) target ⌝ }
+    requires { ⌜ 1 ≤ found ⌝ }
+    ensures { λ r. ⌜ ((K : Case) (ws : List ℕ) → Detects K ws (now (words .entry)) (Count found)
+        → Sound (pathTotal (K .netlist)) (heldRuns (now (held .entry))) → Covers K (heldRuns (now (held .entry))) ws (now (words .exit)) target r) ⌝ }
+{
+    let count = held.len() / 2;
+    let end = MAX_RUNS + found;
+    let from = first_joined(held, count, words[2 * MAX_RUNS]);
+    let to = first_apart(held, from, count, words[2 * end - 1]);
+    match union(held, from, to, words, MAX_RUNS, end, target, MAX_RUNS) {
+        Added::Count(n) => {
+            if MAX_RUNS < from + n + (count - to) {
+                return EdgeAnswer::OverStore;
+            }
+            EdgeAnswer::Covered(Change::Made(from, to, n))
+        }
+        Added::Full => EdgeAnswer::OverStore,
+    }
+}
+
+// Joins the detected runs of the second quarter of the words to the runs that an edge holds. Where something is new a union is made at run `target`.
 pub fn join_edge(detected: Added, held: &[u64], words: &mut [u64], target: usize) -> EdgeAnswer
     requires { ⌜ JoinReady detected (now held) (now words) target ⌝ }
     ensures { λ r. ⌜ ((K : Case) (ws : List ℕ) → Detects K ws (now (words .entry)) detected
@@ -42,15 +67,15 @@ pub fn join_edge(detected: Added, held: &[u64], words: &mut [u64], target: usize
     match detected {
         Added::Full => EdgeAnswer::OverWork,
         Added::Count(found) => {
+            if found == 0 {
+                return EdgeAnswer::Covered(Change::Kept);
+            }
             let count = held.len() / 2;
             let end = MAX_RUNS + found;
             if inside(held, 0, count, words, MAX_RUNS, end) {
                 return EdgeAnswer::Covered(Change::Kept);
             }
-            match union(held, 0, count, words, MAX_RUNS, end, target, MAX_RUNS) {
-                Added::Count(n) => EdgeAnswer::Covered(Change::Made(n)),
-                Added::Full => EdgeAnswer::OverStore,
-            }
+            join_new(found, held, words, target)
         }
     }
 }

@@ -20,10 +20,10 @@ use faults::Edge;
 use model::Refusal;
 use netlist::inner::Shape;
 use simulation::inner::open_pins::open_masks;
-use store_words::inner::StoreTotals;
-use store_words::inner::totals_of;
 use store_words::inner::StoreCheck;
+use store_words::inner::StoreTotals;
 use store_words::inner::check_words;
+use store_words::inner::totals_of;
 use store_writing::inner::write_runs;
 use test_records::inner::InputEdges;
 use test_records::inner::RecordAnswer;
@@ -155,30 +155,8 @@ pub fn count_answer(before: StoreTotals, answer: StageAnswer, store: &[u64]) -> 
     }
 }
 
-// One record, judged in a class: the places Test and Work. The store is sound, so the place Store refuses nothing.
-pub fn apply_record(
-    netlist: &[u8],
-    positions: &[u16; 512],
-    counts: &[u64; 512],
-    shape: Shape,
-    test: &[u8],
-    class: u32,
-    store: &mut [u64],
-    work: &mut [u64],
-) -> StageAnswer
-    requires { ⌜ StageReady (now netlist) (now positions) (now counts) shape (now store) (now work) ⌝ }
-    ensures { λ r. ⌜ ((N : Netlist) → CircuitTables N (now (netlist .entry)) (now (positions .entry)) (now (counts .entry)) shape
-        → StageTrue N (classOf class) (now (test .entry)) (now (store .entry)) (now (store .exit)) (now (work .entry)) (now (work .exit)) r) ⌝ }
-{
-    match check_places(test, shape.inputs, store, StoreKnown::Sound) {
-        Checked::Refused(why) => StageAnswer::Refused(why),
-        Checked::Passed => {
-            apply_legal(netlist, positions, counts, shape, test, class, store, work)
-        }
-    }
-}
-
-// The same, with the faults counted that are new to the store and those then held.
+// One record, judged in a class: the places Test and Work, with the faults counted that are new to the store and those then held. The store is sound, so the
+// place Store refuses nothing.
 pub fn count_record(
     netlist: &[u8],
     positions: &[u16; 512],

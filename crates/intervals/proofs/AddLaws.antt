@@ -59,12 +59,16 @@ sound-only : (n : ℕ) (b : Bool) (s : List Run) → Sound n s → Sound n (only
 sound-only n true s h = h
 sound-only n false s h = tt
 
+-- a number times 0 or 1
+pub times-most : (n : ℕ) {opened : ℕ} → opened < 2 → n * opened ≤ n
+times-most n {opened} l = cases 1 opened
+    (λ h. let one : opened ≡ 1 = omega arith in rw one (omega arith))
+    (λ h. let none : opened ≡ 0 = omega arith in rw none (omega arith))
+
 module _ {starts ws : List ℕ} {start net from to opened : ℕ} (r : NetReady starts ws start net) (e : from ≡ getD starts net 0) (d : to ≡ getD starts (net + 1) 0)
     (l : opened < 2) where
   times : (to - from) * opened ≤ to - from
-  times = cases 1 opened
-      (λ h. let one : opened ≡ 1 = omega arith in rw one (omega arith))
-      (λ h. let none : opened ≡ 0 = omega arith in rw none (omega arith))
+  times = times-most (to - from) l
 
   opened-runs : runsInWords ws from (from + (to - from) * opened - from) ≡ onlyIf (eqb opened 1) (runsIn starts ws net)
   unfolding runsIn

@@ -1,6 +1,7 @@
 pub mod AddLaws
 pub mod PlaceRunLaws
 pub mod PlaceRunSteps
+pub mod OpenRunLaws
 pub mod StandLaws
 pub mod DetectedLaws
 pub mod NetSteps

@@ -1,7 +1,7 @@
 -- The runs that a gate's pins, or the outputs, add one after the other, each shifted by the paths of the places before it.
 -- Assumes nothing.
 use Prim.Native.Nat.{ℕ, zero, suc, _+_, _-_, _*_, _≤_, _<_, _^_}
-use mathlib.Core.Bool.{Bool}
+use mathlib.Core.Bool.{Bool, true, false}
 use mathlib.Core.List.{List, []}
 use lib.Dec.{leb}
 use lib.ListN.{length, getD, drop}
@@ -47,6 +47,20 @@ gatePlaces part mask counts = record { netOf = pinIn part; opens = λ p net. bit
 abbrev pub gateRuns : List ℕ → ℕ → List ℕ → List ℕ → List ℕ → List Run
 gateRuns part mask counts starts ws = firstRuns (gatePlaces part mask counts) (runsIn starts ws) (pinCountIn part)
 
+-- a number, only where the test passes
+abbrev pub countIf : Bool → ℕ → ℕ
+countIf true n = n
+countIf false n = 0
+
+-- how many runs a net has, by the starts
+abbrev pub runCount : List ℕ → ℕ → ℕ
+runCount starts net = getD starts (net + 1) 0 - getD starts net 0
+
+-- how many runs the nets of the open ones of a gate's first n pins have together, each pin's for itself
+unfoldable pub openRuns : List ℕ → ℕ → List ℕ → ℕ → ℕ
+openRuns part mask starts zero = 0
+openRuns part mask starts (suc n) = openRuns part mask starts n + countIf (bit mask n) (runCount starts (pinIn part n))
+
 -- the outputs, whose records make a part: one at an input net, a wire without a gate, has no path
 abbrev pub outputAt : List ℕ → ℕ → ℕ
 outputAt part o = outputIn (drop (4 * o) part)
@@ -69,6 +83,13 @@ pub record PlacesReady (P : Places) (n : ℕ) (starts ws : List ℕ) (start cap 
   pub room : 2 * (start + cap) ≤ length ws
   pub atPlace : (p : ℕ) → p < n → NetReady starts ws start (P .netOf p)
   pub offsets : (p : ℕ) → p ≤ n → pathsBefore P p ≤ 2 ^ 62
+
+-- a gate's record, and where the runs of its pins' nets begin and end
+pub record PinsReady (part starts : List ℕ) : Type 0 where
+  pub fewPins : pinCountIn part ≤ 8
+  pub inside : 4 + 2 * pinCountIn part ≤ length part
+  pub areNets : (p : ℕ) → p < pinCountIn part → pinIn part p < 512
+  pub ordered : (p : ℕ) → p < pinCountIn part → getD starts (pinIn part p) 0 ≤ getD starts (pinIn part p + 1) 0
 
 -- a gate's record, and the runs of its pins' nets
 pub record GateReady (part : List ℕ) (mask : ℕ) (counts starts ws : List ℕ) (start : ℕ) : Type 0 where

@@ -3,12 +3,14 @@ ghost use mathlib.Core.Path.{_≡_};
 ghost use Prim.Native.Nat.{_-_, _*_, _≤_};
 ghost use lib.ListN.{length};
 ghost use Rattle.model.specs.Store.{maxRuns};
+ghost use Rattle.netlist.specs.Tables.{pinCountIn};
 ghost use Rattle.runs.specs.Answers.{Adds};
-ghost use Rattle.intervals.specs.PlaceRuns.{GateReady, gateRuns};
+ghost use Rattle.intervals.specs.PlaceRuns.{PinsReady, GateReady, gateRuns, openRuns};
 ghost use Rattle.intervals.specs.Edges.{Case};
 ghost use Rattle.intervals.specs.Nets.{inputRuns, Stand, Kept, NetsAt, SomeNetsAt, NetsMade};
 use crate::adding::add_net;
 use crate::adding::digit;
+use crate::adding::open_count;
 use model::MAX_RUNS;
 use netlist::inner::Shape;
 use netlist::inner::gate_part;
@@ -38,6 +40,22 @@ pub(crate) fn input_runs(
         starts[input] = start as u16;
     }
     start
+}
+
+// How many runs the nets of a gate's open pins have together.
+fn open_runs(part: &[u8], mask: u8, starts: &[u16; 513]) -> usize
+    requires { ⌜ PinsReady (now part) (now starts) ⌝ }
+    ensures { λ r. ⌜ r ≡ openRuns (now (part .entry)) mask (now (starts .entry)) (pinCountIn (now (part .entry))) ⌝ }
+{
+    let pins = wide(part[3]);
+    let mut pin = 0;
+    let mut sum = 0;
+    while pin < pins {
+        let net = pin_net(part, pin);
+        sum += open_count(digit(mask as u64, pin as u64), starts, net);
+        pin += 1;
+    }
+    sum
 }
 
 // Makes the runs of a gate's net, pin by pin.
@@ -82,6 +100,25 @@ fn gate_runs(
     Added::Count(count)
 }
 
+// Makes the runs of a gate's net. Most gates have none: one test passes over them, where a branch on each pin would be mispredicted.
+fn add_gate(
+    part: &[u8],
+    mask: u8,
+    counts: &[u64; 512],
+    starts: &[u16; 513],
+    words: &mut [u64],
+    start: usize,
+) -> Added
+    requires { ⌜ GateReady (now part) mask (now counts) (now starts) (now words) start ⌝ }
+    ensures { λ r. ⌜ Adds (now (words .entry)) (now (words .exit)) start (maxRuns - start)
+        (gateRuns (now (part .entry)) mask (now (counts .entry)) (now (starts .entry)) (now (words .entry))) r ⌝ }
+{
+    if open_runs(part, mask, starts) == 0 {
+        return Added::Count(0);
+    }
+    gate_runs(part, mask, counts, starts, words, start)
+}
+
 // Makes the runs of the gates' nets after those of the inputs, and where each net's begin.
 pub(crate) fn net_runs(
     netlist: &[u8],
@@ -102,7 +139,7 @@ pub(crate) fn net_runs(
     let mut start = first;
     while net < shape.nets {
         let part = gate_part(netlist, positions, net);
-        match gate_runs(part, masks[net], counts, starts, words, start) {
+        match add_gate(part, masks[net], counts, starts, words, start) {
             Added::Count(c) => {
                 start += c;
             }

@@ -7,15 +7,15 @@ use native.Mathlib.Nat.{zero-add, suc-add, suc-mul, mul-add-div-right, mod-add-d
 use native.Mathlib.Omega.{arith}
 use lib.ListN.{length, take, drop, length-append, length-drop}
 use lib.Seq.{take-append-le, drop-append-le}
-use Rattle.model.specs.Base.{Answer, refused, value, _>>=_}
+use Rattle.model.specs.Base.{Answer, refused, value}
 use Rattle.model.specs.Netlist.{Netlist}
 use Rattle.model.specs.Detect.{Class}
 use Rattle.model.specs.Read.{readNetlist, classOf, recordLength}
-use Rattle.model.specs.Calls.{Tested, testStage, storeLeft}
 use Rattle.model.specs.Report.{records, fileRecords, testAll}
 use Rattle.netlist.specs.declared.inner.Loaded.{Loaded}
-use Rattle.audit.specs.TestFile.{fileOf, oneMore, takenOf}
+use Rattle.audit.specs.TestFile.{fileOf, takenOf}
 use Rattle.audit.specs.declared.inner.TakenRecords.{TakenRecords}
+use Rattle.audit.proofs.TakenRecordLaws.{takenThen, then-more, taken-append}
 use Rattle.pieces.specs.Steps.{withPiece, takenWith}
 use Rattle.pieces.specs.Together.{joined, WholeButLast, MadePiece, bytesOf, Promised, lastAnswer}
 
@@ -40,31 +40,6 @@ file-append N piece rest h =
     let l : length (piece ++ rest) ≡ m * len + length rest = omega (arith, length-append piece rest, whole) in
     let n : length (piece ++ rest) / len ≡ m + length rest / len = ap (λ (k : ℕ). k / len) l ∙ mul-add-div-right pos m (length rest) in
     ap (λ (k : ℕ). records len k (piece ++ rest)) n ∙ records-append len m (length rest / len) piece rest whole
-
--- the records `qs` after those that answered `x`
-abbrev takenThen : Netlist → Class → List (List ℕ) → Answer (List ℕ) → ℕ → ℕ
-takenThen N c qs (refused n) k = k
-takenThen N c qs (value left) k = k + takenOf N c qs left
-
-then-more : (N : Netlist) (c : Class) (qs : List (List ℕ)) (x : Answer (List ℕ)) (j k : ℕ) → j + takenThen N c qs x k ≡ takenThen N c qs x (j + k)
-then-more N c qs (refused n) j k = refl
-then-more N c qs (value left) j k = omega arith
-
--- one record, then the others
-taken-one : (N : Netlist) (c : Class) (qs : List (List ℕ)) (x : Answer Tested) (f g : List ℕ → ℕ) (h : List ℕ → Answer (List ℕ))
-    → ((ws : List ℕ) → f ws ≡ takenThen N c qs (h ws) (g ws))
-    → oneMore x (λ d. f (storeLeft d)) ≡ takenThen N c qs (x >>= λ d. h (storeLeft d)) (oneMore x (λ d. g (storeLeft d)))
-taken-one N c qs (refused n) f g h q = refl
-taken-one N c qs (value d) f g h q =
-    let ws : List ℕ = storeLeft d in
-    ap (λ (k : ℕ). 1 + k) (q ws) ∙ then-more N c qs (h ws) 1 (g ws)
-
-taken-append : (N : Netlist) (c : Class) (rs qs : List (List ℕ)) (ws : List ℕ)
-    → takenOf N c (rs ++ qs) ws ≡ takenThen N c qs (testAll N c rs ws) (takenOf N c rs ws)
-unfolding takenOf testAll
-taken-append N c [] qs ws = sym (zero-add (takenOf N c qs ws))
-taken-append N c (r ∷ rs) qs ws =
-    taken-one N c qs (testStage N c r ws) (λ v. takenOf N c (rs ++ qs) v) (λ v. takenOf N c rs v) (λ v. testAll N c rs v) (λ v. taken-append N c rs qs v)
 
 as-then : (N : Netlist) (c : Class) (piece : List ℕ) (x : Answer (List ℕ)) (k : ℕ) → takenWith N c piece x k ≡ takenThen N c (fileRecords N piece) x k
 unfolding takenWith

@@ -5,6 +5,8 @@ pub mod RunWriteLaws
 pub mod Adding
 pub mod AppendCases
 pub mod CopySteps
+pub mod MoveSteps
+pub mod MiddleLaws
 pub mod EachSteps
 pub mod PlacingSteps
 pub mod ShiftedCases

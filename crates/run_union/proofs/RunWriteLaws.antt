@@ -34,6 +34,14 @@ getD-writeRuns ws i j (r ∷ s) h =
     ∙ getD-set-other (set ws (2 * i) (r .low)) (2 * i + 1) j (r .high) 0 (omega arith)
     ∙ getD-set-other ws (2 * i) j (r .low) 0 (omega arith)
 
+-- a word after the runs that are written
+pub getD-after : (ws : List ℕ) (i j : ℕ) (s : List Run) → 2 * (i + length s) ≤ j → getD (writeRuns ws i s) j 0 ≡ getD ws j 0
+getD-after ws i j [] h = refl
+getD-after ws i j (r ∷ s) h =
+    getD-after (set (set ws (2 * i) (r .low)) (2 * i + 1) (r .high)) (i + 1) j s (omega arith)
+    ∙ getD-set-other (set ws (2 * i) (r .low)) (2 * i + 1) j (r .high) 0 (omega arith)
+    ∙ getD-set-other ws (2 * i) j (r .low) 0 (omega arith)
+
 pub runs-write-before : (ws : List ℕ) (i f k : ℕ) (s : List Run) → f + k ≤ i → runsInWords (writeRuns ws i s) f k ≡ runsInWords ws f k
 runs-write-before ws i f zero s h = refl
 runs-write-before ws i f (suc k) s h =
@@ -57,7 +65,7 @@ runs-write ws i (r ∷ s) h =
     hi = getD-writeRuns w (i + 1) (2 * i + 1) s (omega arith)
         ∙ getD-set-same (set ws (2 * i) (r .low)) (2 * i + 1) (r .high) 0 (simp length-set (omega arith))
 
-set-writeRuns : (ws : List ℕ) (i j v : ℕ) (s : List Run) → j < 2 * i → set (writeRuns ws i s) j v ≡ writeRuns (set ws j v) i s
+pub set-writeRuns : (ws : List ℕ) (i j v : ℕ) (s : List Run) → j < 2 * i → set (writeRuns ws i s) j v ≡ writeRuns (set ws j v) i s
 set-writeRuns ws i j v [] h = refl
 set-writeRuns ws i j v (r ∷ s) h =
     set-writeRuns (set (set ws (2 * i) (r .low)) (2 * i + 1) (r .high)) (i + 1) j v s (omega arith)
@@ -83,3 +91,12 @@ writeRuns-writeRuns ws i (r ∷ s) (q ∷ t) h =
 pub write-append : (ws : List ℕ) (i k : ℕ) (s t : List Run) → k ≡ i + length s → writeRuns (writeRuns ws i s) k t ≡ writeRuns ws i (s ++ t)
 write-append ws i k [] t e = let e′ : k ≡ i = omega arith in rw e′
 write-append ws i k (r ∷ s) t e = write-append (set (set ws (2 * i) (r .low)) (2 * i + 1) (r .high)) (i + 1) k s t (omega arith)
+
+-- runs written before others that are written already
+pub write-swap : (ws : List ℕ) (i k : ℕ) (s t : List Run) → i + length s ≤ k → writeRuns (writeRuns ws k t) i s ≡ writeRuns (writeRuns ws i s) k t
+write-swap ws i k [] t h = refl
+write-swap ws i k (r ∷ s) t h =
+    ap (λ (l : List ℕ). writeRuns l (i + 1) s)
+    (ap (λ (l : List ℕ). set l (2 * i + 1) (r .high)) (set-writeRuns ws k (2 * i) (r .low) t (omega arith))
+    ∙ set-writeRuns (set ws (2 * i) (r .low)) k (2 * i + 1) (r .high) t (omega arith))
+    ∙ write-swap (set (set ws (2 * i) (r .low)) (2 * i + 1) (r .high)) (i + 1) k s t (omega arith)

@@ -25,6 +25,16 @@ leftFirst (x ∷ xs) (y ∷ ys) = leb (x .low) (y .low)
 abbrev pub FitsWhere : Bool → List ℕ → ℕ → ℕ → ℕ → ℕ → ℕ → ℕ → Type 0
 FitsWhere r ws from to start n cap offset = r ≡ true → (n + (to - from) ≤ cap) × (getD ws (2 * (start + n) - 1) 0 + 1 < getD ws (2 * from) 0 + offset)
 
+-- the least number that a run after these may begin with, where one after none may begin with `b`
+abbrev pub leastAfter : ℕ → List Run → ℕ
+leastAfter b [] = b
+leastAfter b (r ∷ rs) = leastAfter (r .high + 2) rs
+
+-- the first run begins too high for one that ends with `high` to join it
+abbrev pub BeginsOver : ℕ → List Run → Type 0
+BeginsOver high [] = Unit {0}
+BeginsOver high (r ∷ rs) = high + 1 < r .low
+
 -- the runs a-from..a-to of some words and b-from..b-to of others united at `start` of the others, for each bound that both lists keep
 abbrev pub Unites : (a : List ℕ) (a-from a-to : ℕ) (ws : List ℕ) (b-from b-to start cap : ℕ) (ws′ : List ℕ) (r : Added) → Type 0
 Unites a a-from a-to ws b-from b-to start cap ws′ r =

@@ -9,6 +9,7 @@ ghost use Rattle.run_union.specs.Unions.{withShifted, FitsWhere};
 use runs::inner::Added;
 
 pub mod merging;
+pub mod moving;
 
 // The larger of two numbers.
 fn larger(a: u64, b: u64) -> u64

@@ -52,7 +52,7 @@ module _ (a : List ℕ) (a-from a-to : ℕ) (b : List ℕ) (b-from b-to : ℕ) w
   no-answer e = let z : _≡_ {A = ℕ} 0 1 = cc in absurd (omega arith)
 
   -- a number of a run that lies inside
-  inside-member : (n : ℕ) → Sound n (runsInWords a a-from (a-to - a-from)) → (r : Run) (x : ℕ) → RunInside a a-from a-to r → T (inRun r x)
+  pub inside-member : (n : ℕ) → Sound n (runsInWords a a-from (a-to - a-from)) → (r : Run) (x : ℕ) → RunInside a a-from a-to r → T (inRun r x)
       → inRuns (runsInWords a a-from (a-to - a-from)) x ≡ true
   inside-member n s r x h t =
       let cut : runsInWords a a-from (a-to - a-from)

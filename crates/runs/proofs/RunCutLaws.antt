@@ -1,21 +1,22 @@
 -- A list of runs cut at a run: for sums over a list and for a binary search.
 -- Assumes nothing.
 use Prim.Native.Nat.{ℕ, zero, suc, _+_, _-_, _≤_, _<_}
-use mathlib.Core.Path.{_≡_, refl, sym, ap, _∙_}
+use mathlib.Core.Path.{_≡_, refl, sym, ap, ap₂, _∙_}
 use mathlib.Core.Bool.{true, false, _||_, or-false, or-assoc, or-true}
 use mathlib.Core.List.{List, [], _∷_, _++_}
 use native.Mathlib.Omega.{arith}
+use lib.ListN.{take, drop}
 use Rattle.model.specs.Runs.{Run, Separated}
 use Rattle.model.proofs.RunLaws.{separated-weaken}
 use Rattle.runs.specs.RunLists.{runAt, runsInWords}
 use Rattle.runs.proofs.MemberLaws.{inside, member, inside-in, inside-lt, inside-gt, below}
 use Rattle.runs.proofs.RunWordLaws.{runs-next}
 
-member-append : (x : ℕ) (s t : List Run) → member x (s ++ t) ≡ member x s || member x t
+pub member-append : (x : ℕ) (s t : List Run) → member x (s ++ t) ≡ member x s || member x t
 member-append x [] t = refl
 member-append x (r ∷ s) t = rw (member-append x s t) (sym (or-assoc (inside x r) (member x s) (member x t)))
 
-low-ge : (b n : ℕ) (s : List Run) (r : Run) (t : List Run) → Separated n b (s ++ r ∷ t) → b ≤ r .low
+pub low-ge : (b n : ℕ) (s : List Run) (r : Run) (t : List Run) → Separated n b (s ++ r ∷ t) → b ≤ r .low
 low-ge b n [] r t u = u .0
 low-ge b n (c ∷ s) r t u = omega (arith, low-ge (c .high + 2) n s r t (u .3))
 
@@ -48,7 +49,7 @@ module _ (b n x : ℕ) (s : List Run) (r : Run) (t : List Run) (u : Separated n 
   pub cut-hit : r .low ≤ x → x ≤ r .high → member x (s ++ r ∷ t) ≡ true
   cut-hit h k = member-append x s (r ∷ t) ∙ rw (inside-in x r h k) (or-true (member x s))
 
-runs-add : (ws : List ℕ) (i j k : ℕ) → runsInWords ws i (j + k) ≡ runsInWords ws i j ++ runsInWords ws (i + j) k
+pub runs-add : (ws : List ℕ) (i j k : ℕ) → runsInWords ws i (j + k) ≡ runsInWords ws i j ++ runsInWords ws (i + j) k
 runs-add ws i zero k = let e : zero + k ≡ k = omega arith in let d : i + zero ≡ i = omega arith in rw (e, d)
 runs-add ws i (suc j) k =
     let e : suc j + k ≡ suc (j + k) = omega arith in
@@ -61,3 +62,31 @@ runs-cut ws lo mid hi h k =
     let e : hi - lo ≡ (mid - lo) + (hi - mid) = omega arith in
     let d : lo + (mid - lo) ≡ mid = omega arith in
     rw e (runs-add ws lo (mid - lo) (hi - mid) ∙ rw d (rw (runs-next ws mid hi k)))
+
+-- the first of the runs in words, and those after them
+pub take-runs : (ws : List ℕ) (i k n : ℕ) → k ≤ n → take k (runsInWords ws i n) ≡ runsInWords ws i k
+take-runs ws i zero n h = refl
+take-runs ws i (suc k) zero h = absurd (omega arith)
+take-runs ws i (suc k) (suc n) h = ap {B = List Run} (λ t. runAt ws i ∷ t) (take-runs ws (i + 1) k n (omega arith))
+
+pub drop-runs : (ws : List ℕ) (i k n : ℕ) → k ≤ n → drop k (runsInWords ws i n) ≡ runsInWords ws (i + k) (n - k)
+drop-runs ws i zero n h = let e : i + zero ≡ i = omega arith in let d : n - zero ≡ n = omega arith in rw (e, d) refl
+drop-runs ws i (suc k) zero h = absurd (omega arith)
+drop-runs ws i (suc k) (suc n) h =
+    let e : i + 1 + k ≡ i + suc k = omega arith in
+    let d : n - k ≡ suc n - suc k = omega arith in
+    drop-runs ws (i + 1) k n (omega arith) ∙ ap₂ (λ (j m : ℕ). runsInWords ws j m) e d
+
+-- runs in words, cut at two places
+pub runs-cut-twice : (ws : List ℕ) (i j k n : ℕ) → j ≤ k → k ≤ n
+    → runsInWords ws i n ≡ runsInWords ws i j ++ (runsInWords ws (i + j) (k - j) ++ runsInWords ws (i + k) (n - k))
+runs-cut-twice ws i j k n h l =
+    let e : n ≡ j + (n - j) = omega arith in
+    let d : n - j ≡ (k - j) + (n - k) = omega arith in
+    let p : i + j + (k - j) ≡ i + k = omega arith in
+    ap (λ (m : ℕ). runsInWords ws i m) e
+    ∙ runs-add ws i j (n - j)
+    ∙ ap (λ (t : List Run). runsInWords ws i j ++ t)
+    (ap (λ (m : ℕ). runsInWords ws (i + j) m) d
+    ∙ runs-add ws (i + j) (k - j) (n - k)
+    ∙ ap (λ (m : ℕ). runsInWords ws (i + j) (k - j) ++ runsInWords ws m (n - k)) p)

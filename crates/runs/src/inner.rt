@@ -93,7 +93,7 @@ fn step_where(step: usize, once: usize) -> usize
 
 // The first of the runs from..to that does not end below a number, by binary search without a branch on the runs: where they lie is without a
 // pattern, and a branch would be mispredicted. The contract asks less: it is only where a walk begins.
-fn first_reaching(words: &[u64], from: usize, to: usize, x: u64) -> usize
+pub fn first_reaching(words: &[u64], from: usize, to: usize, x: u64) -> usize
     requires { ⌜ (from ≤ to) × (2 * to ≤ length (now words)) ⌝ }
     ensures { λ r. ⌜ (from ≤ r) × (r ≤ to) ⌝ }
 {

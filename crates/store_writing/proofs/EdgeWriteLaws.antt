@@ -1,19 +1,19 @@
 -- Runs and zeros written over an edge's places make the model's places.
 -- Assumes nothing.
-use mathlib.Core.Path.{_≡_, refl, sym, ap, _∙_}
+use mathlib.Core.Path.{_≡_, refl, sym, ap, ap₂, _∙_}
 use mathlib.Core.List.{List, [], _∷_, _++_, append-assoc}
 use Prim.Native.Nat.{ℕ, zero, suc, _+_, _-_, _*_, _≤_, _<_}
 use native.Mathlib.Omega.{arith}
-use lib.ListN.{length, getD, set, replicate, length-append, length-replicate}
-use lib.Seq.{set-at, getD-set-other}
+use lib.ListN.{length, getD, take, drop, set, replicate, length-append, length-drop, length-replicate}
+use lib.Seq.{set-at, length-take-le}
 use Rattle.model.specs.Runs.{Run}
 use Rattle.model.specs.Store.{maxRuns, lowsHighs, places}
 use Rattle.runs.specs.RunLists.{run, runAt, runsInWords, writeRuns}
 use Rattle.runs.proofs.MemberLaws.{run-path}
+use Rattle.runs.proofs.RunCutLaws.{take-runs, drop-runs}
 use Rattle.runs.proofs.RunWordLaws.{length-runs}
-use Rattle.run_union.proofs.RunWriteLaws.{writeRuns-self}
-use Rattle.run_union.proofs.RunWriteLaws.{write-append}
-use Rattle.store_writing.specs.Writing.{zeroed, ZeroWords, zeroRuns, paddedRuns}
+use Rattle.run_union.proofs.RunWriteLaws.{writeRuns-self, getD-after, write-append, write-swap}
+use Rattle.store_writing.specs.Writing.{zeroed, ZeroWords, zeroRuns, paddedRuns, replaced}
 
 -- ---- words made zero
 
@@ -102,14 +102,6 @@ write-block (r ∷ s) i pre (a ∷ b ∷ mid) post e l =
     ∙ append-assoc p₁ (r .high ∷ []) (lowsHighs s ++ post)
     ∙ append-assoc pre (r .low ∷ []) (r .high ∷ (lowsHighs s ++ post))
 
--- a word after the runs that are written
-getD-after : (ws : List ℕ) (i j : ℕ) (s : List Run) → 2 * (i + length s) ≤ j → getD (writeRuns ws i s) j 0 ≡ getD ws j 0
-getD-after ws i j [] h = refl
-getD-after ws i j (r ∷ s) h =
-    getD-after (set (set ws (2 * i) (r .low)) (2 * i + 1) (r .high)) (i + 1) j s (omega arith)
-    ∙ getD-set-other (set ws (2 * i) (r .low)) (2 * i + 1) j (r .high) 0 (omega arith)
-    ∙ getD-set-other ws (2 * i) j (r .low) 0 (omega arith)
-
 -- An edge's runs written over those that are held, with zeros after them where there were more: the words after those are zero already
 module _ (ws : List ℕ) (first held : ℕ) (z : ZeroWords ws (2 * (first + held)) (2 * (first + maxRuns))) (rs : List Run) where
   padded-so-far : (k n : ℕ) → length rs + k + n ≡ maxRuns → held ≤ length rs + k → (ws′ : List ℕ) → ws′ ≡ writeRuns ws first (rs ++ zeroRuns k)
@@ -126,14 +118,44 @@ module _ (ws : List ℕ) (first held : ℕ) (z : ZeroWords ws (2 * (first + held
       ∙ ap (λ (x : List Run). writeRuns ws first x)
       (append-assoc rs (zeroRuns k) (zeroRuns n) ∙ ap (λ (x : List Run). rs ++ x) (zero-add k n ∙ ap zeroRuns (omega arith)))
 
-pub places-written : (words ws ws₁ ws₂ : List ℕ) (from count first held : ℕ) → count ≤ maxRuns → held ≤ maxRuns
-    → ZeroWords ws (2 * (first + held)) (2 * (first + maxRuns)) → ws₁ ≡ writeRuns ws first (runsInWords words from count)
-    → ws₂ ≡ zeroed ws₁ (2 * (first + count)) (2 * (first + held) - 2 * (first + count)) → ws₂ ≡ writeRuns ws first (paddedRuns (runsInWords words from count))
-places-written words ws ws₁ ws₂ from count first held c h z e d =
-    let l : length (runsInWords words from count) ≡ count = length-runs words from count in
-    let m : 2 * (first + held) - 2 * (first + count) ≡ 2 * (held - count) = omega arith in
-    padded-so-far ws first held z (runsInWords words from count) (held - count) (maxRuns - count - (held - count)) (omega (arith, l)) (omega (arith, l)) ws₂
-    (d ∙ ap (λ (n : ℕ). zeroed ws₁ (2 * (first + count)) n) m
-    ∙ zeroed-runs (held - count) (first + count) (2 * (first + count)) ws₁ refl
-    ∙ ap (λ (x : List ℕ). writeRuns x (first + count) (zeroRuns (held - count))) e
-    ∙ write-append ws first (first + count) (runsInWords words from count) (zeroRuns (held - count)) (omega (arith, l)))
+pub length-replaced : (from to : ℕ) (new old : List Run) → from ≤ length old → length (replaced from to new old) ≡ from + length new + (length old - to)
+length-replaced from to new old h =
+    length-append (take from old) (new ++ drop to old)
+    ∙ omega (arith, length-take-le from old h, length-append new (drop to old), length-drop to old)
+
+-- The runs from..to of those held replaced: the ones after them moved, then the others copied, then zeros where there were more
+module _ (ws words : List ℕ) (made count first held from to : ℕ) (h : from ≤ to) (l : to ≤ held) where
+  abbrev new : List Run
+  new = runsInWords words made count
+
+  abbrev tail : List Run
+  tail = runsInWords ws (first + to) (held - to)
+
+  abbrev whole : List Run
+  whole = replaced from to new (runsInWords ws first held)
+
+  replaced-written : {ws₁ ws₂ : List ℕ} → ws₁ ≡ writeRuns ws (first + (from + count)) tail → ws₂ ≡ writeRuns ws₁ (first + from) new → ws₂ ≡ writeRuns ws first whole
+  replaced-written e d =
+      let c : length new ≡ count = length-runs words made count in
+      d ∙ ap (λ (x : List ℕ). writeRuns x (first + from) new) e
+      ∙ write-swap ws (first + from) (first + (from + count)) new tail (omega (arith, c))
+      ∙ write-append ws (first + from) (first + (from + count)) new tail (omega (arith, c))
+      ∙ ap (λ (x : List ℕ). writeRuns x (first + from) (new ++ tail)) (sym (writeRuns-self ws first from))
+      ∙ write-append ws first (first + from) (runsInWords ws first from) (new ++ tail) (omega (arith, length-runs ws first from))
+      ∙ ap (λ (s : List Run). writeRuns ws first s)
+      (sym (ap₂ (λ (x y : List Run). x ++ (new ++ y)) (take-runs ws first from held (omega arith)) (drop-runs ws first to held l)))
+
+  pub places-written : (ws₁ ws₂ ws₃ : List ℕ) → from + count + (held - to) ≤ maxRuns → held ≤ maxRuns → ZeroWords ws (2 * (first + held)) (2 * (first + maxRuns))
+      → ws₁ ≡ writeRuns ws (first + (from + count)) tail → ws₂ ≡ writeRuns ws₁ (first + from) new
+      → ws₃ ≡ zeroed ws₂ (2 * (first + (from + count + (held - to)))) (2 * (first + held) - 2 * (first + (from + count + (held - to))))
+      → ws₃ ≡ writeRuns ws first (paddedRuns whole)
+  places-written ws₁ ws₂ ws₃ few m z e d c =
+      let then : ℕ = from + count + (held - to) in
+      let o : length (runsInWords ws first held) ≡ held = length-runs ws first held in
+      let long : length whole ≡ then = length-replaced from to new (runsInWords ws first held) (omega (arith, o)) ∙ omega (arith, length-runs words made count, o) in
+      let zeros : 2 * (first + held) - 2 * (first + then) ≡ 2 * (held - then) = omega arith in
+      padded-so-far ws first held z whole (held - then) (maxRuns - then - (held - then)) (omega (arith, long)) (omega (arith, long)) ws₃
+      (c ∙ ap (λ (n : ℕ). zeroed ws₂ (2 * (first + then)) n) zeros
+      ∙ zeroed-runs (held - then) (first + then) (2 * (first + then)) ws₂ refl
+      ∙ ap (λ (x : List ℕ). writeRuns x (first + then) (zeroRuns (held - then))) (replaced-written e d)
+      ∙ write-append ws first (first + then) whole (zeroRuns (held - then)) (omega (arith, long)))

@@ -3,7 +3,7 @@
 use mathlib.Core.Path.{_≡_}
 use mathlib.Core.List.{List, _++_}
 use Prim.Native.Nat.{ℕ, zero, suc, _+_, _-_, _*_, _≤_, _<_}
-use lib.ListN.{length, getD, set, replicate}
+use lib.ListN.{length, getD, take, drop, set, replicate}
 use Rattle.model.specs.Path.{Edge, rising, falling}
 use Rattle.model.specs.Runs.{Run}
 use Rattle.model.specs.Store.{ByEdge, ofEdge, maxRuns, storeOf}
@@ -32,10 +32,19 @@ abbrev pub firstRun : Edge → ℕ
 firstRun rising = 0
 firstRun falling = maxRuns
 
--- an edge's runs after a change: the old ones, or those made in other words from run place `from` on
+-- runs with those from..to replaced by others
+abbrev pub replaced : ℕ → ℕ → List Run → List Run → List Run
+replaced from to new old = take from old ++ (new ++ drop to old)
+
+-- an edge's runs after a change: the old ones, or with some of them replaced by those made in other words from run place `made` on
 abbrev pub changed : Change → List ℕ → ℕ → List Run → List Run
-changed Kept words from old = old
-changed (Made n) words from old = runsInWords words from n
+changed Kept words made old = old
+changed (Made from to n) words made old = replaced from to (runsInWords words made n) old
+
+-- what a change replaces lies among `held` runs
+abbrev pub Within : Change → ℕ → Type 0
+Within Kept held = Unit {0}
+Within (Made from to n) held = (from ≤ to) × (to ≤ held)
 
 -- the runs of both edges with others for one of them
 abbrev pub withRuns : Edge → List Run → ByEdge (List Run) → ByEdge (List Run)
@@ -47,17 +56,14 @@ pub record StoreHas (ws : List ℕ) (s : ByEdge (List Run)) : Type 0 where
   pub is : ws ≡ storeOf s
   pub few : (e : Edge) → length (ofEdge s e) ≤ maxRuns
 
--- as many runs as an edge may have stand in the words, from run place `from` on
-pub record MadeAt (words : List ℕ) (from n : ℕ) : Type 0 where
-  pub few : n ≤ maxRuns
-  pub inside : 2 * (from + n) ≤ length words
-
--- a store, and a change of an edge's runs whose new ones stand in the words
-pub record Writable (words : List ℕ) (from : ℕ) (change : Change) (ws : List ℕ) : Type 0 where
+-- a store, and a change of an edge's runs: what it replaces lies among them, those afterwards fit, and what is made stands in the words
+pub record Writable (words : List ℕ) (made : ℕ) (change : Change) (e : Edge) (ws : List ℕ) : Type 0 where
   pub runs : ByEdge (List Run)
   pub has : StoreHas ws runs
-  pub made : (n : ℕ) → change ≡ Made n → MadeAt words from n
+  pub within : Within change (length (ofEdge runs e))
+  pub few : length (changed change words made (ofEdge runs e)) ≤ maxRuns
+  pub room : 2 * (made + maxRuns) ≤ length words
 
 -- the words afterwards are those of the store with the edge's runs changed
 abbrev pub Rewritten : List ℕ → ℕ → Change → Edge → List ℕ → List ℕ → Type 0
-Rewritten words from change e ws ws′ = (s : ByEdge (List Run)) → StoreHas ws s → ws′ ≡ storeOf (withRuns e (changed change words from (ofEdge s e)) s)
+Rewritten words made change e ws ws′ = (s : ByEdge (List Run)) → StoreHas ws s → ws′ ≡ storeOf (withRuns e (changed change words made (ofEdge s e)) s)

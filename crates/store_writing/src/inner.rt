@@ -5,18 +5,19 @@ ghost use lib.ListN.{length, replicate};
 ghost use Rattle.model.specs.Store.{maxRuns, headWords, countWord};
 ghost use Rattle.runs.specs.RunLists.{runsInWords, writeRuns};
 ghost use Rattle.faults.specs.Answers.{modelEdge};
-ghost use Rattle.store_writing.specs.Writing.{zeroed, paddedRuns, ZeroWords, firstRun, Writable, Rewritten};
+ghost use Rattle.store_writing.specs.Writing.{zeroed, paddedRuns, ZeroWords, firstRun, replaced, Writable, Rewritten};
 use faults::Edge;
 use model::HEAD_WORDS;
 use model::MAX_RUNS;
 use run_union::inner::copy;
+use run_union::inner::moving::move_runs;
 use store_words::inner::FALLING_COUNT;
 use store_words::inner::RISING_COUNT;
 
-// What becomes of an edge's runs: they are kept, or so many are made in other words.
+// What becomes of an edge's runs: they are kept, or those from..to of them (the first two numbers) are replaced by so many made in other words.
 pub enum Change {
     Kept,
-    Made(usize),
+    Made(usize, usize, usize),
 }
 
 // Makes the words from..to zero, none where they end before they begin.
@@ -51,36 +52,52 @@ fn first_run(edge: Edge) -> usize
     }
 }
 
-// Writes runs over those that an edge's places hold, and zeros after them where there were more.
+// Replaces the runs from..to of those that an edge's places hold by others: the ones after them are moved, and zeros come after all where there were more.
 fn write_places(
     words: &[u64],
-    from: usize,
+    made: usize,
     count: usize,
     places: &mut [u64],
     first: usize,
     held: usize,
+    from: usize,
+    to: usize,
 )
-    requires { ⌜ (count ≤ maxRuns) × (held ≤ maxRuns) × (2 * (from + count) ≤ length (now words)) × (2 * (first + maxRuns) ≤ length (now places)) ⌝ }
+    requires { ⌜ (from ≤ to) × (to ≤ held) × (held ≤ maxRuns) × (from + count + (held - to) ≤ maxRuns) ⌝ }
+    requires { ⌜ (2 * (made + count) ≤ length (now words)) × (2 * (first + maxRuns) ≤ length (now places)) ⌝ }
     requires { ⌜ ZeroWords (now places) (2 * (first + held)) (2 * (first + maxRuns)) ⌝ }
-    ensures { λ _. ⌜ now (places .exit) ≡ writeRuns (now (places .entry)) first (paddedRuns (runsInWords (now (words .entry)) from count)) ⌝ }
+    ensures { λ _. ⌜ now (places .exit) ≡ writeRuns (now (places .entry)) first (paddedRuns
+        (replaced from to (runsInWords (now (words .entry)) made count) (runsInWords (now (places .entry)) first held))) ⌝ }
 {
-    copy(words, from, count, places, first);
-    clear_part(places, 2 * (first + count), 2 * (first + held));
+    let after = from + count;
+    let rest = held - to;
+    move_runs(places, first + to, rest, first + after);
+    copy(words, made, count, places, first + from);
+    clear_part(places, 2 * (first + (after + rest)), 2 * (first + held));
 }
 
-// Writes an edge's runs to a store: those made in other words from run place `from` on, or nothing where they are kept.
-pub fn write_runs(words: &[u64], from: usize, change: Change, store: &mut [u64], edge: Edge)
-    requires { ⌜ Writable (now words) from change (now store) ⌝ }
-    ensures { λ _. ⌜ Rewritten (now (words .entry)) from change (modelEdge edge) (now (store .entry)) (now (store .exit)) ⌝ }
+// Writes an edge's runs to a store: some of them replaced by those made in other words from run place `made` on, or nothing where they are kept.
+pub fn write_runs(words: &[u64], made: usize, change: Change, store: &mut [u64], edge: Edge)
+    requires { ⌜ Writable (now words) made change (modelEdge edge) (now store) ⌝ }
+    ensures { λ _. ⌜ Rewritten (now (words .entry)) made change (modelEdge edge) (now (store .entry)) (now (store .exit)) ⌝ }
 {
     match change {
         Change::Kept => {}
-        Change::Made(count) => {
+        Change::Made(from, to, count) => {
             let place = count_word(edge);
             let first = first_run(edge);
             let held = store[place] as usize;
-            store[place] = count as u64;
-            write_places(words, from, count, &mut store[HEAD_WORDS..], first, held);
+            store[place] = (from + count + (held - to)) as u64;
+            write_places(
+                words,
+                made,
+                count,
+                &mut store[HEAD_WORDS..],
+                first,
+                held,
+                from,
+                to,
+            );
         }
     }
 }

@@ -43,7 +43,7 @@ fn take_block(
         records: read.records,
         class: file.class,
     };
-    fill_block(table, places, batch, &vectors, ups, downs, &mut marks);
+    fill_block(table, places, batch, &vectors, ups, downs, &mut marks, work);
     let applied = apply_block(table, places, ups, downs, &marks, batch, store, work);
     let said = applied.answer;
     match said {

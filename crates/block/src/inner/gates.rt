@@ -114,9 +114,9 @@ pub fn open_pins(
     gate: Gate,
     seen: Seen,
     values: &[u64; 512],
-    opens: &mut [u64; 4096],
+    opens: &mut [u64],
 )
-    requires { ⌜ PinsIn (now table) gate × (gate .flip ≡ flipWord (kindOf (gate .kind))) × (length (now opens) ≡ 4096) ⌝ }
+    requires { ⌜ PinsIn (now table) gate × (gate .flip ≡ flipWord (kindOf (gate .kind))) × (4096 ≤ length (now opens)) ⌝ }
     ensures { λ _. ⌜ OpensFilled (now (table .entry)) gate seen (now (values .entry)) (now (opens .entry)) (now (opens .exit)) ⌝ }
 {
     let first = gate.first;
@@ -128,24 +128,24 @@ pub fn open_pins(
     }
 }
 
-// The active words of a gate's pins for an edge, the records with one active pin or more, and those with two or more.
+// The records with one active pin or more of a gate for an edge, and those with two or more.
 pub struct Active {
-    pub pins: [u64; 8],
     pub some: u64,
     pub more: u64,
 }
 
-// A pin is active where it is open and its net is live.
+// A pin is active where it is open and its net is live. The active words of the pins are the first of `rows`, which the caller lends: a fresh array
+// would be cleared and copied for each gate.
 pub fn active_words(
     table: &[u16; 5120],
     gate: Gate,
-    opens: &[u64; 4096],
+    opens: &[u64],
     live: &[u64; 512],
+    rows: &mut [u64; 8],
 ) -> Active
-    requires { ⌜ PinsIn (now table) gate ⌝ }
-    ensures { λ r. ⌜ ActiveIs (now (table .entry)) gate (now (opens .entry)) (now (live .entry)) r ⌝ }
+    requires { ⌜ PinsIn (now table) gate × (length (now rows) ≡ 8) × (4096 ≤ length (now opens)) ⌝ }
+    ensures { λ r. ⌜ ActiveIs (now (table .entry)) gate (now (opens .entry)) (now (live .entry)) (now (rows .exit)) r ⌝ }
 {
-    let mut words = [0u64; 8];
     let mut some: u64 = 0;
     let mut more: u64 = 0;
     let first = gate.first;
@@ -153,13 +153,9 @@ pub fn active_words(
     while 0 < k {
         k -= 1;
         let word = opens[first + k] & live[inner::wide_word(table[first + k])];
-        words[k] = word;
+        rows[k] = word;
         more = more | (some & word);
         some = some | word;
     }
-    Active {
-        pins: words,
-        some,
-        more,
-    }
+    Active { some, more }
 }

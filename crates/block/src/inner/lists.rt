@@ -5,11 +5,12 @@ ghost use mathlib.Core.List.{[], _∷_};
 ghost use Prim.Native.Nat.{ℕ, _+_, _*_, _≤_, _<_};
 ghost use lib.ListN.{length};
 ghost use Rattle.model.specs.Base.{bit};
-ghost use Rattle.block.specs.Words.{bitsAt, firstWords, twoOf};
+ghost use Rattle.block.specs.Words.{bitsAt, firstWords, twoOf, Marked};
 ghost use Rattle.block.specs.Table.{SomeTable};
 ghost use Rattle.block.specs.Lists.{packBits, ListRoom, GateRoom, someActive, entryOf, Pushed, EmptyLists};
 ghost use Rattle.block.specs.Whole.{LivePromise};
 use crate::inner::gates;
+use crate::inner::gates::Active;
 use records::inner;
 
 // One bit of a word.
@@ -98,30 +99,48 @@ fn push_gate(
     push(list, lens, more, net, rows, pins);
 }
 
+// Most gates are live in no record of a block: they are passed over.
+fn push_live(
+    list: &mut [u32],
+    lens: &mut [u16; 64],
+    net: usize,
+    rows: &[u64; 8],
+    active: Active,
+    pins: usize,
+)
+    requires { ⌜ GateRoom (now list) (now lens) × (net < 512) × (pins ≤ 8) × Marked (now rows) pins active ⌝ }
+    ensures { λ _. ⌜ Pushed (now (list .entry)) (now (lens .entry)) (now (list .exit)) (now (lens .exit)) (someActive (now (rows .entry)) pins) (entryOf net (now (rows .entry)) pins) ⌝ }
+{
+    if active.some == 0 {
+        return;
+    }
+    push_gate(list, lens, net, rows, active.more, pins);
+}
+
 // For an edge, the live word of every net and for each record the list of its live gates. The inputs' edge words are there already, the lists are
 // empty.
 pub fn live_lists(
     table: &[u16; 5120],
     inputs: usize,
     nets: usize,
-    opens: &[u64; 4096],
+    opens: &[u64],
     live: &mut [u64; 512],
     list: &mut [u32],
     lens: &mut [u16; 64],
 )
-    requires { ⌜ SomeTable (now table) inputs nets × (length (now live) ≡ 512) × EmptyLists (now list) (now lens) ⌝ }
+    requires { ⌜ SomeTable (now table) inputs nets × (length (now live) ≡ 512) × EmptyLists (now list) (now lens) × (4096 ≤ length (now opens)) ⌝ }
     ensures { λ _. ⌜
         LivePromise (now (table .entry)) inputs nets (now (opens .entry)) (now (live .entry)) (now (list .entry))
         (now (live .exit)) (now (list .exit)) (now (lens .exit))
         ⌝ }
 {
+    let mut rows = [0u64; 8];
     let mut net = inputs;
     while net < nets {
         let gate = gates::gate_at(table, net);
-        let active = gates::active_words(table, gate, opens, live);
-        let rows = active.pins;
+        let active = gates::active_words(table, gate, opens, live, &mut rows);
         live[net] = active.some;
-        push_gate(list, lens, net, &rows, active.more, gate.pins);
+        push_live(list, lens, net, &rows, active, gate.pins);
         net += 1;
     }
 }

@@ -70,9 +70,9 @@ pub fn robust_pins(
     firsts: &[u64; 512],
     lasts: &[u64; 512],
     steadies: &[u64; 512],
-    opens: &mut [u64; 4096],
+    opens: &mut [u64],
 )
-    requires { ⌜ PinsIn (now table) gate × (gate .flip ≡ flipWord (kindOf (gate .kind))) × (gate .kind ≤ 8) × (length (now opens) ≡ 4096) ⌝ }
+    requires { ⌜ PinsIn (now table) gate × (gate .flip ≡ flipWord (kindOf (gate .kind))) × (gate .kind ≤ 8) × (4096 ≤ length (now opens)) ⌝ }
     ensures { λ _. ⌜ RobustFilled (now (table .entry)) gate last loose (now (firsts .entry)) (now (lasts .entry)) (now (steadies .entry)) (now (opens .entry)) (now (opens .exit)) ⌝ }
 {
     let first = gate.first;

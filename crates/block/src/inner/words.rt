@@ -1,7 +1,7 @@
 // All nets in a block of records: one pass over the gates, the words of each net and of its gate's pins from those of the nets at the pins.
 ghost use mathlib.Core.Path.{_≡_};
 ghost use mathlib.Core.List.{List};
-ghost use Prim.Native.Nat.{ℕ};
+ghost use Prim.Native.Nat.{ℕ, _≤_};
 ghost use lib.ListN.{length};
 ghost use Rattle.model.specs.Detect.{nonRobust, robust};
 ghost use Rattle.model.specs.Read.{classOf};
@@ -17,10 +17,10 @@ fn plain_nets(
     inputs: usize,
     nets: usize,
     values: &mut [u64; 512],
-    opens: &mut [u64; 4096],
+    opens: &mut [u64],
 )
-    requires { ⌜ SomeTable (now table) inputs nets × (length (now values) ≡ 512) × (length (now opens) ≡ 4096) ⌝ }
-    ensures { λ _. ⌜ PlainNets (now (table .entry)) inputs nets (now (values .entry)) (now (values .exit)) (now (opens .exit)) ⌝ }
+    requires { ⌜ SomeTable (now table) inputs nets × (length (now values) ≡ 512) × (4096 ≤ length (now opens)) ⌝ }
+    ensures { λ _. ⌜ PlainNets (now (table .entry)) inputs nets (now (values .entry)) (now (values .exit)) (now (opens .entry)) (now (opens .exit)) ⌝ }
 {
     let mut net = inputs;
     while net < nets {
@@ -41,12 +41,12 @@ fn robust_nets(
     firsts: &mut [u64; 512],
     lasts: &mut [u64; 512],
     steadies: &mut [u64; 512],
-    opens: &mut [u64; 4096],
+    opens: &mut [u64],
 )
-    requires { ⌜ SomeTable (now table) inputs nets × StateRoom (now firsts) (now lasts) (now steadies) × (length (now opens) ≡ 4096) ⌝ }
+    requires { ⌜ SomeTable (now table) inputs nets × StateRoom (now firsts) (now lasts) (now steadies) × (4096 ≤ length (now opens)) ⌝ }
     ensures { λ _. ⌜
         RobustNets (now (table .entry)) inputs nets (now (firsts .entry)) (now (lasts .entry)) (now (steadies .entry))
-        (now (firsts .exit)) (now (lasts .exit)) (now (steadies .exit)) (now (opens .exit))
+        (now (firsts .exit)) (now (lasts .exit)) (now (steadies .exit)) (now (opens .entry)) (now (opens .exit))
         ⌝ }
 {
     let mut net = inputs;
@@ -70,10 +70,10 @@ fn plain_words(
     inputs: usize,
     nets: usize,
     lasts: &[u64; 64],
-    opens: &mut [u64; 4096],
+    opens: &mut [u64],
 )
-    requires { ⌜ SomeTable (now table) inputs nets × (length (now opens) ≡ 4096) ⌝ }
-    ensures { λ _. ⌜ ((firsts : List ℕ) → OpensTrue nonRobust (now (table .entry)) inputs nets firsts (now (lasts .entry)) (now (opens .exit))) ⌝ }
+    requires { ⌜ SomeTable (now table) inputs nets × (4096 ≤ length (now opens)) ⌝ }
+    ensures { λ _. ⌜ ((firsts : List ℕ) → OpensTrue nonRobust (now (table .entry)) inputs nets firsts (now (lasts .entry)) (now (opens .entry)) (now (opens .exit))) ⌝ }
 {
     let mut values = [0u64; 512];
     spread::copy_words(lasts, inputs, &mut values);
@@ -86,10 +86,10 @@ fn robust_words(
     nets: usize,
     firsts: &[u64; 64],
     lasts: &[u64; 64],
-    opens: &mut [u64; 4096],
+    opens: &mut [u64],
 )
-    requires { ⌜ SomeTable (now table) inputs nets × (length (now opens) ≡ 4096) ⌝ }
-    ensures { λ _. ⌜ OpensTrue robust (now (table .entry)) inputs nets (now (firsts .entry)) (now (lasts .entry)) (now (opens .exit)) ⌝ }
+    requires { ⌜ SomeTable (now table) inputs nets × (4096 ≤ length (now opens)) ⌝ }
+    ensures { λ _. ⌜ OpensTrue robust (now (table .entry)) inputs nets (now (firsts .entry)) (now (lasts .entry)) (now (opens .entry)) (now (opens .exit)) ⌝ }
 {
     let mut v1 = [0u64; 512];
     let mut v2 = [0u64; 512];
@@ -100,7 +100,8 @@ fn robust_words(
     robust_nets(table, inputs, nets, &mut v1, &mut v2, &mut steadies, opens);
 }
 
-// The open word of every pin in a class, that of pin p of net n at place 8 n + p, from the words of the inputs under V1 and under V2.
+// The open word of every pin in a class, that of pin p of net n at place 8 n + p, from the words of the inputs under V1 and under V2. The caller lends
+// the memory, which need not be cleared.
 pub fn open_words(
     table: &[u16; 5120],
     inputs: usize,
@@ -108,10 +109,10 @@ pub fn open_words(
     class: u32,
     firsts: &[u64; 64],
     lasts: &[u64; 64],
-    opens: &mut [u64; 4096],
+    opens: &mut [u64],
 )
-    requires { ⌜ SomeTable (now table) inputs nets × (length (now opens) ≡ 4096) ⌝ }
-    ensures { λ _. ⌜ OpensTrue (classOf class) (now (table .entry)) inputs nets (now (firsts .entry)) (now (lasts .entry)) (now (opens .exit)) ⌝ }
+    requires { ⌜ SomeTable (now table) inputs nets × (4096 ≤ length (now opens)) ⌝ }
+    ensures { λ _. ⌜ OpensTrue (classOf class) (now (table .entry)) inputs nets (now (firsts .entry)) (now (lasts .entry)) (now (opens .entry)) (now (opens .exit)) ⌝ }
 {
     if class == 2 {
         robust_words(table, inputs, nets, firsts, lasts, opens);

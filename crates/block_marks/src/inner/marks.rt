@@ -8,10 +8,11 @@ ghost use Rattle.model.specs.Base.{bit};
 ghost use Rattle.model.specs.Netlist.{Netlist};
 ghost use Rattle.model.specs.Detect.{Test};
 ghost use Rattle.model.specs.Read.{classOf};
+ghost use Rattle.model.specs.Calls.{workWords};
 ghost use Rattle.block.specs.Block.{BlockOf};
 ghost use Rattle.block.specs.Table.{CircuitTable};
 ghost use Rattle.block_marks.specs.Marks.{PlaceTable, MarksTrue, VectorsOf};
-ghost use Rattle.block_marks.specs.EdgeMarks.{outAt, BatchTables, OutsAre, EdgeListed, EdgeWritten};
+ghost use Rattle.block_marks.specs.EdgeMarks.{outAt, BatchTables, OutsAre, EdgeListed, EdgeWritten, WorkKept};
 use crate::inner::Batch;
 use block::inner::lists;
 use block::inner::spread;
@@ -56,10 +57,10 @@ fn edge_lists(
     batch: Batch,
     from: &[u64; 64],
     to: &[u64; 64],
-    opens: &[u64; 4096],
+    opens: &[u64],
     list: &mut [u32],
 ) -> Listed
-    requires { ⌜ BatchTables (now table) (now places) batch × (33792 ≤ length (now list)) ⌝ }
+    requires { ⌜ BatchTables (now table) (now places) batch × (33792 ≤ length (now list)) × (4096 ≤ length (now opens)) ⌝ }
     ensures { λ r. ⌜
         EdgeListed (now (table .entry)) (now (places .entry)) batch (now (from .entry)) (now (to .entry)) (now (opens .entry)) (now (list .entry)) (now (list .exit)) r
         ⌝ }
@@ -99,7 +100,8 @@ fn write_marks(
     }
 }
 
-// The marks of a block's records, and their lists of live gates, from their vectors.
+// The marks of a block's records, and their lists of live gates, from their vectors. The open words are made in the working memory, which is free
+// until the first record is applied: 32 KB that need not be cleared for each block.
 pub fn fill_block(
     table: &[u16; 5120],
     places: &[u64; 4224],
@@ -108,19 +110,21 @@ pub fn fill_block(
     ups: &mut [u32],
     downs: &mut [u32],
     marks: &mut [u64; 384],
+    work: &mut [u64],
 )
-    requires { ⌜ BatchTables (now table) (now places) batch × (33792 ≤ length (now ups)) × (33792 ≤ length (now downs)) × (length (now marks) ≡ 384) ⌝ }
+    requires { ⌜ BatchTables (now table) (now places) batch × (33792 ≤ length (now ups)) × (33792 ≤ length (now downs)) × (length (now marks) ≡ 384)
+        × (workWords ≤ length (now work)) ⌝ }
     ensures { λ _. ⌜
         (length (now (ups .exit)) ≡ length (now (ups .entry))) × (length (now (downs .exit)) ≡ length (now (downs .entry))) × (length (now (marks .exit)) ≡ 384)
         × ((N : Netlist) (tests : ℕ → Test) → CircuitTable N (now (table .entry)) (batch .inputs) (batch .nets) → PlaceTable N (now (places .entry))
         → length (N .outputs) ≡ batch .outputs → BlockOf tests (classOf (batch .class)) (batch .records) → VectorsOf N tests (batch .records) (now (vectors .entry))
         → MarksTrue N tests (batch .records) (now (ups .exit)) (now (downs .exit)) (now (marks .exit)))
+        × WorkKept (now (work .entry)) (now (work .exit))
         ⌝ }
 {
     let records = batch.records;
     let firsts = spread::spread(vectors, 0, records);
     let lasts = spread::spread(vectors, 64, records);
-    let mut opens = [0u64; 4096];
     words::open_words(
         table,
         batch.inputs,
@@ -128,10 +132,10 @@ pub fn fill_block(
         batch.class,
         &firsts,
         &lasts,
-        &mut opens,
+        work,
     );
-    let rises = edge_lists(table, places, batch, &firsts, &lasts, &opens, ups);
+    let rises = edge_lists(table, places, batch, &firsts, &lasts, work, ups);
     write_marks(vectors, records, 0, rises, marks);
-    let falls = edge_lists(table, places, batch, &lasts, &firsts, &opens, downs);
+    let falls = edge_lists(table, places, batch, &lasts, &firsts, work, downs);
     write_marks(vectors, records, 64, falls, marks);
 }

@@ -11,8 +11,8 @@ ghost use Rattle.block_marks.specs.Marks.{PlaceTable};
 ghost use Rattle.block_marks.specs.PlaceParts.{GateFits, PinsPlaced, GatesFit, GatesPlaced, OutputsFit, OutputsPlaced, SomePlaces};
 use netlist::inner::Shape;
 use netlist::inner::output_net;
-use output_records::inner::output_paths;
 use netlist::inner::outputs_part;
+use output_records::inner::output_paths;
 use records::inner::wide_word;
 
 // The pins of the gate that drives a net.

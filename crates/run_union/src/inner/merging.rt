@@ -4,9 +4,10 @@ ghost use Prim.Native.Nat.{_+_, _-_, _*_, _<_, _≤_, _^_};
 ghost use lib.ListN.{length};
 ghost use Rattle.runs.specs.RunLists.{RunWithin, Sound, addRun, runAt, runsInWords};
 ghost use Rattle.runs.specs.Answers.{Room, Adds};
-ghost use Rattle.run_union.specs.Unions.{leftFirst, Unites};
+ghost use Rattle.run_union.specs.Unions.{leftFirst, leastAfter, BeginsOver, Unites};
 use crate::inner::append;
 use runs::inner::Added;
+use runs::inner::first_reaching;
 
 // Whether the next run by ascending low is the left list's.
 fn left_first(a: &[u64], i: usize, m: usize, b: &[u64], j: usize, n: usize) -> bool
@@ -86,4 +87,31 @@ pub fn union(
         }
     }
     Added::Count(k)
+}
+
+// A place up to which no run reaches one that begins with `low`: the first that does, found by search. What is found is asked at the place itself.
+pub fn first_joined(words: &[u64], count: usize, low: u64) -> usize
+    requires { ⌜ (2 * count ≤ length (now words)) × (1 ≤ low) ⌝ }
+    ensures { λ r. ⌜ (r ≤ count) × (leastAfter 1 (runsInWords (now (words .entry)) 0 r) ≤ low) ⌝ }
+{
+    let at = first_reaching(words, 0, count, low - 1);
+    if at == 0 {
+        return 0;
+    }
+    if words[2 * at - 1] < low - 1 { at } else { 0 }
+}
+
+// The first of the runs from..to that begins too high for one that ends with `high` to join it.
+pub fn first_apart(words: &[u64], from: usize, to: usize, high: u64) -> usize
+    requires { ⌜ (from ≤ to) × (2 * to ≤ length (now words)) × (high ≤ 2 ^ 62) ⌝ }
+    ensures { λ r. ⌜ (from ≤ r) × (r ≤ to) × BeginsOver high (runsInWords (now (words .entry)) r (to - r)) ⌝ }
+{
+    let mut i = from;
+    while i < to {
+        if high + 1 < words[2 * i] {
+            return i;
+        }
+        i += 1;
+    }
+    i
 }

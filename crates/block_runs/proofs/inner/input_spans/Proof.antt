@@ -11,6 +11,9 @@ Inv-loop spans₀ inputs input₀ spans input = InputsSpanned inputs spans input
 abbrev μ-loop : tie.MeasureT-loop
 μ-loop spans₀ inputs input₀ spans input = inputs - input
 
+clear-sections-requires : tie.Need-clear-sections-requires Inv-loop μ-loop
+clear-sections-requires c κs = search input-span-cases
+
 loop-holds : tie.Need-loop-holds Inv-loop μ-loop
 loop-holds c = search input-span-cases
 
@@ -56,6 +59,7 @@ input-spans-spec =
     (tie.spec
     Inv-loop
     μ-loop
+    clear-sections-requires
     loop-holds
     mul-spans
     element-write-spans

@@ -4,19 +4,20 @@ use mathlib.Core.Path.{refl}
 use Prim.Native.Nat.{_-_}
 use native.Mathlib.Omega.{arith}
 use borrow.Author.Needs.{needs}
-use Rattle.block_stage.proofs.BlockSteps.{Applying, block-in, ended-kept, ended, up-inside, down-inside, some-listed, refused-kept, refused-here, record-taken, block-inputs, block-cases}
+use Rattle.block_stage.proofs.BlockSteps.{Applying, block-in, ended-kept, ended, up-inside, down-inside, some-listed}
+use Rattle.block_stage.proofs.BlockSteps.{refused-kept, refused-here, record-taken, block-inputs, block-few, block-cases}
 use Rattle.block_stage.proofs.inner.apply_block.Statement.{statement}
 use Rattle.block_stage.proofs.inner.apply_block.Tie as tie
 
 abbrev Inv-loop : tie.InvT-loop
-Inv-loop table places ups downs marks store₀ work₀ inputs records spans₀ t₀ store work spans t =
+Inv-loop table places ups downs marks store₀ work₀ inputs outputs records spans₀ t₀ store work spans t =
     Applying table places ups downs marks store₀ work₀ inputs records store work spans t
 
 abbrev μ-loop : tie.MeasureT-loop
-μ-loop table places ups downs marks store₀ work₀ inputs records spans₀ t₀ store work spans t = records - t
+μ-loop table places ups downs marks store₀ work₀ inputs outputs records spans₀ t₀ store work spans t = records - t
 
-input-spans-requires : tie.Need-input-spans-requires Inv-loop μ-loop
-input-spans-requires c κs = (block-inputs (c .before .before .before .before .before .pre), refl)
+begin-spans-requires : tie.Need-begin-spans-requires Inv-loop μ-loop
+begin-spans-requires c κs = let start = c .before .before .before .before .before .before in (block-inputs (start .pre), block-few (start .pre), refl)
 
 loop-holds : tie.Need-loop-holds Inv-loop μ-loop
 loop-holds c = search block-cases
@@ -36,7 +37,8 @@ element-copy-out-up c = search needs
 add-up-2 : tie.Need-add-up-2 Inv-loop μ-loop
 add-up-2 c =
     let at-loop = c .before .before in
-    let start = at-loop .before .before .before .before .before .before .before in
+    let at-spans = at-loop .before .before in
+    let start = at-spans .before .before .before .before .before .before in
     omega (arith, up-inside (at-loop .loop .inv) (c .before .loop-test .taken), start .good .1 .1 .0 .0)
 
 mul-up-2 : tie.Need-mul-up-2 Inv-loop μ-loop
@@ -64,7 +66,8 @@ add-down-2 : tie.Need-add-down-2 Inv-loop μ-loop
 add-down-2 c =
     let at-test = c .before .before .before in
     let at-loop = at-test .before in
-    let start = at-loop .before .before .before .before .before .before .before in
+    let at-spans = at-loop .before .before in
+    let start = at-spans .before .before .before .before .before .before in
     omega (arith, down-inside (at-loop .loop .inv) (at-test .loop-test .taken), start .good .1 .1 .1 .0 .0)
 
 mul-down-2 : tie.Need-mul-down-2 Inv-loop μ-loop
@@ -143,7 +146,7 @@ apply-block-spec =
     (tie.spec
     Inv-loop
     μ-loop
-    input-spans-requires
+    begin-spans-requires
     loop-holds
     mul-at
     add-up

@@ -1,7 +1,7 @@
--- `block_stage::listed::apply_listed` meets its contract: what was made of both edges is written to the store.
+-- `block_stage::listed::apply_listed` meets its contract: what was made of both edges is written to the store, and the sections are found anew.
 -- Assumes nothing.
+use Rattle.block_stage.proofs.RecordEdgeLaws.{listed-inputs, listed-writes, listed-written, listed-few}
 use borrow.Author.Needs.{needs}
-use Rattle.block_stage.proofs.RecordEdgeLaws.{listed-writes, listed-written}
 use Rattle.block_stage.proofs.listed.apply_listed.Statement.{statement}
 use Rattle.block_stage.proofs.listed.apply_listed.Tie as tie
 
@@ -15,6 +15,14 @@ write-both-requires c κs =
     let ready = at-both .before .before .before .before .before .before in
     listed-writes (covers .kept .1 .1 .1 .1 .1 .1 .1 .0) (covers .ensures .1) (ready .before .before .pre)
 
+renew-sections-requires : tie.Need-renew-sections-requires
+renew-sections-requires c κs =
+    let at-writes = c .before .before .before .before in
+    let at-both = at-writes .before .before .before .before .before in
+    let covers = at-both .cover-listed in
+    let ready = at-both .before .before .before .before .before .before in
+    (listed-few (covers .kept .1 .1 .1 .1 .1 .1 .1 .0) (covers .ensures .1) (at-writes .write-both .ensures) (ready .before .before .pre), covers .ensures .0 .room)
+
 same-length : tie.Need-same-length
 same-length c = search needs
 
@@ -23,11 +31,21 @@ same-length-2 c = search needs
 
 returns : tie.Need-returns
 returns c =
-    let at-writes = c .before .before in
-    let covers = at-writes .before .before .before .before .before .cover-listed in
-    (covers .ensures .0, listed-written (covers .kept .1 .1 .1 .1 .1 .1 .1 .0) (covers .ensures .1) (at-writes .write-both .ensures))
+    let at-writes = c .before .before .before .before .before in
+    let at-both = at-writes .before .before .before .before .before in
+    let covers = at-both .cover-listed in
+    let ready = at-both .before .before .before .before .before .before in (
+      c .renew-sections .ensures _ (listed-inputs (ready .before .before .pre)) (covers .ensures .0),
+      listed-written (covers .kept .1 .1 .1 .1 .1 .1 .1 .0) (covers .ensures .1) (at-writes .write-both .ensures),
+    )
 
 pub apply-listed-spec : {M : Type 1} → statement M
 apply-listed-spec =
     tie.close
-    (tie.spec cover-listed-requires write-both-requires same-length same-length-2 returns)
+    (tie.spec
+    cover-listed-requires
+    write-both-requires
+    renew-sections-requires
+    same-length
+    same-length-2
+    returns)

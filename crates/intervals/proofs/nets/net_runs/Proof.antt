@@ -18,11 +18,11 @@ loop-holds c = search gate-cases
 gate-part-requires : tie.Need-gate-part-requires Inv-loop μ-loop
 gate-part-requires c κs = search gate-cases
 
-element-copy-out-gate-runs : tie.Need-element-copy-out-gate-runs Inv-loop μ-loop
-element-copy-out-gate-runs c = search gate-cases
+element-copy-out-add-gate : tie.Need-element-copy-out-add-gate Inv-loop μ-loop
+element-copy-out-add-gate c = search gate-cases
 
-gate-runs-requires : tie.Need-gate-runs-requires Inv-loop μ-loop
-gate-runs-requires c κs = search gate-cases
+add-gate-requires : tie.Need-add-gate-requires Inv-loop μ-loop
+add-gate-requires c κs = search gate-cases
 
 enum-known-c : tie.Need-enum-known-c Inv-loop μ-loop
 enum-known-c c = search gate-cases
@@ -58,7 +58,7 @@ loop-again : tie.Need-loop-again Inv-loop μ-loop
 loop-again c =
     let call = c .before .before .before .before .before in
     let at = call .before .before .before .before in
-    nets-more (at .before .before .before .loop .inv) (at .before .if1 .taken) (at .gate-part .ensures) (call .gate-runs .ensures) (c .before .c .given .1)
+    nets-more (at .before .before .before .loop .inv) (at .before .if1 .taken) (at .gate-part .ensures) (call .add-gate .ensures) (c .before .c .given .1)
 
 same-length-2 : tie.Need-same-length-2 Inv-loop μ-loop
 same-length-2 c = search gate-cases
@@ -74,8 +74,8 @@ net-runs-spec =
     μ-loop
     loop-holds
     gate-part-requires
-    element-copy-out-gate-runs
-    gate-runs-requires
+    element-copy-out-add-gate
+    add-gate-requires
     enum-known-c
     add-start
     enum-told

@@ -1,9 +1,10 @@
 -- `audit::inner::blocks::apply_blocks` meets its contract. The invariant, `TakingBlocks`: the records that are left, from the store so far, give the whole.
 -- Assumes nothing.
+use native.Mathlib.Omega.{arith}
 use borrow.Author.Needs.{needs}
 use Prim.Native.Nat.{_-_}
 use lib.ListN.{length}
-use Rattle.audit.proofs.BlockSteps.{TakingBlocks, block-fits, blocks-cases}
+use Rattle.audit.proofs.FileBlockSteps.{TakingBlocks, block-fits, taking-less, blocks-cases}
 use Rattle.audit.proofs.inner.blocks.apply_blocks.Statement.{statement}
 use Rattle.audit.proofs.inner.blocks.apply_blocks.Tie as tie
 
@@ -66,9 +67,11 @@ mul-at : tie.Need-mul-at Inv-loop μ-loop
 mul-at c =
     let kept = c .before .before .before .before .before .before in
     let block = kept .before .before .before .before .before in
-    let l = block .before .before .before .before .before .before .before in
-    let start = l .before .before .before .before .before .before .before in
-    record { fits = block-fits _ _ _ _ _ _ _ _ (start .pre) (l .loop .inv) (l .before .record-length .ensures .0) (block .take-block .ensures) }
+    let tested = block .before .before .before .before .before .before in
+    let l = tested .before in
+    let read = l .before in
+    let start = read .before .before .before .before .before .before in
+    record { fits = block-fits _ _ _ _ _ _ _ _ (start .pre) (l .loop .inv) (read .record-length .ensures .0) (block .take-block .ensures) }
 
 add-at : tie.Need-add-at Inv-loop μ-loop
 add-at c = search blocks-cases
@@ -77,7 +80,16 @@ add-taken : tie.Need-add-taken Inv-loop μ-loop
 add-taken c = search blocks-cases
 
 loop-less : tie.Need-loop-less Inv-loop μ-loop
-loop-less c = search blocks-cases
+loop-less c =
+    let told = c .before .before in
+    let kept = told .before .before .before .before .before in
+    let block = kept .before .before .before .before .before in
+    let tested = block .before .before .before .before .before .before in
+    let l = tested .before in
+    let read = l .before in
+    let start = read .before .before .before .before .before .before in
+    taking-less _ _ _ _ _ _ _ _ (start .pre) (l .loop .inv) (read .record-length .ensures .0) (block .take-block .ensures) (told .enum-told .given .1)
+    (omega (arith, tested .loop-test .taken))
 
 loop-again : tie.Need-loop-again Inv-loop μ-loop
 loop-again c = search blocks-cases

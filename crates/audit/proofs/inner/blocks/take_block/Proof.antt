@@ -11,19 +11,19 @@ read-block-requires c κs = search take-cases
 
 fill-block-requires : tie.Need-fill-block-requires
 fill-block-requires c κs =
-    let read = c .before .before .before .before in
+    let read = c .before .before .before .before .before in
     let lent = read .before .before .before .before .before in
     let start = lent .before .before in
-    (block-tables (start .pre) (read .read-block .ensures .1), start .pre .upRoom, start .pre .downRoom, refl)
+    (block-tables (start .pre) (read .read-block .ensures .1), start .pre .upRoom, start .pre .downRoom, refl, start .pre .memory .workLength)
 
 apply-block-requires : tie.Need-apply-block-requires
 apply-block-requires c κs =
     let listed = c .before .before .before .before .before in
-    let filled = listed .before .before .before .before in
-    let read = filled .before .before .before .before .before in
+    let filled = listed .before .before .before .before .before .before in
+    let read = filled .before .before .before .before .before .before in
     let lent = read .before .before .before .before .before in
     let start = lent .before .before in
-    block-ready (start .pre) (read .read-block .ensures .1) (filled .fill-block .ensures .3)
+    block-ready (start .pre) (read .read-block .ensures .1) (filled .fill-block .ensures .3) (filled .fill-block .ensures .4)
 
 enum-known-said : tie.Need-enum-known-said
 enum-known-said c = search needs
@@ -53,13 +53,14 @@ returns : tie.Need-returns
 returns c =
     let stored = c .before .before .before .before .before in
     let applied = stored .before .before in
-    let listed = applied .before .before .before .before .before in
-    let filled = listed .before .before .before .before .before in
-    let read = filled .before .before .before .before .before in
+    let listed = applied .before .before .before .before .before .before in
+    let filled = listed .before .before .before .before .before .before in
+    let read = filled .before .before .before .before .before .before in
     let lent = read .before .before .before .before .before in
     let start = lent .before .before in
     let made = filled .fill-block .ensures in
-    block-refused (start .pre) (read .read-block .ensures .1) (made .3) (applied .apply-block .ensures .0) (applied .apply-block .ensures .1) (made .0) (made .1)
+    block-refused (start .pre) (read .read-block .ensures .1) (made .3) (made .4) (applied .apply-block .ensures .0)
+    (applied .apply-block .ensures .1) (made .0) (made .1)
     (c .before .said .given .1)
 
 same-length-5 : tie.Need-same-length-5
@@ -78,13 +79,14 @@ returns-2 : tie.Need-returns-2
 returns-2 c =
     let stored = c .before .before .before .before .before in
     let applied = stored .before .before .before .before in
-    let listed = applied .before .before .before .before .before in
-    let filled = listed .before .before .before .before .before in
-    let read = filled .before .before .before .before .before in
+    let listed = applied .before .before .before .before .before .before in
+    let filled = listed .before .before .before .before .before .before in
+    let read = filled .before .before .before .before .before .before in
     let lent = read .before .before .before .before .before in
     let start = lent .before .before in
     let made = filled .fill-block .ensures in
-    block-next (start .pre) (read .read-block .ensures .1) (made .3) (applied .apply-block .ensures .0) (applied .apply-block .ensures .1) (made .0) (made .1)
+    block-next (start .pre) (read .read-block .ensures .1) (made .3) (made .4) (applied .apply-block .ensures .0)
+    (applied .apply-block .ensures .1) (made .0) (made .1)
     (c .before .before .before .enum-told .given .1) (c .before .after .given .1)
 
 same-length-9 : tie.Need-same-length-9
@@ -103,13 +105,14 @@ returns-3 : tie.Need-returns-3
 returns-3 c =
     let stored = c .before .before .before .before .before in
     let applied = stored .before .before .before in
-    let listed = applied .before .before .before .before .before in
-    let filled = listed .before .before .before .before .before in
-    let read = filled .before .before .before .before .before in
+    let listed = applied .before .before .before .before .before .before in
+    let filled = listed .before .before .before .before .before .before in
+    let read = filled .before .before .before .before .before .before in
     let lent = read .before .before .before .before .before in
     let start = lent .before .before in
     let made = filled .fill-block .ensures in
-    block-onward (start .pre) (read .read-block .ensures .1) (made .3) (applied .apply-block .ensures .0) (applied .apply-block .ensures .1) (made .0) (made .1)
+    block-onward (start .pre) (read .read-block .ensures .1) (made .3) (made .4) (applied .apply-block .ensures .0)
+    (applied .apply-block .ensures .1) (made .0) (made .1)
     (c .before .before .enum-told .given .1) (c .enum-told2 .given .1)
 
 pub take-block-spec : {M : Type 1} → statement M

@@ -8,40 +8,43 @@ use Rattle.block.proofs.inner.gates.active_words.Statement.{statement}
 use Rattle.block.proofs.inner.gates.active_words.Tie as tie
 
 abbrev Inv-loop : tie.InvT-loop
-Inv-loop table opens live words₀ some₀ more₀ first k₀ words some more k = Activating table first k₀ opens live words some more k
+Inv-loop table opens live rows₀ some₀ more₀ first k₀ rows some more k = Activating table first k₀ opens live rows some more k
 
 abbrev μ-loop : tie.MeasureT-loop
-μ-loop table opens live words₀ some₀ more₀ first k₀ words some more k = k
+μ-loop table opens live rows₀ some₀ more₀ first k₀ rows some more k = k
 
 loop-holds : tie.Need-loop-holds Inv-loop μ-loop
-loop-holds c = active-start _ refl
+loop-holds c = active-start _ (c .before .pre .1)
 
 sub-k : tie.Need-sub-k Inv-loop μ-loop
 sub-k c = search needs
 
 add-word : tie.Need-add-word Inv-loop μ-loop
-add-word c = omega (arith, pin-place (c .before .before .pre) (c .before .loop .inv .within) (c .loop-test .taken))
+add-word c = omega (arith, pin-place (c .before .before .before .pre .0) (c .before .loop .inv .within) (c .loop-test .taken))
 
 mul-word : tie.Need-mul-word Inv-loop μ-loop
-mul-word c = omega (arith, pin-place (c .before .before .pre) (c .before .loop .inv .within) (c .loop-test .taken))
+mul-word c = omega (arith, pin-place (c .before .before .before .pre .0) (c .before .loop .inv .within) (c .loop-test .taken))
 
-element-copy-out-word : tie.Need-element-copy-out-word Inv-loop μ-loop
-element-copy-out-word c = pin-place (c .before .before .pre) (c .before .loop .inv .within) (c .loop-test .taken)
+shared-slice-read-word : tie.Need-shared-slice-read-word Inv-loop μ-loop
+shared-slice-read-word c =
+    let t = c .before in
+    let s = t .before .before .before in
+    omega (arith, pin-place (s .pre .0) (t .before .loop .inv .within) (t .loop-test .taken), s .pre .2)
 
 add-wide-word : tie.Need-add-wide-word Inv-loop μ-loop
 add-wide-word c =
-    let l = c .before .before in
-    omega (arith, pin-place (l .before .pre) (l .loop .inv .within) (c .before .loop-test .taken))
+    let t = c .before in
+    omega (arith, pin-place (t .before .before .before .pre .0) (t .before .loop .inv .within) (t .loop-test .taken))
 
 mul-wide-word : tie.Need-mul-wide-word Inv-loop μ-loop
 mul-wide-word c =
-    let l = c .before .before in
-    omega (arith, pin-place (l .before .pre) (l .loop .inv .within) (c .before .loop-test .taken))
+    let t = c .before in
+    omega (arith, pin-place (t .before .before .before .pre .0) (t .before .loop .inv .within) (t .loop-test .taken))
 
 element-copy-out-wide-word : tie.Need-element-copy-out-wide-word Inv-loop μ-loop
 element-copy-out-wide-word c =
-    let l = c .before .before in
-    omega (arith, pin-place (l .before .pre) (l .loop .inv .within) (c .before .loop-test .taken))
+    let t = c .before in
+    omega (arith, pin-place (t .before .before .before .pre .0) (t .before .loop .inv .within) (t .loop-test .taken))
 
 wide-word-requires : tie.Need-wide-word-requires Inv-loop μ-loop
 wide-word-requires c κs = search needs
@@ -49,22 +52,22 @@ wide-word-requires c κs = search needs
 mul-word-2 : tie.Need-mul-word-2 Inv-loop μ-loop
 mul-word-2 c =
     let t = c .before .before .before in
-    omega (arith, pin-net (t .before .before .pre) (t .before .loop .inv .within) (t .loop-test .taken) _ (c .wide-word .ensures .0))
+    omega (arith, pin-net (t .before .before .before .pre .0) (t .before .loop .inv .within) (t .loop-test .taken) _ (c .wide-word .ensures .0))
 
-element-copy-out-word-2 : tie.Need-element-copy-out-word-2 Inv-loop μ-loop
-element-copy-out-word-2 c =
+element-copy-out-word : tie.Need-element-copy-out-word Inv-loop μ-loop
+element-copy-out-word c =
     let t = c .before .before .before in
-    pin-net (t .before .before .pre) (t .before .loop .inv .within) (t .loop-test .taken) _ (c .wide-word .ensures .0)
+    pin-net (t .before .before .before .pre .0) (t .before .loop .inv .within) (t .loop-test .taken) _ (c .wide-word .ensures .0)
 
-mul-words : tie.Need-mul-words Inv-loop μ-loop
-mul-words c =
+mul-rows : tie.Need-mul-rows Inv-loop μ-loop
+mul-rows c =
     let l = c .before .before .before .before .before in
-    omega (arith, l .loop .inv .within, l .before .pre .few)
+    omega (arith, l .loop .inv .within, l .before .before .pre .0 .few)
 
-array-write-words : tie.Need-array-write-words Inv-loop μ-loop
-array-write-words c =
+element-write-rows : tie.Need-element-write-rows Inv-loop μ-loop
+element-write-rows c =
     let t = c .before .before .before .before in
-    omega (arith, t .before .loop .inv .within, t .before .before .pre .few, t .loop-test .taken)
+    omega (arith, t .before .loop .inv .within, t .before .before .before .pre .0 .few, t .loop-test .taken)
 
 loop-less : tie.Need-loop-less Inv-loop μ-loop
 loop-less c = omega (arith, c .before .before .before .before .loop-test .taken)
@@ -72,7 +75,7 @@ loop-less c = omega (arith, c .before .before .before .before .loop-test .taken)
 loop-again : tie.Need-loop-again Inv-loop μ-loop
 loop-again c =
     let t = c .before .before .before .before in
-    active-step (t .before .loop .inv) (t .before .before .pre .few) (t .loop-test .taken) _ _ (c .before .wide-word .ensures .0) refl
+    active-step (t .before .loop .inv) (t .before .before .before .pre .0 .few) (t .loop-test .taken) _ _ (c .before .wide-word .ensures .0) refl
 
 returns : tie.Need-returns Inv-loop μ-loop
 returns c = active-end (c .before .loop .inv) (c .loop-test .left)
@@ -87,15 +90,15 @@ active-words-spec =
     sub-k
     add-word
     mul-word
-    element-copy-out-word
+    shared-slice-read-word
     add-wide-word
     mul-wide-word
     element-copy-out-wide-word
     wide-word-requires
     mul-word-2
-    element-copy-out-word-2
-    mul-words
-    array-write-words
+    element-copy-out-word
+    mul-rows
+    element-write-rows
     loop-less
     loop-again
     returns)

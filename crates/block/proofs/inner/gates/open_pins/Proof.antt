@@ -22,13 +22,13 @@ sub-k : tie.Need-sub-k Inv-loop μ-loop
 sub-k c = search needs
 
 add-wide-word : tie.Need-add-wide-word Inv-loop μ-loop
-add-wide-word c = omega (arith, pin-place (c .before .before .pre .0) (c .before .loop .inv .within) (c .loop-test .taken))
+add-wide-word c = omega (arith, pin-place (c .before .before .before .pre .0) (c .before .loop .inv .within) (c .loop-test .taken))
 
 mul-wide-word : tie.Need-mul-wide-word Inv-loop μ-loop
-mul-wide-word c = omega (arith, pin-place (c .before .before .pre .0) (c .before .loop .inv .within) (c .loop-test .taken))
+mul-wide-word c = omega (arith, pin-place (c .before .before .before .pre .0) (c .before .loop .inv .within) (c .loop-test .taken))
 
 element-copy-out-wide-word : tie.Need-element-copy-out-wide-word Inv-loop μ-loop
-element-copy-out-wide-word c = omega (arith, pin-place (c .before .before .pre .0) (c .before .loop .inv .within) (c .loop-test .taken))
+element-copy-out-wide-word c = omega (arith, pin-place (c .before .before .before .pre .0) (c .before .loop .inv .within) (c .loop-test .taken))
 
 wide-word-requires : tie.Need-wide-word-requires Inv-loop μ-loop
 wide-word-requires c κs = search needs
@@ -36,30 +36,31 @@ wide-word-requires c κs = search needs
 mul-value : tie.Need-mul-value Inv-loop μ-loop
 mul-value c =
     let t = c .before .before in
-    omega (arith, pin-net (t .before .before .pre .0) (t .before .loop .inv .within) (t .loop-test .taken) _ (c .wide-word .ensures .0))
+    omega (arith, pin-net (t .before .before .before .pre .0) (t .before .loop .inv .within) (t .loop-test .taken) _ (c .wide-word .ensures .0))
 
 element-copy-out-value : tie.Need-element-copy-out-value Inv-loop μ-loop
 element-copy-out-value c =
     let t = c .before .before in
-    pin-net (t .before .before .pre .0) (t .before .loop .inv .within) (t .loop-test .taken) _ (c .wide-word .ensures .0)
+    pin-net (t .before .before .before .pre .0) (t .before .loop .inv .within) (t .loop-test .taken) _ (c .wide-word .ensures .0)
 
 open-word-requires : tie.Need-open-word-requires Inv-loop μ-loop
-open-word-requires c κs = c .before .before .before .before .before .pre .1
+open-word-requires c κs = c .before .before .before .before .before .before .pre .1
 
 add-opens : tie.Need-add-opens Inv-loop μ-loop
 add-opens c =
     let t = c .before .before .before .before in
-    omega (arith, pin-place (t .before .before .pre .0) (t .before .loop .inv .within) (t .loop-test .taken))
+    omega (arith, pin-place (t .before .before .before .pre .0) (t .before .loop .inv .within) (t .loop-test .taken))
 
 mul-opens : tie.Need-mul-opens Inv-loop μ-loop
 mul-opens c =
     let t = c .before .before .before .before in
-    omega (arith, pin-place (t .before .before .pre .0) (t .before .loop .inv .within) (t .loop-test .taken))
+    omega (arith, pin-place (t .before .before .before .pre .0) (t .before .loop .inv .within) (t .loop-test .taken))
 
-element-write-opens : tie.Need-element-write-opens Inv-loop μ-loop
-element-write-opens c =
+slice-write-opens : tie.Need-slice-write-opens Inv-loop μ-loop
+slice-write-opens c =
     let t = c .before .before .before .before in
-    pin-place (t .before .before .pre .0) (t .before .loop .inv .within) (t .loop-test .taken)
+    let s = t .before .before .before in
+    omega (arith, pin-place (s .pre .0) (t .before .loop .inv .within) (t .loop-test .taken), t .before .loop .inv .sameLength, s .pre .2)
 
 loop-less : tie.Need-loop-less Inv-loop μ-loop
 loop-less c = omega (arith, c .before .before .before .before .loop-test .taken)
@@ -68,9 +69,12 @@ loop-again : tie.Need-loop-again Inv-loop μ-loop
 loop-again c =
     let at-wide-word = c .before .before in
     let t = at-wide-word .before .before in
-    let s = t .before .before in
+    let s = t .before .before .before in
     fill-step (t .before .loop .inv) (t .loop-test .taken) (omega (arith, s .pre .0 .few, s .pre .0 .inside, s .pre .2)) _
     (open-at (s .args .values .now) (at-wide-word .wide-word .ensures .0) (c .open-word .ensures))
+
+same-length : tie.Need-same-length Inv-loop μ-loop
+same-length c = c .before .loop .inv .sameLength
 
 returns : tie.Need-returns Inv-loop μ-loop
 returns c = fill-end (c .before .loop .inv) (c .loop-test .left)
@@ -92,7 +96,8 @@ open-pins-spec =
     open-word-requires
     add-opens
     mul-opens
-    element-write-opens
+    slice-write-opens
     loop-less
     loop-again
+    same-length
     returns)

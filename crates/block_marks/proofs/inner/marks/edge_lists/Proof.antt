@@ -9,14 +9,14 @@ use Rattle.block_marks.proofs.inner.marks.edge_lists.Tie as tie
 
 edge-words-requires : tie.Need-edge-words-requires
 edge-words-requires c κs =
-    let given = c .before .before .pre .0 in
+    let given = c .before .before .before .pre .0 in
     (few-inputs (given .circuit), given .fewRecords, refl)
 
 live-lists-requires : tie.Need-live-lists-requires
 live-lists-requires c κs =
     let at-edge-words = c .before .before .before in
-    let begin = at-edge-words .before .before .before in
-    (begin .pre .0 .circuit, at-edge-words .edge-words .ensures .room, no-entries _ (begin .pre .1))
+    let begin = at-edge-words .before .before .before .before in
+    (begin .pre .0 .circuit, at-edge-words .edge-words .ensures .room, no-entries _ (begin .pre .1), begin .pre .2)
 
 live-outputs-requires : tie.Need-live-outputs-requires
 live-outputs-requires c κs = search needs
@@ -28,7 +28,7 @@ returns : tie.Need-returns
 returns c =
     let at-live-lists = c .before .before .before .before in
     let at-edge-words = at-live-lists .before .before .before .before in
-    let begin = at-edge-words .before .before .before in
+    let begin = at-edge-words .before .before .before .before in
     edge-listed (begin .pre .0) (begin .pre .1) (at-edge-words .edge-words .ensures) (at-live-lists .live-lists .ensures) (c .live-outputs .ensures)
 
 pub edge-lists-spec : {M : Type 1} → statement M

@@ -1,0 +1,29 @@
+-- The runs of outputs that lie in held runs.
+-- Assumes nothing.
+use mathlib.Core.Path.{_≡_}
+use mathlib.Core.Bool.{true}
+use mathlib.Core.List.{List}
+use Prim.Native.Nat.{ℕ, _+_, _/_, _≤_, _<_}
+use lib.ListN.{length, getD}
+use Rattle.model.specs.Base.{bit}
+use Rattle.runs.specs.RunLists.{shiftRun, runAt}
+use Rattle.runs.specs.Answers.{RunInside}
+use Rattle.block_runs.specs.Spans.{firstOf, endOf}
+use Rattle.block_runs.specs.LiveOutputs.{outNet, outShift}
+
+-- a section that begins at the number at place `at` and ends at the next: within `count` runs
+pub record SectionIn (spans : List ℕ) (at count : ℕ) : Type 0 where
+  pub ordered : getD spans at 0 ≤ getD spans (at + 1) 0
+  pub within : getD spans (at + 1) 0 ≤ count
+
+-- each of the runs from..to of some words, shifted, lies in one of the held runs
+pub record SpanHeld (ws : List ℕ) (from to shift : ℕ) (held : List ℕ) : Type 0 where
+  pub each : (i : ℕ) → from ≤ i → i < to → RunInside held 0 (length held / 2) (shiftRun shift (runAt ws i))
+
+-- the runs of an output
+abbrev pub OutputHeld : List ℕ → List ℕ → List ℕ → List ℕ → ℕ → Type 0
+OutputHeld places spans ws held o = SpanHeld ws (firstOf spans (outNet places o)) (endOf spans (outNet places o)) (outShift places spans o) held
+
+-- those of each output of a word
+pub record OutputsHeld (places : List ℕ) (outs : ℕ) (spans ws held : List ℕ) : Type 0 where
+  pub each : (o : ℕ) → o < 64 → bit outs o ≡ true → OutputHeld places spans ws held o

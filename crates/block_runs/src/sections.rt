@@ -1,0 +1,169 @@
+// The runs that an edge of the store holds, in one section for each output: where the search for a run of the output begins and ends. Nearly every record of a
+// long file brings nothing new, and then no run is copied. Each caller proves what a function requires.
+ghost use mathlib.Core.Path.{_≡_};
+ghost use mathlib.Core.Bool.{true};
+ghost use mathlib.Core.Logic.{_⊎_};
+ghost use Prim.Native.Nat.{ℕ, _+_, _-_, _*_, _/_, _<_, _≤_, _^_};
+ghost use lib.ListN.{length};
+ghost use Rattle.model.specs.Store.{maxRuns};
+ghost use Rattle.runs.specs.RunLists.{Sound, run, runsInWords};
+ghost use Rattle.runs.specs.Answers.{RunInside};
+ghost use Rattle.block_runs.specs.Spans.{Ascending, InputSpans};
+ghost use Rattle.block_runs.specs.LiveOutputs.{OutputReady, OutputsReady};
+ghost use Rattle.block_runs.specs.Sections.{SpanHeld, OutputHeld, OutputsHeld, SectionIn};
+use runs::inner::first_reaching;
+
+// The places among the spans where the sections of each edge stand: output o's begins at place o, and the last ends at place 64.
+pub const RISING_SECTIONS: usize = 1536;
+
+pub const FALLING_SECTIONS: usize = 1601;
+
+// The sections of both edges, empty.
+pub(crate) fn clear_sections(spans: &mut [u64; 1666])
+    requires { ⌜ length (now spans) ≡ 1666 ⌝ }
+    ensures { λ _. ⌜ (length (now (spans .exit)) ≡ 1666) × Ascending (now (spans .exit)) 1536 × Ascending (now (spans .exit)) 1601 ⌝ }
+{
+    let mut o = 0;
+    while o < 130 {
+        spans[1536 + o] = 0;
+        o += 1;
+    }
+}
+
+// Where an output's section begins: at the first held run that reaches the number before the output's first, but not before the section before it.
+fn section_begin(
+    places: &[u64; 4224],
+    outputs: usize,
+    output: usize,
+    held: &[u64],
+    before: usize,
+) -> usize
+    requires { ⌜ (output < 64) × (before ≤ length (now held) / 2) ⌝ }
+    ensures { λ r. ⌜ (before ≤ r) × (r ≤ length (now (held .entry)) / 2) ⌝ }
+{
+    let count = held.len() / 2;
+    if outputs <= output {
+        return count;
+    }
+    first_reaching(held, before, count, places[4096 + output])
+}
+
+// Finds the sections of the runs that an edge holds. What it finds is only where a search begins and ends.
+pub fn find_sections(
+    places: &[u64; 4224],
+    outputs: usize,
+    held: &[u64],
+    spans: &mut [u64; 1666],
+    base: usize,
+)
+    requires { ⌜ (length (now spans) ≡ 1666) × ((base ≡ 1536) ⊎ (base ≡ 1601)) ⌝ }
+    ensures { λ _. ⌜ (length (now (spans .exit)) ≡ 1666)
+        × ((inputs : ℕ) → inputs ≤ 64 → InputSpans (now (spans .entry)) inputs → InputSpans (now (spans .exit)) inputs) ⌝ }
+{
+    let mut at = 0;
+    let mut output = 0;
+    while output < 64 {
+        at = section_begin(places, outputs, output, held, at);
+        spans[base + output] = at as u64;
+        output += 1;
+    }
+    spans[base + 64] = (held.len() / 2) as u64;
+}
+
+// Whether a run lies in the held run that is found between two places; the answer false promises nothing.
+fn run_inside(held: &[u64], from: usize, to: usize, low: u64, high: u64) -> bool
+    requires { ⌜ (from ≤ to) × (to ≤ length (now held) / 2) ⌝ }
+    ensures { λ r. ⌜ (r ≡ true → RunInside (now (held .entry)) 0 (length (now (held .entry)) / 2) (run low high)) ⌝ }
+{
+    let at = first_reaching(held, from, to, low);
+    if held.len() / 2 <= at {
+        return false;
+    }
+    if low < held[2 * at] {
+        return false;
+    }
+    high <= held[2 * at + 1]
+}
+
+// The same of each of the runs from..to of the words, shifted.
+fn span_inside(
+    words: &[u64],
+    from: usize,
+    to: usize,
+    shift: u64,
+    held: &[u64],
+    begin: usize,
+    end: usize,
+) -> bool
+    requires { ⌜ (from ≤ to) × (2 * to ≤ length (now words)) × (shift ≤ 2 ^ 62) × (begin ≤ end) × (end ≤ length (now held) / 2) ⌝ }
+    requires { ⌜ Sound (2 ^ 62) (runsInWords (now words) from (to - from)) ⌝ }
+    ensures { λ r. ⌜ (r ≡ true → SpanHeld (now (words .entry)) from to shift (now (held .entry))) ⌝ }
+{
+    let mut i = from;
+    while i < to {
+        if !run_inside(
+            held,
+            begin,
+            end,
+            words[2 * i] + shift,
+            words[2 * i + 1] + shift,
+        ) {
+            return false;
+        }
+        i += 1;
+    }
+    true
+}
+
+// The same of the runs of one output, in its section.
+fn output_inside(
+    places: &[u64; 4224],
+    output: usize,
+    spans: &[u64; 1666],
+    base: usize,
+    words: &[u64],
+    held: &[u64],
+) -> bool
+    requires { ⌜ (output < 64) × (base ≤ 1601) × SectionIn (now spans) (base + output) (length (now held) / 2) ⌝ }
+    requires { ⌜ OutputReady (now places) (now spans) (now words) output × (4 * maxRuns ≤ length (now words)) ⌝ }
+    ensures { λ r. ⌜ (r ≡ true → OutputHeld (now (places .entry)) (now (spans .entry)) (now (words .entry)) (now (held .entry)) output) ⌝ }
+{
+    let net = places[4160 + output] as usize;
+    let begin = spans[base + output] as usize;
+    let end = spans[base + output + 1] as usize;
+    span_inside(
+        words,
+        spans[net] as usize,
+        spans[512 + net] as usize,
+        spans[1024 + net] + places[4096 + output],
+        held,
+        begin,
+        end,
+    )
+}
+
+// Whether every run of the live outputs lies in a held run; the answer false promises nothing.
+pub fn outputs_inside(
+    places: &[u64; 4224],
+    outs: u64,
+    spans: &[u64; 1666],
+    base: usize,
+    words: &[u64],
+    held: &[u64],
+) -> bool
+    requires { ⌜ (base ≤ 1601) × OutputsReady (now places) outs (now spans) (now words) × Ascending (now spans) base ⌝ }
+    ensures { λ r. ⌜ (r ≡ true → OutputsHeld (now (places .entry)) outs (now (spans .entry)) (now (words .entry)) (now (held .entry))) ⌝ }
+{
+    if ((held.len() / 2) as u64) < spans[base + 64] {
+        return false;
+    }
+    let mut left = outs;
+    while left != 0 {
+        let output = u64::trailing_zeros(left) as usize;
+        if !output_inside(places, output, spans, base, words, held) {
+            return false;
+        }
+        left = left & (left - 1);
+    }
+    true
+}
