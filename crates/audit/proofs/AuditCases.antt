@@ -1,85 +1,45 @@
--- The audit, case by case as the code meets them: the place Report, then the whole on a legal netlist from an empty store, then the call.
+-- The audit, case by case as the code meets them: on a legal netlist from an empty store, then the call.
 -- Assumes nothing.
 use mathlib.Core.Path.{_≡_, refl, ap, sym, _∙_, subst}
 use mathlib.Core.Bool.{Bool, true, false, not}
 use mathlib.Core.List.{List, [], _∷_}
-use Prim.Native.Nat.{ℕ, _+_, _*_, _/_, _%_, _^_, _≤_, _<_}
+use Prim.Native.Nat.{ℕ, _+_, _*_, _/_, _^_, _≤_, _<_}
 use borrow.Author.Needs.{needs}
 use borrow.Author.Tests.{le-leb, lt-leb, eq-eqb, ne-eqb, not-true, not-false}
-use lib.Dec.{leb, eqb}
 use lib.ListN.{length, drop, replicate}
 use Rattle.model.specs.Base.{Answer, refused, value, _>>=_, checks, passes}
 use Rattle.model.specs.Netlist.{Netlist}
 use Rattle.model.specs.Read.{within, classOf, vectorBytes, recordLength}
 use Rattle.model.specs.Refusals.{refusalNumber}
-use Rattle.model.specs.Store.{storeWords, runsByEdge}
+use Rattle.model.specs.Store.{storeWords, emptyStore}
 use Rattle.model.specs.Calls.{workWords, storeRule, workRule, beforeTest, WorkAfter}
-use Rattle.model.specs.Report.{fileRecords, testAll, reportRecord, reportRules, auditCall, auditAnswer}
+use Rattle.model.specs.Report.{fileRecords, testAll, auditCall, auditAnswer, auditStore}
 use Rattle.model.specs.declared.Refusal.{Refusal}
 use Rattle.model.specs.declared.Refusal.the-variants as why
 use Rattle.model.proofs.AnswerLaws.{not-refused}
 use Rattle.model.proofs.ReportLaws.{length-records}
-use Rattle.model.proofs.RefusalLaws.{audit-found, audit-emptied}
+use Rattle.model.proofs.RefusalLaws.{audit-found, audit-emptied, audit-kept}
 use Rattle.netlist.specs.Answers.{LoadedTrue}
-use Rattle.netlist.specs.Tables.{CircuitTables}
 use Rattle.netlist.specs.declared.SurveyAnswer.the-variants as survey
 use Rattle.netlist.specs.declared.inner.Loaded.{Loaded}
 use Rattle.netlist.proofs.LoadLaws.{loaded-legal, loaded-refused}
-use Rattle.netlist.proofs.TableLaws.{few-inputs}
 use Rattle.store_words.specs.Sound.{SoundWords}
-use Rattle.coverage.specs.Stage.{MemoryReady, StageReady}
+use Rattle.coverage.specs.Stage.{MemoryReady}
 use Rattle.coverage.specs.declared.inner.StageAnswer.the-variants as stage
-use Rattle.report.specs.Answers.{comparedOf}
-use Rattle.report.specs.declared.inner.Comparison.{Comparison}
-use Rattle.report.specs.declared.inner.Comparison.the-variants as comparison
-use Rattle.audit.specs.Answers.{auditedOf, AuditTrue}
-use Rattle.audit.specs.TestFile.{leftStore, FileTaken, wholeLength, reported, Judged, auditFile, AuditReady, FileAudited}
-use Rattle.audit.specs.declared.AuditAnswer.{AuditAnswer}
-use Rattle.audit.specs.declared.AuditAnswer.the-variants as audit
-use Rattle.audit.specs.declared.inner.TakenRecords.{TakenRecords}
-use Rattle.audit.proofs.MemoryLaws.{of-netlist, emptied, empty-memory, all-memory, memory-sound, audit-left}
+use Rattle.file_block.specs.RecordsTaken.{leftStore}
+use Rattle.file_block.specs.declared.inner.TakenRecords.{TakenRecords}
+use Rattle.file_block.proofs.MemoryLaws.{of-netlist, emptied, empty-memory, all-memory, memory-sound}
+use Rattle.file_records.specs.FileRecords.{FileTaken, Ready}
+use Rattle.file_records.proofs.ReadyLaws.{ready-inputs, ready-records}
+use Rattle.file_judging.specs.FileJudging.{auditedOf, wholeLength, reported, Judged}
+use Rattle.file_judging.specs.declared.AuditAnswer.{AuditAnswer}
+use Rattle.file_judging.specs.declared.AuditAnswer.the-variants as audit
+use Rattle.audit.specs.Answers.{AuditTrue}
+use Rattle.audit.specs.TestFile.{auditFile, FileAudited}
 
--- The file's length: a cut record decides, or the number of records does
-module _ (total each : ℕ) where
-  pub length-cut : (total % each ≡ 0 → ⊥) → eqb (total % each) 0 ≡ wholeLength each total
-  length-cut d = rw (ne-eqb (total % each) 0 d) refl
-
-  pub length-whole : total % each ≡ 0 → leb (total / each) 4294967295 ≡ wholeLength each total
-  length-whole e = rw (eq-eqb (total % each) 0 e) refl
-
-pub ruleset length-cases = (length-cut, length-whole, needs)
-
--- The place Report
-module _ (tests paths : ℕ) (report ws : List ℕ) (sound : SoundWords (2 ^ 62) ws) (k : Comparison)
-    (e : comparedOf k ≡ checks (reportRules report (reportRecord tests paths (runsByEdge ws)))) where
-  pub judge-equal : k ≡ comparison.Equal → Judged audit.Accepted tests paths report ws ws
-  unfolding leftStore
-  judge-equal f = let g = sym e ∙ ap comparedOf f in record { answer = rw g refl; store = rw g refl }
-
-  pub judge-refused : (w : Refusal) → k ≡ comparison.Refused w → (ws′ : List ℕ) → ws′ ≡ replicate (length ws) 0
-      → Judged (audit.Refused w) tests paths report ws ws′
-  unfolding leftStore
-  judge-refused w f ws′ z =
-      let g = sym e ∙ ap comparedOf f in
-      record { answer = rw g refl; store = emptied ws′ (length ws) z (sound .few .long) ∙ rw g refl }
-
-pub ruleset judge-cases = (judge-equal, judge-refused, needs)
-
-module _ (netlist : List ℕ) (loaded : Loaded) (ws work : List ℕ) (ready : AuditReady netlist loaded ws work) where
+module _ (netlist : List ℕ) (loaded : Loaded) (ws work : List ℕ) (ready : Ready netlist loaded ws work) (empty : ws ≡ emptyStore) where
   abbrev C : Netlist
-  C = ready .legal .circuit
-
-  abbrev tables : CircuitTables C netlist (loaded .positions) (loaded .counts) (loaded .shape)
-  tables = ready .legal .tables
-
-  pub ready-inputs : loaded .shape .inputs ≤ 64
-  ready-inputs = few-inputs tables
-
-  ready-memory : MemoryReady C ws work
-  ready-memory = subst (λ (x : List ℕ). MemoryReady C x work) (sym (ready .empty)) (empty-memory C work (ready .workLength))
-
-  pub ready-records : StageReady netlist (loaded .positions) (loaded .counts) (loaded .shape) ws work
-  ready-records = record { circuit = C; tables = tables; memory = ready-memory }
+  C = ready .circuit
 
   module _ (class : ℕ) (testFile report : List ℕ) where
     abbrev call : Netlist → Answer (List ℕ)
@@ -89,15 +49,15 @@ module _ (netlist : List ℕ) (loaded : Loaded) (ws work : List ℕ) (ready : Au
     audited : (r : AuditAnswer) (ws′ work′ : List ℕ) → auditedOf r ≡ passes (call C) → ws′ ≡ leftStore (call C)
         → length work′ ≡ length work → drop workWords work′ ≡ drop workWords work → FileAudited r netlist class testFile report ws′ work work′
     audited r ws′ work′ a s l p = record {
-      answer = of-netlist netlist (tables .legal) (λ N. auditedOf r ≡ passes (call N)) a;
-      store = of-netlist netlist (tables .legal) (λ N. ws′ ≡ leftStore (call N)) s;
+      answer = of-netlist netlist (ready .tables .legal) (λ N. auditedOf r ≡ passes (call N)) a;
+      store = of-netlist netlist (ready .tables .legal) (λ N. ws′ ≡ leftStore (call N)) s;
       sameLength = l;
       pastWork = p;
     }
 
     module _ (each : ℕ) (ee : each ≡ 2 + 2 * vectorBytes (loaded .shape .inputs)) (b : Bool) (eb : b ≡ wholeLength each (length testFile)) where
       each-is : each ≡ recordLength C
-      each-is = ee ∙ ap (λ (i : ℕ). 2 + 2 * vectorBytes i) (tables .inputsAre)
+      each-is = ee ∙ ap (λ (i : ℕ). 2 + 2 * vectorBytes i) (ready .tables .inputsAre)
 
       whole-is : wholeLength (recordLength C) (length testFile) ≡ b
       whole-is = ap (λ (i : ℕ). wholeLength i (length testFile)) (sym each-is) ∙ sym eb
@@ -106,7 +66,7 @@ module _ (netlist : List ℕ) (loaded : Loaded) (ws work : List ℕ) (ready : Au
       unfolding auditFile leftStore
       file-cut n =
           let e = whole-is ∙ not-true b n in
-          audited (audit.Refused why.TestFileLength) ws work (rw e refl) (ready .empty ∙ rw e refl) refl refl
+          audited (audit.Refused why.TestFileLength) ws work (rw e refl) (empty ∙ rw e refl) refl refl
 
       module _ (n : not b ≡ false) (r : TakenRecords) (ws′ work′ : List ℕ)
           (t : FileTaken r netlist (loaded .positions) (loaded .counts) (loaded .shape) class testFile ws ws′ work work′) where
@@ -119,24 +79,24 @@ module _ (netlist : List ℕ) (loaded : Loaded) (ws work : List ℕ) (ready : Au
         call-is =
             let count : length (fileRecords C testFile) ≡ length testFile / each =
             length-records (recordLength C) (length testFile / recordLength C) testFile ∙ ap (λ (i : ℕ). length testFile / i) (sym each-is) in
-            rw (whole-is ∙ not-false b n, count, ← ready .legal .totalIs, ← ready .empty) refl
+            rw (whole-is ∙ not-false b n, count, ← ready .totalIs, ← empty) refl
 
         pub file-record : (w : Refusal) → r .answer ≡ stage.Refused w → FileAudited (audit.Refused w) netlist class testFile report ws′ work work′
         unfolding leftStore
         file-record w q =
-            let x = t .ofCircuit C tables in
+            let x = t .ofCircuit C (ready .tables) in
             let e : taken ≡ refused (refusalNumber w) = sym (rw q at (x .answer)) in
             let f : call C ≡ refused (refusalNumber w) = call-is ∙ rw e refl in
             audited (audit.Refused w) ws′ work′ (rw f refl) (x .store ∙ rw (e, f) refl) (t .sameLength) (t .pastWork)
 
         module _ (q : r .answer ≡ stage.Taken) where
           left : taken ≡ value ws′
-          left = sym (rw q at (t .ofCircuit C tables .answer))
+          left = sym (rw q at (t .ofCircuit C (ready .tables) .answer))
 
           pub file-sound : SoundWords (2 ^ 62) ws′
           file-sound =
-              memory-sound netlist C (tables .legal) ws′ work′
-              (all-memory C (classOf class) ws work work′ ready-memory (t .sameLength) (fileRecords C testFile) ws′ left)
+              memory-sound netlist C (ready .tables .legal) ws′ work′
+              (all-memory C (classOf class) ws work work′ (ready .memory) (t .sameLength) (fileRecords C testFile) ws′ left)
 
           pub file-judged : (a : AuditAnswer) (ws″ : List ℕ) → Judged a (length testFile / each) (loaded .total) report ws′ ws″
               → FileAudited a netlist class testFile report ws″ work work′
@@ -145,6 +105,13 @@ module _ (netlist : List ℕ) (loaded : Loaded) (ws work : List ℕ) (ready : Au
               audited a ws″ work′ (j .answer ∙ rw e refl) (j .store ∙ rw e refl) (t .sameLength) (t .pastWork)
 
 pub ruleset audit-file-cases = (ready-inputs, ready-records, file-cut, file-record, file-sound, file-judged, needs)
+
+-- the store that an audit leaves once its lent memory has passed
+pub audit-left : (netlist : List ℕ) (class : ℕ) (testFile report ws work : List ℕ) → checks (storeRule ws ∷ workRule work ∷ []) ≡ value tt
+    → (x : Answer (List ℕ)) → auditCall netlist class testFile report ws work ≡ x → leftStore x ≡ auditStore netlist class testFile report ws work
+unfolding leftStore
+audit-left netlist class testFile report ws work l (refused n) q = sym (audit-emptied netlist class testFile report ws work n l q)
+audit-left netlist class testFile report ws work l (value w) q = sym (audit-kept netlist class testFile report ws work w q)
 
 -- working memory that the call did not touch
 kept : (netlist : List ℕ) (class : ℕ) (ws work : List ℕ) → WorkAfter netlist class ws work work
@@ -198,8 +165,18 @@ module _ (netlist : List ℕ) (class : ℕ) (testFile report ws work : List ℕ)
             }
 
         module _ (e : loaded .answer ≡ survey.Legal) where
-          pub audit-ready : AuditReady netlist loaded ws′ work
-          audit-ready = record { legal = loaded-legal loaded netlist t e; empty = emptied ws′ (length ws) z l; workLength = h }
+          pub audit-empty : ws′ ≡ emptyStore
+          audit-empty = emptied ws′ (length ws) z l
+
+          pub audit-ready : Ready netlist loaded ws′ work
+          audit-ready =
+              let d = loaded-legal loaded netlist t e in
+              record {
+                circuit = d .circuit;
+                tables = d .tables;
+                totalIs = d .totalIs;
+                memory = subst (λ (x : List ℕ). MemoryReady (d .circuit) x work) (sym audit-empty) (empty-memory (d .circuit) work h);
+              }
 
           pub audit-done : (r : AuditAnswer) (ws″ work″ : List ℕ) (k : Bool) → k ≡ within 1 2 class → not k ≡ false
               → FileAudited r netlist class testFile report ws″ work work″ → AuditTrue r netlist class testFile report ws ws″ work work″
@@ -218,4 +195,4 @@ module _ (netlist : List ℕ) (class : ℕ) (testFile report ws work : List ℕ)
                 };
               }
 
-pub ruleset audit-cases = (audit-words, audit-short, audit-netlist, audit-class, audit-ready, audit-done, needs)
+pub ruleset audit-cases = (audit-words, audit-short, audit-netlist, audit-class, audit-empty, audit-ready, audit-done, needs)

@@ -22,10 +22,10 @@ use Rattle.store.specs.declared.TotalsAnswer.the-variants as totals
 use Rattle.report.specs.Answers.{writtenOf}
 use Rattle.report.specs.declared.WriteAnswer.{WriteAnswer}
 use Rattle.report.specs.declared.WriteAnswer.the-variants as write
-use Rattle.audit.specs.Answers.{auditedOf}
+use Rattle.file_judging.specs.FileJudging.{auditedOf}
 use Rattle.audit.specs.Promised.{MadeCall, TakenCall, Promised, lastStore, withTaken, takenTests, TotalsTrue, ListTrue, CallsTrue}
-use Rattle.audit.specs.declared.AuditAnswer.{AuditAnswer}
-use Rattle.audit.specs.declared.AuditAnswer.the-variants as audit
+use Rattle.file_judging.specs.declared.AuditAnswer.{AuditAnswer}
+use Rattle.file_judging.specs.declared.AuditAnswer.the-variants as audit
 
 abbrev callsOf : List MadeCall → List Call
 callsOf ms = map (λ m. m .call) ms

@@ -3,17 +3,10 @@
 use mathlib.Core.Path.{_≡_}
 use mathlib.Core.List.{List}
 use Prim.Native.Nat.{ℕ}
-use Rattle.model.specs.Base.{Answer, refused, value}
-use Rattle.model.specs.Refusals.{refusalNumber}
 use Rattle.model.specs.Calls.{WorkAfter}
 use Rattle.model.specs.Report.{auditAnswer, auditStore}
-use Rattle.audit.specs.declared.AuditAnswer.{AuditAnswer}
-use Rattle.audit.specs.declared.AuditAnswer.the-variants as audit
-
--- that it accepts, or the number of the refusal
-abbrev pub auditedOf : AuditAnswer → Answer (Unit {0})
-auditedOf audit.Accepted = value tt
-auditedOf (audit.Refused w) = refused (refusalNumber w)
+use Rattle.file_judging.specs.FileJudging.{auditedOf}
+use Rattle.file_judging.specs.declared.AuditAnswer.{AuditAnswer}
 
 -- The audit: its answer, the store afterwards, and what holds of the working memory, in which the first 8,192 words are free
 pub record AuditTrue (r : AuditAnswer) (netlist : List ℕ) (class : ℕ) (testFile report ws ws′ found left : List ℕ) : Type 0 where

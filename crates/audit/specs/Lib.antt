@@ -2,4 +2,3 @@
 pub mod Answers
 pub mod TestFile
 pub mod Promised
-pub mod Blocks

@@ -25,8 +25,8 @@ use Rattle.report.specs.Answers.{WriteTrue}
 use Rattle.report.specs.declared.WriteAnswer.{WriteAnswer}
 use Rattle.report.specs.declared.WriteAnswer.the-variants as write
 use Rattle.audit.specs.Answers.{AuditTrue}
-use Rattle.audit.specs.declared.AuditAnswer.{AuditAnswer}
-use Rattle.audit.specs.declared.AuditAnswer.the-variants as audit
+use Rattle.file_judging.specs.declared.AuditAnswer.{AuditAnswer}
+use Rattle.file_judging.specs.declared.AuditAnswer.the-variants as audit
 
 -- A test call that was made: what it was handed besides netlist and store, what it returned, and the store and the working memory as it left them
 pub record MadeCall : Type 0 where

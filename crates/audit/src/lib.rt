@@ -1,12 +1,14 @@
 // The audit of a report with its netlist and test file.
-pub mod inner;
-
+ghost use mathlib.Core.Path.{_≡_};
+ghost use Rattle.model.specs.Store.{emptyStore};
+ghost use Rattle.file_records.specs.FileRecords.{Ready};
 ghost use Rattle.audit.specs.Answers.{AuditTrue};
-ghost use Rattle.audit.specs.TestFile.{AuditReady, FileAudited};
-use crate::inner::apply_records;
-use crate::inner::judge;
-use crate::inner::whole_length;
+ghost use Rattle.audit.specs.TestFile.{FileAudited};
 use coverage::inner::StageAnswer;
+use file_judging::AuditAnswer;
+use file_judging::inner::judge;
+use file_judging::inner::whole_length;
+use file_records::inner::apply_records;
 use model::Refusal;
 use model::STORE_WORDS;
 use model::WORK_WORDS;
@@ -16,11 +18,6 @@ use netlist::inner::Loaded;
 use netlist::inner::load_by_value;
 use store_writing::inner::clear;
 use test_records::inner::record_length;
-
-pub enum AuditAnswer {
-    Accepted,
-    Refused(Refusal),
-}
 
 // Accepts a report if it is the one that the writer gives after the test calls with the records of a file, all in one class, from an empty store.
 // The store is emptied unread; an audit that is refused after the lent memory's lengths leaves it empty.
@@ -66,7 +63,8 @@ fn audit_file(
     store: &mut [u64],
     work: &mut [u64],
 ) -> AuditAnswer
-    requires { ⌜ AuditReady (now netlist) loaded (now store) (now work) ⌝ }
+    requires { ⌜ Ready (now netlist) loaded (now store) (now work) ⌝ }
+    requires { ⌜ now store ≡ emptyStore ⌝ }
     ensures { λ r. ⌜ FileAudited r (now (netlist .entry)) class (now (tests .entry)) (now (report .entry)) (now (store .exit)) (now (work .entry)) (now (work .exit)) ⌝ }
 {
     let bytes = tests.len() as u64;

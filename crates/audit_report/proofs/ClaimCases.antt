@@ -7,7 +7,7 @@ use native.Mathlib.Omega.{arith}
 use borrow.Author.Needs.{needs}
 use mir.Syntax.{w64}
 use mir.Val.{Fits}
-use Rattle.claim_text.specs.declared.Kind.the-variants as kind
+use Rattle.claim_words.specs.declared.Kind.the-variants as kind
 use Rattle.differences.specs.Differences.{only, Passed, FirstPiece, PieceFrom}
 use Rattle.differences.specs.declared.inner.walk.Piece.{Piece}
 use Rattle.differences.specs.declared.inner.walk.Piece.the-variants as piece

@@ -1,25 +1,25 @@
 // The numbers that are claimed and not detected, and those that are detected and not claimed, for an edge whose runs ascend. Where the report was
 // judged in class 2 and the true report in class 1 is at hand, claims that are true in class 1 are told apart.
 use crate::one_more;
-use claim_text::Kind;
 use claim_text::claim_line;
 use claim_text::more_line;
 use claim_text::shown_lines;
+use claim_words::Kind;
 use console::print_line;
-use differences::Order;
-use differences::inner::falling_runs;
-use differences::inner::rising_runs;
 use differences::inner::walk::Piece;
 use differences::inner::walk::next_piece;
-use differences::order_of;
 use faults::Edge;
 use libc::STDOUT_FILENO;
-use report::layout::HEAD_BYTES;
+use report_bytes::layout::HEAD_BYTES;
+use report_runs::Order;
+use report_runs::inner::falling_runs;
+use report_runs::inner::rising_runs;
+use report_runs::order_of;
 ghost use mathlib.Core.Path.{_≡_};
 ghost use mathlib.Core.Bool.{true};
 ghost use Prim.Native.Nat.{_≤_};
 ghost use lib.ListN.{length};
-ghost use Rattle.differences.specs.Differences.{runsOfBytes, Ascends};
+ghost use Rattle.report_runs.specs.ReportRuns.{runsOfBytes, Ascends};
 ghost use Rattle.audit_report.specs.ClaimedNumbers.{ClaimTrue};
 
 // A line for one stretch of numbers, where it is shown.

@@ -3,32 +3,32 @@
 use crate::claims::ascending;
 use crate::claims::print_numbers;
 use crate::one_more;
-use claim_text::Field;
 use claim_text::faults_line;
 use claim_text::field_line;
 use claim_text::order_line;
+use claim_words::Field;
 use console::empty_line;
 use console::print_line;
 use console::with_number;
 use console::with_text;
-use differences::Order;
-use differences::inner::Head;
-use differences::inner::falling_runs;
-use differences::inner::head_of;
-use differences::inner::number_at;
-use differences::inner::rising_runs;
 use differences::inner::walk::Piece;
 use differences::inner::walk::next_piece;
-use differences::order_of;
 use faults::Edge;
 use faults::PathNo;
 use libc::STDOUT_FILENO;
 use path_text::print_path;
-use report::layout::HEAD_BYTES;
-use report::layout::RUN_BYTES;
+use report_bytes::layout::HEAD_BYTES;
+use report_bytes::layout::RUN_BYTES;
+use report_runs::Order;
+use report_runs::inner::Head;
+use report_runs::inner::falling_runs;
+use report_runs::inner::head_of;
+use report_runs::inner::number_at;
+use report_runs::inner::rising_runs;
+use report_runs::order_of;
 ghost use Prim.Native.Nat.{_≤_};
 ghost use lib.ListN.{length};
-ghost use Rattle.differences.specs.Differences.{runsOfBytes, Ascends};
+ghost use Rattle.report_runs.specs.ReportRuns.{runsOfBytes, Ascends};
 
 // A field of the head where it differs.
 fn print_field(field: Field, claimed: u64, truth: u64) {

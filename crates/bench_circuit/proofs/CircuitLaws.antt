@@ -6,11 +6,11 @@ use mathlib.Core.Bool.{Bool, true, false, _&&_, not}
 use mathlib.Core.Logic.{_⊎_, inl, inr, ⊎-elim}
 use mathlib.Core.List.{List, [], _∷_, _++_, map, append-assoc, append-nil}
 use native.Mathlib.Omega.{arith}
-use lib.Dec.{T, ltb, ltb→lt}
+use lib.Dec.{T, ltb, ltb→lt, T-not}
 use lib.ListN.{length, length-append}
 use Rattle.model.specs.Base.{value, checks, allOf}
 use Rattle.model.specs.Read.{pinsFit}
-use Rattle.model.proofs.BoolLaws.{and-left, and-right, T→true, le-or-lt}
+use Rattle.model.proofs.BoolLaws.{and-left, and-right, T→true, not→false, le-or-lt}
 use Rattle.model.proofs.AnswerLaws.{checks→, then-first, then-second, value-inj}
 use Rattle.bench_lines.specs.Text.{Token, Statement, blank, input, output, gate, other, place, isIn, tokensOf}
 use Rattle.bench_lines.specs.Text.{statementOf}
@@ -106,10 +106,6 @@ legal-empty = record {
   fits = tt;
 }
 
-not-false : (b : Bool) → T (not b) → b ≡ false
-not-false true t = absurd t
-not-false false t = refl
-
 pub names-snoc : (gs : List GateLine) (g : GateLine) → gateNames (gs ++ (g ∷ [])) ≡ gateNames gs ++ (g .name ∷ [])
 names-snoc [] g = refl
 names-snoc (h ∷ gs) g = ap (λ (m : List (List ℕ)). h .name ∷ m) (names-snoc gs g)
@@ -119,7 +115,7 @@ module _ (c : Circuit) (l : Legal c) where
   nets = length (c .inputs) + length (c .gates)
 
   fresh : (x : List ℕ) → T (not (isIn x (netNames c))) → NotIn x (netNames c)
-  fresh x n = not-in x (netNames c) (not-false (isIn x (netNames c)) n)
+  fresh x n = not-in x (netNames c) (not→false (isIn x (netNames c)) (T-not (isIn x (netNames c)) n))
 
   input-legal : (x : List ℕ) → T (not (isIn x (netNames c))) → T (inputFits c) → Legal (added c (input x))
   unfolding added inputFits netNames
@@ -151,7 +147,7 @@ module _ (c : Circuit) (l : Legal c) where
         fewOutputs = omega arith;
         distinct = l .distinct;
         distinctOutputs = distinct-insert x (c .outputs) [] (rw (append-nil (c .outputs)) (l .distinctOutputs))
-            (rw (append-nil (c .outputs)) (not-in x (c .outputs) (not-false (isIn x (c .outputs)) n)));
+            (rw (append-nil (c .outputs)) (not-in x (c .outputs) (not→false (isIn x (c .outputs)) (T-not (isIn x (c .outputs)) n))));
         earlier = l .earlier;
         fits = l .fits;
       }

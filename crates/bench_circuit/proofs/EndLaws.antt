@@ -1,6 +1,6 @@
 -- Outputs whose names are not defined: the first OUTPUT line of one, line by line; whether there is any, by the keys.
 -- Assumes nothing.
-use Prim.Native.Nat.{ℕ, zero, suc, _+_, _-_, _^_, _≤_, _<_}
+use Prim.Native.Nat.{ℕ, zero, suc, _+_, _-_, _≤_, _<_}
 use mathlib.Core.Path.{_≡_, refl, ap, ap₂, sym, _∙_, subst}
 use mathlib.Core.Bool.{Bool, true, false, _&&_}
 use mathlib.Core.List.{List, [], _∷_, _++_}
@@ -11,15 +11,14 @@ use lib.Dec.{ltb}
 use lib.ListN.{length, getD, drop, take, drop-of-length-le}
 use lib.Seq.{drop-drop}
 use Rattle.model.specs.Base.{allOf}
-use mir.Val.{Fits}
-use mir.Syntax.{w64}
 use Rattle.bench_lines.specs.Text.{Statement, blank, input, gate, other, tokensOf, statementOf, linesFrom, linesOf}
 use Rattle.bench_lines.specs.Text.{lastLine, isIn}
 use Rattle.bench_circuit.specs.Circuit.{Circuit, netNames, outputDefined, undefinedFrom}
 use Rattle.bench_lines.specs.LineReading.{part, Named, NameIn, LineIs}
 use Rattle.bench_lines.specs.Keys.{keyLow, keyHigh, keyWords, AllNamed}
 use Rattle.bench_lines.specs.Stating.{GateAt, InputAt, OutputAt, LineStated}
-use Rattle.bench_circuit.specs.Judging.{namePlace, pairNet, keyNet, keyKnown, Held}
+use Rattle.bench_names.specs.NameNets.{namePlace, pairNet, keyNet, keyKnown}
+use Rattle.bench_circuit.specs.Judging.{Held}
 use Rattle.bench_circuit.specs.Ending.{pairsKnown, Knows, OutputTold, LineTold}
 use Rattle.bench_lines.specs.declared.inner.lines.LineEnds.{LineEnds}
 use Rattle.bench_lines.specs.declared.inner.statements.GateParts.{GateParts}
@@ -27,42 +26,40 @@ use Rattle.bench_lines.specs.declared.inner.statements.LineStatement.{LineState
 use Rattle.bench_lines.specs.declared.inner.statements.LineStatement.the-variants as stated
 use Rattle.bench_circuit.specs.declared.inner.judging.NameCounts.{NameCounts}
 use Rattle.bench_lines.proofs.KeyLaws.{head-at, second-at}
+use Rattle.bench_lines.proofs.StatementLaws.{stated-as}
 use Rattle.bench_circuit.proofs.JudgeCases.{known-is}
 
 -- ---- one line
 
 module _ (line is : List ℕ) (i : ℕ) (gs : List ℕ) (g : ℕ) (st : LineStatement) (k : LineStated st line) where
-  told-as : (x : LineStatement) → st ≡ x → LineStated x line
-  told-as x e = subst (λ (y : LineStatement). LineStated y line) e k
-
   no-output : (s : Statement) → statementOf (tokensOf line) ≡ s
       → ((names : List (List ℕ)) → outputDefined names s ≡ true) → OutputTold true line is i gs g
   no-output s e f = record { told = λ names h. sym (ap (outputDefined names) e ∙ f names) }
 
   pub told-blank : st ≡ stated.Blank → OutputTold true line is i gs g
   unfolding outputDefined
-  told-blank e = no-output blank (told-as stated.Blank e) (λ names. refl)
+  told-blank e = no-output blank (stated-as line k e) (λ names. refl)
 
   pub told-other : st ≡ stated.Other → OutputTold true line is i gs g
   unfolding outputDefined
-  told-other e = no-output other (told-as stated.Other e) (λ names. refl)
+  told-other e = no-output other (stated-as line k e) (λ names. refl)
 
   pub told-input : (f t : ℕ) → st ≡ stated.Input f t → OutputTold true line is i gs g
   unfolding outputDefined
   told-input f t e =
-      let a : InputAt f t line (statementOf (tokensOf line)) = told-as (stated.Input f t) e in
+      let a : InputAt f t line (statementOf (tokensOf line)) = stated-as line k e in
       no-output (input (part f t line)) (a .is) (λ names. refl)
 
   pub told-gate : (p : GateParts) → st ≡ stated.Gate p → OutputTold true line is i gs g
   unfolding outputDefined
   told-gate p e =
       let a : GateAt (p .from) (p .to) (p .kind) (p .at) (p .pins) line (statementOf (tokensOf line)) =
-      told-as (stated.Gate p) e in
+      stated-as line k e in
       no-output (gate (part (p .from) (p .to) line) (p .kind) (a .names)) (a .is) (λ names. refl)
 
   module _ (f t : ℕ) (e : st ≡ stated.Output f t) where
     out-at : OutputAt f t line (statementOf (tokensOf line))
-    out-at = told-as (stated.Output f t) e
+    out-at = stated-as line k e
 
     pub told-name : NameIn f t line
     told-name = out-at .isName
@@ -80,23 +77,16 @@ module _ (text is : List ℕ) (i : ℕ) (gs : List ℕ) (g : ℕ) where
   pub record UndefinedLeft (before at : ℕ) : Type 0 where
     pub left : (names : List (List ℕ)) → Knows is i gs g names
         → undefinedFrom names (before + 1) (linesFrom [] (drop at text)) ≡ undefinedFrom names 1 (linesOf text)
-    pub few : before ≤ at
 
   pub undefined-start : UndefinedLeft 0 0
   unfolding linesOf
-  undefined-start = record { left = λ names h. refl; few = omega arith }
+  undefined-start = record { left = λ names h. refl }
 
   module _ (before at : ℕ) (s : UndefinedLeft before at) where
-    pub undefined-count : at < length text → length text < 2 ^ 64 → Fits w64 (before + 1)
-    undefined-count h l = record { fits = omega (arith, s .few) }
-
-    past : length text ≤ at → drop at text ≡ []
-    past h = drop-of-length-le text {i = at} h
-
     pub undefined-none : length text ≤ at → LineTold 0 text is i gs g
     unfolding undefinedFrom linesFrom lastLine
     undefined-none h = record {
-      told = λ names k. sym (ap (λ (b : List ℕ). undefinedFrom names (before + 1) (linesFrom [] b)) (past h)) ∙ s .left names k;
+      told = λ names k. sym (ap (λ (b : List ℕ). undefinedFrom names (before + 1) (linesFrom [] b)) (drop-of-length-le text {i = at} h)) ∙ s .left names k;
     }
 
     module _ (ends : LineEnds) (e : LineIs ends at text) where
@@ -105,15 +95,6 @@ module _ (text is : List ℕ) (i : ℕ) (gs : List ℕ) (g : ℕ) where
 
       abbrev rest : List (List ℕ)
       rest = linesFrom [] (drop (ends .next) text)
-
-      pub undefined-low : at ≤ ends .stop
-      undefined-low = e .low
-
-      pub undefined-stop-in : ends .stop ≤ length text
-      undefined-stop-in = e .stopIn
-
-      pub undefined-less : length text - ends .next < length text - at
-      undefined-less = omega (arith, e .later, e .nextIn)
 
       step : (names : List (List ℕ)) (k : ℕ) (b : Bool) → outputDefined names (statementOf (tokensOf line)) ≡ b
           → undefinedFrom names k (line ∷ rest) ≡ elim b [ true ↦ undefinedFrom names (suc k) rest | false ↦ k ]
@@ -132,7 +113,6 @@ module _ (text is : List ℕ) (i : ℕ) (gs : List ℕ) (g : ℕ) where
           left = λ names h. ap (λ (k : ℕ). undefinedFrom names k rest) (add-one (before + 1))
               ∙ sym (step names (before + 1) true (sym (d .told names h) ∙ q))
               ∙ ap (undefinedFrom names (before + 1)) (sym (e .lines)) ∙ s .left names h;
-          few = omega (arith, e .later, s .few);
         }
 
 -- ---- outputs that are defined

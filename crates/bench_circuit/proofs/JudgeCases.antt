@@ -17,7 +17,8 @@ use Rattle.bench_lines.specs.LineReading.{part, Named, restAt}
 use Rattle.bench_lines.specs.Keys.{keyLow, keyHigh, keyOf, keyPlace, Holds, AllNamed}
 use Rattle.bench_circuit.specs.Circuit.{GateLine, Circuit, netNames, inputFits, gateFits, outputFits, gateNamed}
 use Rattle.bench_circuit.specs.Circuit.{lineRules}
-use Rattle.bench_circuit.specs.Judging.{namePlace, keyNet, keyKnown, PinsJudged, inputRules, InputJudged}
+use Rattle.bench_names.specs.NameNets.{namePlace, keyNet, keyKnown, PinsJudged}
+use Rattle.bench_circuit.specs.Judging.{inputRules, InputJudged}
 use Rattle.bench_circuit.specs.Judging.{outputRules, OutputJudged, gateRules, GateJudged, NamesHeld, Held}
 use Rattle.model.specs.declared.Refusal.the-variants as why
 use Rattle.bench_lines.specs.declared.inner.keys.NameKey.{NameKey}
@@ -27,7 +28,7 @@ use Rattle.bench_circuit.specs.declared.inner.judging.NameAnswer.the-var
 use Rattle.bench_circuit.specs.declared.inner.judging.LineAnswer.the-variants as lineAnswer
 use Rattle.bench_lines.proofs.NamePlaceLaws.{place-left, place-right}
 use Rattle.bench_lines.proofs.KeyLaws.{place-of, put-holds, named-snoc}
-use Rattle.bench_circuit.proofs.JudgeLaws.{net-first, net-second}
+use Rattle.bench_names.proofs.NameNetLaws.{net-first, net-second}
 
 -- ---- two rules
 

@@ -1,6 +1,5 @@
 -- Laws that the proofs of several functions, or of later crates, cite.
 pub mod CircuitLaws
-pub mod JudgeLaws
 pub mod JudgeCases
 pub mod LineCases
 pub mod TextCases

@@ -16,7 +16,8 @@ use Rattle.bench_lines.specs.LineReading.{part, NameIn}
 use Rattle.bench_lines.specs.Keys.{AllNamed}
 use Rattle.bench_lines.specs.Stating.{GateAt, InputAt, OutputAt, LineStated}
 use Rattle.bench_circuit.specs.Circuit.{GateLine, Circuit, lineRules, added}
-use Rattle.bench_circuit.specs.Judging.{PutAfter, PinsNamed, NamesRoom, NameJudged, inputRules, InputJudged}
+use Rattle.bench_names.specs.NameNets.{NamesRoom}
+use Rattle.bench_circuit.specs.Judging.{PutAfter, PinsNamed, NameJudged, inputRules, InputJudged}
 use Rattle.bench_circuit.specs.Judging.{outputRules}
 use Rattle.bench_circuit.specs.Judging.{OutputJudged, gateRules}
 use Rattle.bench_circuit.specs.Judging.{GateJudged, NamesHeld, Held, HeldRoom, LineJudged, RoomAfter, LineTrue}
@@ -31,6 +32,7 @@ use Rattle.bench_circuit.specs.declared.inner.judging.NameAnswer.{NameAn
 use Rattle.bench_circuit.specs.declared.inner.judging.NameAnswer.the-variants as answer
 use Rattle.bench_circuit.specs.declared.inner.judging.LineAnswer.{LineAnswer}
 use Rattle.bench_circuit.specs.declared.inner.judging.LineAnswer.the-variants as lineAnswer
+use Rattle.bench_lines.proofs.StatementLaws.{stated-as}
 use Rattle.bench_circuit.proofs.CircuitLaws.{names-snoc}
 use Rattle.bench_circuit.proofs.JudgeCases.{input-rules, output-rules, gate-rules, held-more, set-two}
 
@@ -41,6 +43,9 @@ room-names is gs os n r = record {
   fewInputs = r .fewInputs;
   fewGates = r .fewGates;
 }
+
+pub room-outputs : (is gs os : List ℕ) (n : NameCounts) → HeldRoom is gs os n → 2 * n .outputs ≤ length os
+room-outputs is gs os n r = omega (arith, r .words .outputWords, r .fewOutputs)
 
 -- the answer to a name, counted
 pub counted-no : (a : NameAnswer) (i g o : ℕ) (w : Refusal) → a ≡ answer.Refused w
@@ -60,9 +65,6 @@ abbrev counts : ℕ → ℕ → ℕ → NameCounts
 counts i g o = record { inputs = i; gates = g; outputs = o }
 
 module _ (l is gs os : List ℕ) (n : NameCounts) (room : HeldRoom is gs os n) (st : LineStatement) (k : LineStated st l) where
-  said : (x : LineStatement) → st ≡ x → LineStated x l
-  said x e = subst (λ (y : LineStatement). LineStated y l) e k
-
   judged-as : (r : LineAnswer) (s : Statement) (is′ gs′ os′ : List ℕ) → statementOf (tokensOf l) ≡ s
       → ((c : Circuit) → Held is gs os n c → LineJudged r c s is′ gs′ os′)
       → RoomAfter r is′ gs′ os′ → LineTrue r l n is gs os is′ gs′ os′
@@ -74,19 +76,19 @@ module _ (l is gs os : List ℕ) (n : NameCounts) (room : HeldRoom is gs os n) (
   pub line-blank : st ≡ stated.Blank → LineTrue (lineAnswer.Taken n) l n is gs os is gs os
   unfolding lineRules added
   line-blank e =
-      judged-as (lineAnswer.Taken n) blank is gs os (said stated.Blank e) (λ c h. record { passed = refl; held = h }) room
+      judged-as (lineAnswer.Taken n) blank is gs os (stated-as l k e) (λ c h. record { passed = refl; held = h }) room
 
   pub line-other : (is′ gs′ os′ : List ℕ) → st ≡ stated.Other
       → LineTrue (lineAnswer.Refused why.BenchLine) l n is gs os is′ gs′ os′
   unfolding lineRules
   line-other is′ gs′ os′ e =
-      judged-as (lineAnswer.Refused why.BenchLine) other is′ gs′ os′ (said stated.Other e) (λ c h. refl) tt
+      judged-as (lineAnswer.Refused why.BenchLine) other is′ gs′ os′ (stated-as l k e) (λ c h. refl) tt
 
   -- ---- an input
 
   module _ (f t : ℕ) (e : st ≡ stated.Input f t) where
     in-at : InputAt f t l (statementOf (tokensOf l))
-    in-at = said (stated.Input f t) e
+    in-at = stated-as l k e
 
     pub line-input-name : NameIn f t l
     line-input-name = in-at .isName
@@ -148,7 +150,7 @@ module _ (l is gs os : List ℕ) (n : NameCounts) (room : HeldRoom is gs os n) (
 
   module _ (f t : ℕ) (e : st ≡ stated.Output f t) where
     out-at : OutputAt f t l (statementOf (tokensOf l))
-    out-at = said (stated.Output f t) e
+    out-at = stated-as l k e
 
     pub line-output-name : NameIn f t l
     line-output-name = out-at .isName
@@ -217,7 +219,7 @@ module _ (l is gs os : List ℕ) (n : NameCounts) (room : HeldRoom is gs os n) (
     kind = parts .kind
 
     gate-at : GateAt (parts .from) (parts .to) (parts .kind) (parts .at) (parts .pins) l (statementOf (tokensOf l))
-    gate-at = said (stated.Gate parts) e
+    gate-at = stated-as l k e
 
     abbrev ys : List (List ℕ)
     ys = gate-at .names

@@ -1,13 +1,11 @@
 -- The lines of a text judged one after the other: those that are left, from the circuit so far, give the whole; so does the
 -- number of the first bad one.
 -- Assumes nothing.
-use Prim.Native.Nat.{ℕ, suc, _+_, _-_, _^_, _≤_, _<_}
+use Prim.Native.Nat.{ℕ, suc, _+_, _-_, _≤_}
 use mathlib.Core.Path.{_≡_, refl, ap, sym, _∙_, subst}
 use mathlib.Core.List.{List, [], _∷_}
 use native.Mathlib.Omega.{arith}
 use native.Mathlib.Numerals.{add-one}
-use mir.Val.{Fits}
-use mir.Syntax.{w64}
 use lib.ListN.{length, drop, take, drop-of-length-le}
 use Rattle.model.specs.Base.{refused, value, checks}
 use Rattle.bench_lines.specs.Text.{Statement, tokensOf, statementOf, linesFrom, linesOf, lastLine}
@@ -35,7 +33,6 @@ pub record JudgedSoFar (text : List ℕ) (at : ℕ) (is gs os : List ℕ) (n : N
   pub held : Held is gs os n circuit
   pub room : HeldRoom is gs os n
   pub inside : at ≤ length text
-  pub few : before ≤ at
 
 none-held : (ws : List ℕ) → NamesHeld ws 0 []
 unfolding keyWords AllNamed
@@ -51,7 +48,6 @@ text-start text is gs os w = record {
   held = record { inputs = none-held is; gates = none-held gs; outputs = none-held os; pins = tt };
   room = record { words = w; fewInputs = omega arith; fewGates = omega arith; fewOutputs = omega arith };
   inside = omega arith;
-  few = omega arith;
 }
 
 module _ (c : Circuit) (l : List ℕ) (ls : List (List ℕ)) where
@@ -78,17 +74,11 @@ module _ (text : List ℕ) (at : ℕ) (is gs os : List ℕ) (n : NameCounts) (be
   pub text-room : HeldRoom is gs os n
   text-room = s .room
 
-  pub text-count : at < length text → length text < 2 ^ 64 → Fits w64 (before + 1)
-  text-count h l = record { fits = omega (arith, s .few) }
-
-  past : length text ≤ at → drop at text ≡ []
-  past h = drop-of-length-le text {i = at} h
-
   pub text-end : length text ≤ at → TextTaken n text is gs os
   unfolding lineByLine linesFrom lastLine
   text-end h = record {
     circuit = s .circuit;
-    reads = sym (s .left) ∙ ap (λ (b : List ℕ). lineByLine (s .circuit) (linesFrom [] b)) (past h);
+    reads = sym (s .left) ∙ ap (λ (b : List ℕ). lineByLine (s .circuit) (linesFrom [] b)) (drop-of-length-le text {i = at} h);
     held = s .held;
     room = s .room;
   }
@@ -105,15 +95,6 @@ module _ (text : List ℕ) (at : ℕ) (is gs os : List ℕ) (n : NameCounts) (be
 
     abbrev said : Statement
     said = statementOf (tokensOf line)
-
-    pub text-low : at ≤ ends .stop
-    text-low = e .low
-
-    pub text-stop-in : ends .stop ≤ length text
-    text-stop-in = e .stopIn
-
-    pub text-less : length text - ends .next < length text - at
-    text-less = omega (arith, e .later, e .nextIn)
 
     module _ (is′ gs′ os′ : List ℕ) (r : LineAnswer) (j : LineTrue r line n is gs os is′ gs′ os′) where
       judged-line : (x : LineAnswer) → r ≡ x → LineJudged x c said is′ gs′ os′
@@ -142,5 +123,4 @@ module _ (text : List ℕ) (at : ℕ) (is gs os : List ℕ) (n : NameCounts) (be
             held = z .held;
             room = subst (λ (x : LineAnswer). RoomAfter x is′ gs′ os′) q (j .room);
             inside = e .nextIn;
-            few = omega (arith, e .later, s .few);
           }

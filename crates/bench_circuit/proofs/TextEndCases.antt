@@ -12,10 +12,12 @@ use Rattle.model.specs.Base.{Answer, refused, value, _>>_, checks, allOf}
 use Rattle.bench_lines.specs.Text.{linesOf, isIn}
 use Rattle.bench_circuit.specs.Circuit.{Circuit, netNames, endRules, undefinedFrom, endLine, lineIn, refusedLine}
 use Rattle.bench_circuit.specs.Circuit.{circuitOf}
-use Rattle.bench_circuit.specs.Judging.{NamesRoom, TextTaken}
+use Rattle.bench_names.specs.NameNets.{NamesRoom}
+use Rattle.bench_circuit.specs.Judging.{TextTaken}
 use Rattle.bench_circuit.specs.Ending.{pairsKnown, LineTold, TextHeld, TextSound, RefusedAt}
 use Rattle.bench_circuit.specs.declared.inner.judging.NameCounts.{NameCounts}
 use Rattle.bench_circuit.proofs.JudgeCases.{known-is}
+use Rattle.bench_circuit.proofs.LineCases.{room-names, room-outputs}
 use Rattle.bench_circuit.proofs.EndLaws.{outputs-are}
 
 module _ (text is gs os : List ℕ) (n : NameCounts) (taken : TextTaken n text is gs os) where
@@ -36,15 +38,10 @@ module _ (text is gs os : List ℕ) (n : NameCounts) (t : TextHeld text is gs os
   c = taken .circuit
 
   pub end-room : NamesRoom is (n .inputs) gs (n .gates)
-  end-room = record {
-    inputWords = taken .room .words .inputWords;
-    gateWords = taken .room .words .gateWords;
-    fewInputs = taken .room .fewInputs;
-    fewGates = taken .room .fewGates;
-  }
+  end-room = room-names is gs os n (taken .room)
 
   pub end-outs : 2 * n .outputs ≤ length os
-  end-outs = omega (arith, taken .room .words .outputWords, taken .room .fewOutputs)
+  end-outs = room-outputs is gs os n (taken .room)
 
   refused-end : (number line : ℕ) → checks (endRules c) ≡ refused number → line ≡ endLine c (linesOf text)
       → RefusedAt number line text

@@ -11,7 +11,8 @@ use Rattle.model.specs.Refusals.{refusalNumber}
 use Rattle.bench_lines.specs.Text.{tokensOf, statementOf, linesOf, isIn}
 use Rattle.bench_circuit.specs.Circuit.{outputDefined, undefinedFrom, endRules, circuitOf, refusedLine}
 use Rattle.bench_lines.specs.LineReading.{Named}
-use Rattle.bench_circuit.specs.Judging.{pairNet, keyKnown, TextTaken}
+use Rattle.bench_names.specs.NameNets.{pairNet, keyKnown}
+use Rattle.bench_circuit.specs.Judging.{TextTaken}
 use Rattle.bench_circuit.specs.declared.inner.judging.NameCounts.{NameCounts}
 use Rattle.bench_circuit.specs.declared.inner.ending.EndAnswer.{EndAnswer}
 use Rattle.bench_circuit.specs.declared.inner.ending.EndAnswer.the-variants as end

@@ -12,7 +12,8 @@ use Rattle.bench_lines.specs.Text.{Statement, gate, tokensOf, statementOf, pins
 use Rattle.bench_lines.specs.LineReading.{part, restAt}
 use Rattle.bench_circuit.specs.Circuit.{GateLine, Circuit, emptyCircuit, lineRules, added, lineByLine, badFrom}
 use Rattle.model.specs.Refusals.{refusalNumber}
-use Rattle.bench_lines.specs.Keys.{keyLow, keyHigh, keyPlace, Holds, AllNamed}
+use Rattle.bench_lines.specs.Keys.{keyLow, keyHigh, Holds, AllNamed}
+use Rattle.bench_names.specs.NameNets.{namePlace, keyKnown}
 use Rattle.bench_circuit.specs.declared.inner.judging.NameCounts.{NameCounts}
 use Rattle.bench_circuit.specs.declared.inner.judging.NameAnswer.{NameAnswer}
 use Rattle.bench_circuit.specs.declared.inner.judging.NameAnswer.the-variants as answer
@@ -21,33 +22,6 @@ use Rattle.bench_circuit.specs.declared.inner.judging.LineAnswer.the-var
 use Rattle.bench_circuit.specs.declared.inner.judging.TextAnswer.{TextAnswer}
 use Rattle.bench_circuit.specs.declared.inner.judging.TextAnswer.the-variants as whole
 use Rattle.bench_lines.specs.declared.inner.statements.GateParts.{GateParts}
-
--- the place of a name among `n` keys
-unfoldable pub namePlace : List ℕ → ℕ → List ℕ → ℕ
-namePlace ws n x = keyPlace (keyLow x) (keyHigh x) n 0 ws
-
--- the net of a key, among `i` inputs and `g` gates
-unfoldable pub pairNet : List ℕ → ℕ → List ℕ → ℕ → ℕ → ℕ → ℕ
-pairNet is i gs g low high = elim (ltb (keyPlace low high i 0 is) i) [ true ↦ keyPlace low high i 0 is | false ↦ i + keyPlace low high g 0 gs ]
-
--- the net of a name, among `i` inputs and `g` gates
-unfoldable pub keyNet : List ℕ → ℕ → List ℕ → ℕ → List ℕ → ℕ
-keyNet is i gs g x = elim (ltb (namePlace is i x) i) [ true ↦ namePlace is i x | false ↦ i + namePlace gs g x ]
-
-unfoldable pub keyKnown : List ℕ → ℕ → List ℕ → ℕ → List ℕ → Bool
-keyKnown is i gs g x = ltb (keyNet is i gs g x) (i + g)
-
--- words for 64 inputs and 512 gates, and how many there are
-pub record NamesRoom (is : List ℕ) (i : ℕ) (gs : List ℕ) (g : ℕ) : Type 0 where
-  pub inputWords : length is ≡ 128
-  pub gateWords : length gs ≡ 1024
-  pub fewInputs : i ≤ 64
-  pub fewGates : g ≤ 511
-
--- whether all pins that are read from a position on are known
-pub record PinsJudged (r : Bool) (at : ℕ) (line is : List ℕ) (i : ℕ) (gs : List ℕ) (g : ℕ) : Type 0 where
-  pub known : (x : List ℕ) (k : ℕ) (ys : List (List ℕ)) → pinsFrom x k [] (restAt at line) ≡ gate x k ys
-      → r ≡ allOf (keyKnown is i gs g) ys
 
 -- an answer to a name, by the rules that it passed
 abbrev pub NameJudged : NameAnswer → List Rule → Type 0

@@ -1,4 +1,3 @@
 // Each caller proves what a function requires.
 pub mod ending;
 pub mod judging;
-pub mod names;

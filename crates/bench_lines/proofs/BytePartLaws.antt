@@ -27,9 +27,6 @@ drop-next i bs h = rw (add-one i) (drop-cons bs i 0 h)
 pub length-part : (at to : ℕ) (bs : List ℕ) → to ≤ length bs → length (part at to bs) ≡ to - at
 length-part at to bs h = length-take-le (to - at) (drop at bs) (omega (arith, length-drop at bs))
 
-pub drop-end : (i : ℕ) (bs : List ℕ) → length bs ≤ i → drop i bs ≡ []
-drop-end i bs h = lib.ListN.drop-of-length-le bs {i = i} h
-
 pub both-left : (a b : Bool) → a && b ≡ true → a ≡ true
 both-left true b h = refl
 both-left false b h = absurd (mathlib.Core.Bool.false≢true h)

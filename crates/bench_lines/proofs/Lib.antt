@@ -9,3 +9,4 @@ pub mod NamePlaceLaws
 pub mod StatementLaws
 pub mod StateCases
 pub mod KindLaws
+pub mod PinWalkLaws

@@ -16,14 +16,20 @@ use Rattle.bench_lines.specs.Text.{nameByte, Token, name, sign, Statemen
 use Rattle.bench_lines.specs.Text.{kindNames, ioNames, ending, pinsFrom}
 use Rattle.bench_lines.specs.LineReading.{part, Named, NameIn, NameAt, SignAt, TokenIs, restAt, nameThen}
 use Rattle.bench_lines.specs.Keys.{keyOf, keyPlace, keyWords, AllNamed}
-use Rattle.bench_lines.specs.Stating.{atEnd, pinsState, OnePin, NoPin, PinIs, NamedThen, GateAt}
+use Rattle.bench_lines.specs.Stating.{atEnd, pinsState, OnePin, NoPin, PinIs, NamedThen, GateAt, LineStated}
 use Rattle.bench_lines.specs.declared.inner.keys.NameKey.{NameKey}
 use Rattle.bench_lines.specs.declared.inner.tokens.NextToken.{NextToken}
 use Rattle.bench_lines.specs.declared.inner.tokens.NextToken.the-variants as token
+use Rattle.bench_lines.specs.declared.inner.statements.LineStatement.{LineStatement}
 use Rattle.bench_lines.specs.declared.inner.statements.LineStatement.the-variants as stated
 use Rattle.bench_lines.specs.declared.inner.statements.PinRead.{PinRead}
 use Rattle.bench_lines.specs.declared.inner.statements.PinRead.the-variants as pin
 use Rattle.bench_lines.proofs.KeyLaws.{place-of, named-snoc}
+
+-- ---- what a line states
+
+pub stated-as : (line : List ℕ) {s r : LineStatement} → LineStated s line → s ≡ r → LineStated r line
+stated-as line k e = subst (λ (x : LineStatement). LineStated x line) e k
 
 -- ---- what a token tells
 

@@ -5,11 +5,12 @@ use mathlib.Core.Path.{_≡_, refl, ap, sym, _∙_}
 use mathlib.Core.List.{List, [], _∷_, _++_}
 use native.Mathlib.Omega.{arith}
 use borrow.Author.Tests.{eq-eqb, ne-eqb}
-use lib.ListN.{length, getD, take, drop}
+use lib.ListN.{length, getD, take, drop, drop-of-length-le}
 use lib.Seq.{getD-drop, getD-take, take-take}
 use Rattle.bench_lines.specs.Text.{linesFrom, lastLine, withoutReturn}
 use Rattle.bench_lines.specs.LineReading.{part, EndIs, LineIs}
-use Rattle.bench_lines.proofs.BytePartLaws.{part-none, part-more, drop-next, length-part, drop-end}
+use Rattle.bench_lines.specs.declared.inner.lines.LineEnds.{LineEnds}
+use Rattle.bench_lines.proofs.BytePartLaws.{part-none, part-more, drop-next, length-part}
 
 lines-end : (line : List ℕ) (b : ℕ) (bs : List ℕ) → b ≡ 0x0A
     → linesFrom line (b ∷ bs) ≡ withoutReturn line ∷ linesFrom [] bs
@@ -89,7 +90,7 @@ module _ (text : List ℕ) (at : ℕ) where
     pub line-to-end : at < length text → length text ≤ end → LineIs (record { stop = end; next = end }) at text
     unfolding linesFrom lastLine
     line-to-end a h = record {
-      lines = e .lines ∙ rw (drop-end end text h) (last-some (part at end text) (omega (arith, length-part at end text (e .high))));
+      lines = e .lines ∙ rw (drop-of-length-le text {i = end} h) (last-some (part at end text) (omega (arith, length-part at end text (e .high))));
       low = e .low;
       later = omega arith;
       stopIn = e .high;
@@ -122,3 +123,18 @@ module _ (text : List ℕ) (at : ℕ) where
       pub line-plain : at < end → (getD text (end - 1) 0 ≡ 0x0D → ⊥)
           → LineIs (record { stop = end; next = end + 1 }) at text
       line-plain l d = with-stop end (return-kept end l (e .high) d) (e .low) (omega arith)
+
+-- A line that was found, for a walk over the lines
+module _ {text : List ℕ} {at : ℕ} {ends : LineEnds} (e : LineIs ends at text) where
+  pub line-low : at ≤ ends .stop
+  line-low = e .low
+
+  pub line-stop-in : ends .stop ≤ length text
+  line-stop-in = e .stopIn
+
+  pub line-less : length text - ends .next < length text - at
+  line-less = omega (arith, e .later, e .nextIn)
+
+  -- each line has a byte: the lines before a position are at most as many
+  pub line-counted : {before : ℕ} → before ≤ at → before + 1 ≤ ends .next
+  line-counted h = omega (arith, e .later)

@@ -7,12 +7,12 @@ use mathlib.Core.List.{List, [], _∷_, _++_}
 use native.Mathlib.Omega.{arith}
 use borrow.Author.Tests.{ne-eqb, le-leb, lt-leb}
 use mathlib.Core.Logic.{⊎-elim}
-use lib.ListN.{length, getD, drop}
+use lib.ListN.{length, getD, drop, drop-of-length-le}
 use Rattle.model.specs.Base.{allOf}
 use Rattle.model.proofs.BoolLaws.{le-or-lt}
 use Rattle.bench_lines.specs.Text.{Token, name, sign, nameByte, word, wordThen, signThen, tokensFrom}
 use Rattle.bench_lines.specs.LineReading.{part, SpacesEnd, WordEnd, NameAt, SignAt}
-use Rattle.bench_lines.proofs.BytePartLaws.{part-none, part-more, drop-next, length-part, drop-end, all-snoc}
+use Rattle.bench_lines.proofs.BytePartLaws.{part-none, part-more, drop-next, length-part, all-snoc}
 
 -- one byte, by its test
 named-byte : (w : List ℕ) (b : ℕ) (bs : List ℕ) → nameByte b ≡ true
@@ -129,7 +129,7 @@ word-done line to w s h f = ⊎-elim at-end inside (le-or-lt (length line) to)
   where
     at-end : length line ≤ to → tokensFrom w (drop to line) ≡ word w ∷ tokensFrom [] (drop to line)
     at-end k =
-        rw (drop-end to line k) (no-more w ∙ word-then w [] s ∙ ap (λ (ts : List Token). word w ∷ ts) (sym no-bytes))
+        rw (drop-of-length-le line {i = to} k) (no-more w ∙ word-then w [] s ∙ ap (λ (ts : List Token). word w ∷ ts) (sym no-bytes))
 
     inside : to < length line → tokensFrom w (drop to line) ≡ word w ∷ tokensFrom [] (drop to line)
     inside k =
@@ -141,7 +141,7 @@ word-done line to w s h f = ⊎-elim at-end inside (le-or-lt (length line) to)
 
 module _ (line : List ℕ) (at from : ℕ) (s : SpacesEnd from at line) where
   pub token-end : length line ≤ from → tokensFrom [] (drop at line) ≡ []
-  token-end h = s .tokens ∙ rw (drop-end from line h) no-bytes
+  token-end h = s .tokens ∙ rw (drop-of-length-le line {i = from} h) no-bytes
 
   module _ (h : from < length line) (b : Bool) (q : b ≡ nameByte (getD line from 0)) where
     pub token-sign : b ≡ false → SignAt (getD line from 0) (from + 1) at line

@@ -12,16 +12,16 @@ use lib.Seq.{sets, length-sets}
 use Rattle.model.specs.Base.{littleEndian}
 use Rattle.model.specs.Encode.{netBytes, gateBytes}
 use Rattle.records.proofs.ByteLaws.{sets-append}
-use Rattle.bench_lines.specs.Text.{pinsFrom}
-use Rattle.bench_lines.specs.LineReading.{part, NameIn, restAt}
-use Rattle.bench_lines.specs.Stating.{pinsState, OnePin, NoPin, PinIs}
-use Rattle.bench_circuit.specs.Judging.{keyNet}
+use Rattle.bench_lines.specs.LineReading.{part, restAt}
+use Rattle.bench_lines.specs.Stating.{PinIs}
+use Rattle.bench_names.specs.NameNets.{keyNet}
 use Rattle.bench_text.specs.FileWriting.{PinsThere, PinsPut, GatePut}
 use Rattle.bench_lines.specs.declared.inner.statements.GateParts.{GateParts}
 use Rattle.bench_lines.specs.declared.inner.statements.LineStatement.the-variants as stated
 use Rattle.bench_lines.specs.declared.inner.statements.PinRead.{PinRead}
 use Rattle.bench_lines.specs.declared.inner.statements.PinRead.the-variants as pin
-use Rattle.bench_lines.proofs.KindLaws.{other≢gate, same-pins, pins-say}
+use Rattle.bench_lines.proofs.KindLaws.{pins-say}
+use Rattle.bench_lines.proofs.PinWalkLaws.{PinsBetween, pins-start, pins-all, pins-going, pins-stop, pins-more}
 use Rattle.bench_text.proofs.BytesLaws.{length-nets}
 
 -- ---- pins
@@ -35,43 +35,35 @@ map-more : (f : List ℕ → ℕ) (xs : List (List ℕ)) (y : List ℕ) → map 
 map-more f [] y = refl
 map-more f (x ∷ xs) y = ap (λ (l : List ℕ). f x ∷ l) (map-more f xs y)
 
+-- The pins so far: their names, and their nets in the buffer
 module _ (out₀ : List ℕ) (p : ℕ) (line : List ℕ) (at : ℕ) (is : List ℕ) (i : ℕ) (gs : List ℕ) (g : ℕ) where
   pub record PutSoFar (out : List ℕ) (write place : ℕ) (more : Bool) : Type 0 where
     pub names : List (List ℕ)
-    pub step : (x : List ℕ) (k : ℕ) → pinsFrom x k [] (restAt at line) ≡ pinsState more x k names (restAt place line)
+    pub pins : PinsBetween line at place more names
     pub written : out ≡ sets out₀ p (netBytes (map (keyNet is i gs g) names))
     pub next : write ≡ p + 2 * length names
-    pub inside : place ≤ length line
 
   pub put-start : (pins : ℕ) → PinsThere line at pins → PutSoFar out₀ p at true
-  unfolding pinsState netBytes PinsThere
-  put-start pins t = record { names = []; step = λ x k. refl; written = refl; next = omega arith; inside = t .inside }
+  unfolding netBytes PinsThere
+  put-start pins t = record { names = []; pins = pins-start (t .inside); written = refl; next = omega arith }
 
   module _ (out : List ℕ) (write place : ℕ) (more : Bool) (s : PutSoFar out write place more) where
     pub put-inside : place ≤ length line
-    put-inside = s .inside
+    put-inside = s .pins .inside
 
     pub put-length : length out ≡ length out₀
     put-length = ap length (s .written) ∙ length-sets out₀ p (netBytes (map (keyNet is i gs g) (s .names)))
 
     pub put-end : more ≡ false → PinsPut out₀ out p line at is i gs g
-    unfolding pinsState
     put-end m = record {
-      put = λ x k ys e. s .written ∙ ap (λ (l : List (List ℕ)). sets out₀ p (netBytes (map (keyNet is i gs g) l)))
-          (same-pins x k (s .names) ys
-          (sym (s .step x k ∙ ap (λ (b : Bool). pinsState b x k (s .names) (restAt place line)) m) ∙ e));
+      put = λ x k ys e. s .written ∙ ap (λ (l : List (List ℕ)). sets out₀ p (netBytes (map (keyNet is i gs g) l))) (pins-all (s .pins) m x k ys e);
     }
-
-    going : more ≡ true → (x : List ℕ) (k : ℕ)
-        → pinsFrom x k [] (restAt at line) ≡ pinsFrom x k (s .names) (restAt place line)
-    unfolding pinsState
-    going m x k = s .step x k ∙ ap (λ (b : Bool). pinsState b x k (s .names) (restAt place line)) m
 
     pub put-room : (pins : ℕ) → more ≡ true → PinsThere line at pins → p + 2 * pins ≤ length out₀
         → write + 2 ≤ length out
     unfolding PinsThere
     put-room pins m w r =
-        let more-pins = sym (going m (w .x) (w .k)) ∙ w .reads in
+        let more-pins = sym (pins-going (s .pins) m (w .x) (w .k)) ∙ w .reads in
         let z = pins-say (w .x) (w .k) (s .names) (restAt place line) (w .x) (w .k) (w .ys) more-pins in
         omega (arith, z .more, w .count, s .next, put-length)
 
@@ -81,39 +73,27 @@ module _ (out₀ : List ℕ) (p : ℕ) (line : List ℕ) (at : ℕ) (is : List �
 
     module _ (q : PinRead) (t : PinIs q place line) (m : more ≡ true) where
       pub put-stop : (out′ : List ℕ) → q ≡ pin.Other → PinsPut out₀ out′ p line at is i gs g
-      put-stop out′ e =
-          let z : NoPin (restAt place line) = subst (λ (y : PinRead). PinIs y place line) e t in
-          record { put = λ x k ys r. other≢gate x k ys (sym (going m x k ∙ z .stop x k (s .names)) ∙ r) }
+      put-stop out′ e = record { put = λ x k ys r. pins-stop (s .pins) m t e x k ys r }
 
-      module _ (f u next : ℕ) (again : Bool) (e : q ≡ pin.Pin f u next again) where
-        one : OnePin (restAt place line) place f u next again line
-        one = subst (λ (y : PinRead). PinIs y place line) e t
-
-        pub put-name : NameIn f u line
-        put-name = one .isName
-
-        pub put-less : length line - next < length line - place
-        put-less = omega (arith, one .later, one .high)
-
-        pub put-again : (net : ℕ) (out′ : List ℕ) → net ≡ keyNet is i gs g (part f u line)
-            → out′ ≡ sets out write (littleEndian 2 net) → PutSoFar out′ (write + 2) next again
-        put-again net out′ n o =
-            let y = part f u line in
-            let net-of = keyNet is i gs g in
-            let old = map net-of (s .names) in
-            let b = netBytes old in
-            let w : netBytes (map net-of (s .names ++ (y ∷ []))) ≡ b ++ littleEndian 2 (net-of y) =
-            ap netBytes (map-more net-of (s .names) y) ∙ nets-more old (net-of y) in
-            let l : length b ≡ 2 * length (s .names) = omega (arith, length-nets old, length-map (s .names) net-of) in
-            record {
-              names = s .names ++ (part f u line ∷ []);
-              step = λ x k. going m x k ∙ one .step x k (s .names);
-              written = o ∙ ap₂ (λ (a : List ℕ) (k : ℕ). sets a write (littleEndian 2 k)) (s .written) n
-                  ∙ sets-append b (littleEndian 2 (net-of y)) out₀ p write (omega (arith, l, s .next))
-                  ∙ ap (sets out₀ p) (sym w);
-              next = omega (arith, s .next, length-append (s .names) (part f u line ∷ []));
-              inside = one .high;
-            }
+      pub put-again : (f u next : ℕ) (again : Bool) → q ≡ pin.Pin f u next again
+          → (net : ℕ) (out′ : List ℕ) → net ≡ keyNet is i gs g (part f u line)
+          → out′ ≡ sets out write (littleEndian 2 net) → PutSoFar out′ (write + 2) next again
+      put-again f u next again e net out′ n o =
+          let y = part f u line in
+          let net-of = keyNet is i gs g in
+          let old = map net-of (s .names) in
+          let b = netBytes old in
+          let w : netBytes (map net-of (s .names ++ (y ∷ []))) ≡ b ++ littleEndian 2 (net-of y) =
+          ap netBytes (map-more net-of (s .names) y) ∙ nets-more old (net-of y) in
+          let l : length b ≡ 2 * length (s .names) = omega (arith, length-nets old, length-map (s .names) net-of) in
+          record {
+            names = s .names ++ (part f u line ∷ []);
+            pins = pins-more (s .pins) m t e;
+            written = o ∙ ap₂ (λ (a : List ℕ) (k : ℕ). sets a write (littleEndian 2 k)) (s .written) n
+                ∙ sets-append b (littleEndian 2 (net-of y)) out₀ p write (omega (arith, l, s .next))
+                ∙ ap (sets out₀ p) (sym w);
+            next = omega (arith, s .next, length-append (s .names) (part f u line ∷ []));
+          }
 
 -- ---- a gate
 

@@ -2,7 +2,7 @@
 pub mod ExamplesHold
 pub mod GateLaws
 pub mod WriteLaws
-pub mod OutputFileLaws
+pub mod HeaderLaws
 pub mod WholeLaws
 pub mod ConvertCases
 pub mod NetlistFileCases

@@ -16,8 +16,10 @@ use Rattle.bench_circuit.specs.Circuit.{GateLine, Circuit, emptyCircuit, netNam
 use Rattle.bench_circuit.specs.Circuit.{refusedLine, circuitOf}
 use Rattle.bench_text.specs.NetlistFile.{gateRecords, outputNets, outputRecords, netlistBytes, converted}
 use Rattle.bench_text.specs.Calls.{convertCall, convertAnswer, convertBuffer}
-use Rattle.bench_circuit.specs.Judging.{NamesRoom, PinsNamed, TextTaken}
-use Rattle.bench_text.specs.FileWriting.{linesBytes, AllFewPins, BytesPut, keyOutputs}
+use Rattle.bench_names.specs.NameNets.{NamesRoom}
+use Rattle.bench_circuit.specs.Judging.{PinsNamed, TextTaken}
+use Rattle.bench_text.specs.FileWriting.{linesBytes, AllFewPins}
+use Rattle.bench_outputs.specs.OutputWriting.{BytesPut, keyOutputs}
 use Rattle.bench_text.specs.Converting.{FileWritten}
 use Rattle.bench_circuit.specs.Ending.{EndSound, TextSound}
 use Rattle.bench_text.specs.declared.BenchAnswer.the-variants as bench
@@ -26,6 +28,7 @@ use Rattle.model.proofs.AnswerLaws.{checks→}
 use Rattle.bench_circuit.proofs.CircuitLaws.{GatesFit, legal-empty, LinesLeave, lines-leave}
 use Rattle.bench_text.proofs.BytesLaws.{bytes-fit}
 use Rattle.bench_text.proofs.WholeLaws.{few-lines, lines-are, outs-are, outs-append}
+use Rattle.bench_circuit.proofs.LineCases.{room-names, room-outputs}
 use Rattle.bench_circuit.proofs.TextEndCases.{at-end, at-line}
 use Rattle.bench_text.proofs.ConvertCases.{call-is, line-is}
 
@@ -125,12 +128,7 @@ module _ (text out is gs os : List ℕ) (n : NameCounts) (big : 10484 ≤ length
   fits = bytes-fit c (left .legal) defined
 
   pub file-room : NamesRoom is (n .inputs) gs (n .gates)
-  file-room = record {
-    inputWords = t .room .words .inputWords;
-    gateWords = t .room .words .gateWords;
-    fewInputs = t .room .fewInputs;
-    fewGates = t .room .fewGates;
-  }
+  file-room = room-names is gs os n (t .room)
 
   pub file-inputs : 2 * n .inputs ≤ length is
   file-inputs = omega (arith, t .room .words .inputWords, t .room .fewInputs)
@@ -139,7 +137,7 @@ module _ (text out is gs os : List ℕ) (n : NameCounts) (big : 10484 ≤ length
   file-gates = omega (arith, t .room .words .gateWords, t .room .fewGates)
 
   pub file-outputs : 2 * n .outputs ≤ length os
-  file-outputs = omega (arith, t .room .words .outputWords, t .room .fewOutputs)
+  file-outputs = room-outputs is gs os n (t .room)
 
   pub file-first : 0 + n .inputs ≤ 1024
   file-first = omega (arith, t .room .fewInputs)

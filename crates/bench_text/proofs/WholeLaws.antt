@@ -17,8 +17,10 @@ use Rattle.bench_lines.specs.LineReading.{Named}
 use Rattle.bench_lines.specs.Keys.{keyLow, keyHigh, keyPlace, keyWords, AllNamed}
 use Rattle.bench_circuit.specs.Circuit.{GateLine, Circuit, netNames}
 use Rattle.bench_text.specs.NetlistFile.{gateRecords, outputNets, outputRecords}
-use Rattle.bench_circuit.specs.Judging.{keyNet, Held, PinsNamed}
-use Rattle.bench_text.specs.FileWriting.{lineBytes, linesBytes, FewPins, AllFewPins, oneOutput, keyOutputs}
+use Rattle.bench_names.specs.NameNets.{keyNet}
+use Rattle.bench_circuit.specs.Judging.{Held, PinsNamed}
+use Rattle.bench_text.specs.FileWriting.{lineBytes, linesBytes, FewPins, AllFewPins}
+use Rattle.bench_outputs.specs.OutputWriting.{oneOutput, keyOutputs}
 use Rattle.bench_circuit.specs.declared.inner.judging.NameCounts.{NameCounts}
 use Rattle.bench_lines.proofs.KeyLaws.{place-of, head-at, second-at}
 use Rattle.bench_circuit.proofs.CircuitLaws.{GatesFit, gateOfLine, gatesOfLines}

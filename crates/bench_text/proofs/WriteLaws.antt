@@ -14,14 +14,15 @@ use Rattle.bench_lines.specs.Text.{Statement, blank, input, output, other, toke
 use Rattle.bench_lines.specs.Text.{linesFrom, linesOf, lastLine}
 use Rattle.bench_lines.specs.LineReading.{part, LineIs}
 use Rattle.bench_lines.specs.Stating.{GateAt, InputAt, OutputAt, LineStated}
-use Rattle.bench_circuit.specs.Judging.{keyNet}
+use Rattle.bench_names.specs.NameNets.{keyNet}
 use Rattle.bench_text.specs.FileWriting.{PinsThere, GatePut, lineBytes, linesBytes, FewPins, AllFewPins}
-use Rattle.bench_text.specs.FileWriting.{BytesPut}
+use Rattle.bench_outputs.specs.OutputWriting.{BytesPut}
 use Rattle.bench_lines.specs.declared.inner.lines.LineEnds.{LineEnds}
 use Rattle.bench_lines.specs.declared.inner.statements.GateParts.{GateParts}
 use Rattle.bench_lines.specs.declared.inner.statements.LineStatement.{LineStatement}
 use Rattle.bench_lines.specs.declared.inner.statements.LineStatement.the-variants as stated
 use Rattle.bench_lines.specs.declared.inner.statements.PinRead.the-variants as pin
+use Rattle.bench_lines.proofs.StatementLaws.{stated-as}
 use Rattle.bench_text.proofs.BytesLaws.{length-gate}
 
 -- ---- a line
@@ -30,9 +31,6 @@ module _ (out line : List ℕ) (p : ℕ) (is : List ℕ) (i : ℕ) (gs : List �
   abbrev said : Statement
   said = statementOf (tokensOf line)
 
-  told-as : (x : LineStatement) → st ≡ x → LineStated x line
-  told-as x e = subst (λ (y : LineStatement). LineStated y line) e k
-
   none-put : (s : Statement) → said ≡ s → lineBytes is i gs g s ≡ [] → BytesPut p out out p (lineBytes is i gs g said)
   none-put s e z =
       let q : lineBytes is i gs g said ≡ [] = ap (lineBytes is i gs g) e ∙ z in
@@ -40,27 +38,27 @@ module _ (out line : List ℕ) (p : ℕ) (is : List ℕ) (i : ℕ) (gs : List �
 
   pub line-put-blank : st ≡ stated.Blank → BytesPut p out out p (lineBytes is i gs g said)
   unfolding lineBytes
-  line-put-blank e = none-put blank (told-as stated.Blank e) refl
+  line-put-blank e = none-put blank (stated-as line k e) refl
 
   pub line-put-other : st ≡ stated.Other → BytesPut p out out p (lineBytes is i gs g said)
   unfolding lineBytes
-  line-put-other e = none-put other (told-as stated.Other e) refl
+  line-put-other e = none-put other (stated-as line k e) refl
 
   pub line-put-input : (f t : ℕ) → st ≡ stated.Input f t → BytesPut p out out p (lineBytes is i gs g said)
   unfolding lineBytes
   line-put-input f t e =
-      let a : InputAt f t line said = told-as (stated.Input f t) e in
+      let a : InputAt f t line said = stated-as line k e in
       none-put (input (part f t line)) (a .is) refl
 
   pub line-put-output : (f t : ℕ) → st ≡ stated.Output f t → BytesPut p out out p (lineBytes is i gs g said)
   unfolding lineBytes
   line-put-output f t e =
-      let a : OutputAt f t line said = told-as (stated.Output f t) e in
+      let a : OutputAt f t line said = stated-as line k e in
       none-put (output (part f t line)) (a .is) refl
 
   module _ (parts : GateParts) (e : st ≡ stated.Gate parts) where
     a : GateAt (parts .from) (parts .to) (parts .kind) (parts .at) (parts .pins) line said
-    a = told-as (stated.Gate parts) e
+    a = stated-as line k e
 
     bytes-are : lineBytes is i gs g said ≡ gateBytes (parts .kind) (map (keyNet is i gs g) (a .names))
     unfolding lineBytes
@@ -145,15 +143,6 @@ module _ (out₀ : List ℕ) (p : ℕ) (text is : List ℕ) (i : ℕ) (gs : List
 
       few-split : AllFewPins (part at (ends .stop) text ∷ linesLeft (ends .next))
       few-split = subst AllFewPins (e .lines) (s .few)
-
-      pub lines-low : at ≤ ends .stop
-      lines-low = e .low
-
-      pub lines-stop-in : ends .stop ≤ length text
-      lines-stop-in = e .stopIn
-
-      pub lines-less : length text - ends .next < length text - at
-      lines-less = omega (arith, e .later, e .nextIn)
 
       pub lines-few : FewPins saying
       unfolding AllFewPins

@@ -6,20 +6,21 @@ ghost use lib.ListN.{length};
 ghost use lib.Seq.{sets};
 ghost use Rattle.model.specs.Encode.{headerBytes};
 ghost use Rattle.bench_lines.specs.Text.{tokensOf, statementOf, linesOf};
-ghost use Rattle.bench_circuit.specs.Judging.{NamesRoom};
+ghost use Rattle.bench_names.specs.NameNets.{NamesRoom};
 ghost use Rattle.bench_circuit.specs.Ending.{TextSound};
 ghost use Rattle.bench_text.specs.Converting.{FileWritten};
 ghost use Rattle.bench_text.specs.FileWriting.{PinsThere, PinsPut, GatePut, FewPins, AllFewPins, bytesOfLine};
-ghost use Rattle.bench_text.specs.FileWriting.{bytesOfText, RoomFor, BytesPut, oneOutput, keyOutputs};
+ghost use Rattle.bench_text.specs.FileWriting.{bytesOfText};
+ghost use Rattle.bench_outputs.specs.OutputWriting.{RoomFor, BytesPut};
 use bench_circuit::inner::judging::NameCounts;
-use bench_circuit::inner::names::net_at;
-use bench_lines::inner::keys::find_key;
 use bench_lines::inner::lines::next_line;
 use bench_lines::inner::statements::GateParts;
 use bench_lines::inner::statements::LineStatement;
 use bench_lines::inner::statements::PinRead;
 use bench_lines::inner::statements::read_pin;
 use bench_lines::inner::statements::read_statement;
+use bench_names::inner::net_at;
+use bench_outputs::inner::put_outputs;
 use records::inner::put;
 
 // Writes the nets of a gate's pins, which begin at a position of its line.
@@ -160,50 +161,6 @@ pub(crate) fn put_lines(
         let line = &text[at..stop];
         write = put_line(out, write, line, inputs, input_count, gates, gate_count);
         at = ends.next;
-    }
-    write
-}
-
-// Writes an output's record, if it is one; the place after it.
-fn put_output(out: &mut [u8], to_place: usize, net: usize, listed: bool) -> usize
-    requires { ⌜ RoomFor «to_place» (oneOutput listed net) (now out) ⌝ }
-    ensures { λ r. ⌜ BytesPut r (now (out .entry)) (now (out .exit)) «to_place» (oneOutput listed net) ⌝ }
-{
-    if listed {
-        put(out, to_place, 2, 0x554F);
-        put(out, to_place + 2, 2, net as u64);
-        return to_place + 4;
-    }
-    to_place
-}
-
-// Writes the records of the outputs among n names, the first of which has net `first`; the place after them.
-pub(crate) fn put_outputs(
-    out: &mut [u8],
-    to_place: usize,
-    words: &[u64],
-    n: usize,
-    first: usize,
-    outputs: &[u64],
-    output_count: usize,
-) -> usize
-    requires { ⌜ (2 * n ≤ length (now words)) × (2 * «output_count» ≤ length (now outputs)) × (first + n ≤ 1024) ⌝ }
-    requires { ⌜ RoomFor «to_place» (keyOutputs (now outputs) «output_count» (now words) n 0 first) (now out) ⌝ }
-    ensures { λ r. ⌜ BytesPut r (now (out .entry)) (now (out .exit)) «to_place»
-        (keyOutputs (now (outputs .entry)) «output_count» (now (words .entry)) n 0 first) ⌝ }
-{
-    let mut write = to_place;
-    let mut left = n;
-    let mut at: usize = 0;
-    let mut net = first;
-    while 0 < left {
-        let low = words[at];
-        let high = words[at + 1];
-        let place = find_key(outputs, output_count, low, high);
-        write = put_output(out, write, net, place < output_count);
-        at += 2;
-        net += 1;
-        left -= 1;
     }
     write
 }

@@ -1,5 +1,4 @@
 // The public calls, each with its answer as numbers.
-use audit::AuditAnswer;
 use bench_text::BenchAnswer;
 use bench_text::bench_to_netlist;
 use coverage::TestAnswer;
@@ -8,6 +7,7 @@ use faults::Edge;
 use faults::FaultAnswer;
 use faults::FaultNo;
 use faults::PathNo;
+use file_judging::AuditAnswer;
 use load::LoadAnswer;
 use netlist::SurveyAnswer;
 use path_numbers::NumberAnswer;

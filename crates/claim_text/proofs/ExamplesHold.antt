@@ -4,24 +4,12 @@ use mathlib.Core.Path.{_≡_, refl}
 use mathlib.Core.Bool.{true, false}
 use Rattle.faults.specs.declared.Edge.the-variants as edge
 use Rattle.text.specs.Decimal.{digitsOf, decimalText}
-use Rattle.claim_text.specs.declared.Kind.the-variants as kind
-use Rattle.claim_text.specs.declared.Field.the-variants as field
-use Rattle.claim_text.specs.Claims.{
-  ascii,
-  pathsText,
-  claimText,
-  pluralText,
-  moreText,
-  fieldText,
-  countText,
-  percentText,
-  claimedShare,
-  trueShare,
-  faultsText,
-  orderText,
-  roomBeside,
-  shownOf,
-}
+use Rattle.text.specs.Lines.{ascii}
+use Rattle.shares.specs.Shares.{countText, percentText, claimedShare, trueShare}
+use Rattle.claim_words.specs.ClaimWords.{pathsText, pluralText}
+use Rattle.claim_words.specs.declared.Kind.the-variants as kind
+use Rattle.claim_words.specs.declared.Field.the-variants as field
+use Rattle.claim_text.specs.Claims.{claimText, moreText, fieldText, faultsText, orderText, roomBeside, shownOf}
 
 pub lines-hold :
     (claimText kind.FalseClaim edge.Rising 2 3 ≡ ascii "false claim, rising, paths 2 to 3")

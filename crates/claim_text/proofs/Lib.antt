@@ -1,5 +1,4 @@
--- Lines put together from parts, their lengths, thousandths by addition, and examples.
-pub mod LinePartLaws
+-- The lengths of the lines, how many are shown, and examples.
 pub mod LengthLaws
-pub mod ShareLaws
+pub mod ShownCases
 pub mod ExamplesHold

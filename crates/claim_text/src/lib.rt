@@ -1,40 +1,22 @@
 // What is said of a refused report, a line each: a field that is false, a run that is out of order, numbers that are claimed and not detected or
 // detected and not claimed, and how many lines are left out. Each line's text is promised by an equation.
-pub mod inner;
-
 ghost use mathlib.Core.Path.{_≡_};
 ghost use Rattle.text.specs.Lines.{textOf};
-ghost use Rattle.claim_text.specs.Claims.{claimText, fieldText, faultsText, orderText, moreText, shownOf};
-use crate::inner::with_claimed_share;
-use crate::inner::with_edge;
-use crate::inner::with_field;
-use crate::inner::with_kind;
-use crate::inner::with_paths;
-use crate::inner::with_plural;
-use crate::inner::with_true_share;
+ghost use Rattle.claim_text.specs.Claims.{claimText, fieldText, faultsText, orderText, moreText, roomBeside, shownOf};
+use claim_words::Field;
+use claim_words::Kind;
+use claim_words::with_edge;
+use claim_words::with_field;
+use claim_words::with_kind;
+use claim_words::with_paths;
+use claim_words::with_plural;
 use faults::Edge;
+use shares::with_claimed_share;
+use shares::with_true_share;
 use text::Line;
 use text::empty_line;
 use text::with_number;
 use text::with_text;
-
-// What is wrong with numbers of paths.
-pub enum Kind {
-    // Claimed and not detected.
-    FalseClaim,
-    // Claimed as detected robustly, and detected only non-robustly.
-    NotRobust,
-    // Detected and not claimed.
-    Missed,
-}
-
-// A field of a report that is no number of faults.
-pub enum Field {
-    Tests,
-    Paths,
-    RisingRuns,
-    FallingRuns,
-}
 
 // `false claim, rising, paths 2 to 3`, or `missed, falling, path 7` for one number.
 pub fn claim_line(kind: Kind, edge: Edge, low: u64, high: u64) -> Line
@@ -89,9 +71,19 @@ pub fn shown_lines(lines: u64, others: u64, all: bool) -> u64
     if all {
         return lines;
     }
-    let room = inner::room_beside(others);
+    let room = room_beside(others);
     if lines < room {
         return lines;
     }
     room
+}
+
+// How many of 20 lines are left beside those of the other kind: ten at the least.
+fn room_beside(others: u64) -> u64
+    ensures { λ r. ⌜ r ≡ roomBeside others ⌝ }
+{
+    if others < 10 {
+        return 20 - others;
+    }
+    10
 }

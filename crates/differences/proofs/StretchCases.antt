@@ -8,7 +8,8 @@ use Prim.Native.Nat.{ℕ, _+_, _-_, _≤_, _<_}
 use native.Mathlib.Omega.{arith}
 use Rattle.model.specs.Runs.{inRuns}
 use Rattle.model.proofs.BoolLaws.{le-or-lt}
-use Rattle.differences.specs.Differences.{runsOfBytes, only, Stands, Steps, FirstOnly, LastOnly, FirstPiece}
+use Rattle.report_runs.specs.ReportRuns.{runsOfBytes}
+use Rattle.differences.specs.Differences.{only, Stands, Steps, FirstOnly, LastOnly, FirstPiece}
 use Rattle.differences.specs.Differences.{FirstFrom, PieceFrom}
 use Rattle.differences.specs.declared.inner.walk.Standing.{Standing}
 use Rattle.differences.specs.declared.inner.walk.Standing.the-variants as standing

@@ -1,6 +1,3 @@
--- Laws of codes and answer words, then the cases of each call by the answer of the call beneath it.
-pub mod CodeLaws
+-- The answers of the calls beneath are those of document 01.
 pub mod NumberedLaws
-pub mod CountLaws
 pub mod CallCases
-pub mod LoadCodeCases

@@ -16,10 +16,9 @@ use Rattle.model.specs.Calls.{storeRule}
 use Rattle.model.specs.Report.{reportRecord, reportRules}
 use Rattle.model.proofs.AnswerLaws.{not-refused}
 use Rattle.model.proofs.BoolLaws.{and-left, and-right}
-use Rattle.audit.specs.TestFile.{wholeLength}
-use Rattle.pieces.specs.Steps.{endBy}
-use Rattle.pieces.specs.Calls.{storeChecked, soFar, endLegal, endStage, endCall, endAnswer}
-use Rattle.exports.specs.Codes.{codeAnswer}
+use Rattle.file_judging.specs.FileJudging.{wholeLength, endBy, storeChecked, soFar, endLegal}
+use Rattle.pieces.specs.Calls.{endStage, endCall, endAnswer}
+use Rattle.answers.specs.Codes.{codeAnswer}
 
 -- a refusal has another number than 0
 abbrev pub Numbered : {A : Type 0} → Answer A → Type 0

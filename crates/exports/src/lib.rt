@@ -1,34 +1,15 @@
 // The calls of the papers for C: each returns 0, or the number of the refusal; a refused call leaves the answer words as they were.
-mod answers;
-
 ghost use mathlib.Core.Path.{_≡_};
 ghost use Rattle.model.specs.Calls.{surveyCall, emptyCall, emptiedStore, totalsCall, faultCall, pathToNumberCall, numberToPathAnswer, numberToPathBuffer, testAnswer, testStore, WorkAfter};
 ghost use Rattle.model.specs.Report.{writerAnswer, writerBuffer, auditAnswer, auditStore};
-ghost use Rattle.pieces.specs.Steps.{beginAnswer, beginStore};
+ghost use Rattle.piece_steps.specs.Steps.{beginAnswer, beginStore};
 ghost use Rattle.load.specs.Calls.{loadAnswer, loadBuffer};
 ghost use Rattle.pieces.specs.Calls.{pieceAnswer, pieceLeft, PieceWork, endAnswer, endStore};
 ghost use Rattle.bench_text.specs.Calls.{convertAnswer, convertBuffer};
-ghost use Rattle.exports.specs.Codes.{codeAnswer, Answered, allTaken, surveyWords, edgeWords, countWords, numberWord, boolWord};
-ghost use Rattle.exports.specs.Codes.{loadWords};
-use crate::answers::put_number;
-use crate::answers::put_survey;
-use audit::AuditAnswer;
-use bench_text::BenchAnswer;
-use coverage::TestAnswer;
+ghost use Rattle.answers.specs.Codes.{codeAnswer, Answered, allTaken, surveyWords, edgeWords, countWords, numberWord, boolWord, loadWords};
 use faults::FaultNo;
 use faults::PathNo;
-use load::LoadAnswer;
-use model::refusal_number;
-use netlist::SurveyAnswer;
-use path_numbers::NumberAnswer;
-use paths::PathAnswer;
-use pieces::BeginAnswer;
-use pieces::EndAnswer;
-use pieces::PieceAnswer;
-use report::WriteAnswer;
-use store::EmptyAnswer;
-use store::HeldAnswer;
-use store::TotalsAnswer;
+use file_judging::EndAnswer;
 
 // The survey of a netlist: I, G, U, T, then a count for each of 512 nets.
 #[no_mangle]
@@ -36,14 +17,7 @@ pub extern "C" fn genduwal_survey(netlist: &[u8], answer: &mut [u64; 516]) -> u3
     ensures { λ r. ⌜ Answered (surveyCall (now (netlist .entry))) surveyWords r (now (answer .entry)) (now (answer .exit)) ⌝ }
 {
     let surveyed = netlist::survey(netlist);
-    let found = surveyed.answer;
-    match found {
-        SurveyAnswer::Refused(why) => refusal_number(why),
-        SurveyAnswer::Legal => {
-            put_survey(surveyed.survey, answer);
-            0
-        }
-    }
+    answers::survey_code(surveyed, answer)
 }
 
 // Empties a store, of any words.
@@ -53,10 +27,7 @@ pub extern "C" fn genduwal_empty(store: &mut [u64]) -> u32
     ensures { λ _. ⌜ now (store .exit) ≡ emptiedStore (now (store .entry)) ⌝ }
 {
     let emptied = store::empty(store);
-    match emptied {
-        EmptyAnswer::Refused(why) => refusal_number(why),
-        EmptyAnswer::Emptied => 0,
-    }
+    answers::empty_code(emptied)
 }
 
 // The test call, judged in class 1 (non-robust) or 2 (robust): for each edge the number of faults new to the store, then for each edge the number then held.
@@ -74,21 +45,7 @@ pub extern "C" fn genduwal_test(
     ensures { λ _. ⌜ WorkAfter (now (netlist .entry)) «test_class» (now (store .entry)) (now (work .entry)) (now (work .exit)) ⌝ }
 {
     let tested = coverage::apply_test(netlist, test, test_class, store, work);
-    match tested {
-        TestAnswer::Refused(why) => refusal_number(why),
-        TestAnswer::Taken {
-            new_rising,
-            new_falling,
-            held_rising,
-            held_falling,
-        } => {
-            answer[0] = new_rising;
-            answer[1] = new_falling;
-            answer[2] = held_rising;
-            answer[3] = held_falling;
-            0
-        }
-    }
+    answers::test_code(tested, answer)
 }
 
 // The number of rising, then of falling faults that a store holds.
@@ -97,14 +54,7 @@ pub extern "C" fn genduwal_totals(netlist: &[u8], store: &[u64], answer: &mut [u
     ensures { λ r. ⌜ Answered (totalsCall (now (netlist .entry)) (now (store .entry))) edgeWords r (now (answer .entry)) (now (answer .exit)) ⌝ }
 {
     let totals = store::totals(netlist, store);
-    match totals {
-        TotalsAnswer::Refused(why) => refusal_number(why),
-        TotalsAnswer::Totals { rising, falling } => {
-            answer[0] = rising;
-            answer[1] = falling;
-            0
-        }
-    }
+    answers::totals_code(totals, answer)
 }
 
 // Whether a store holds a fault: 1 if it does, else 0.
@@ -118,11 +68,7 @@ pub extern "C" fn genduwal_holds(
     ensures { λ r. ⌜ Answered (faultCall (now (netlist .entry)) (now (store .entry)) fault) boolWord r (now (answer .entry)) (now (answer .exit)) ⌝ }
 {
     let held = store::fault_in_store(netlist, store, FaultNo(fault));
-    match held {
-        HeldAnswer::Refused(why) => refusal_number(why),
-        HeldAnswer::Held => put_number(1, answer),
-        HeldAnswer::NotHeld => put_number(0, answer),
-    }
+    answers::held_code(held, answer)
 }
 
 // The number of the path in the words.
@@ -135,10 +81,7 @@ pub extern "C" fn genduwal_path_to_number(
     ensures { λ r. ⌜ Answered (pathToNumberCall (now (netlist .entry)) (now (path .entry))) numberWord r (now (answer .entry)) (now (answer .exit)) ⌝ }
 {
     let number = path_numbers::path_to_number(netlist, path);
-    match number {
-        NumberAnswer::Refused(why) => refusal_number(why),
-        NumberAnswer::Number(found) => put_number(found.0, answer),
-    }
+    answers::number_code(number, answer)
 }
 
 // Writes the path of a number into the first 513 words, with zeros after it.
@@ -148,10 +91,7 @@ pub extern "C" fn genduwal_number_to_path(netlist: &[u8], number: u64, path: &mu
     ensures { λ _. ⌜ now (path .exit) ≡ numberToPathBuffer (now (netlist .entry)) number (now (path .entry)) ⌝ }
 {
     let written = paths::number_to_path(netlist, PathNo(number), path);
-    match written {
-        PathAnswer::Refused(why) => refusal_number(why),
-        PathAnswer::Written => 0,
-    }
+    answers::path_code(written)
 }
 
 // Writes the report of a store and a number of tests: the length of its record.
@@ -167,10 +107,7 @@ pub extern "C" fn genduwal_write_report(
     ensures { λ _. ⌜ now (report .exit) ≡ writerBuffer (now (netlist .entry)) (now (store .entry)) tests (now (report .entry)) ⌝ }
 {
     let written = report::write_report(netlist, store, tests, report);
-    match written {
-        WriteAnswer::Refused(why) => refusal_number(why),
-        WriteAnswer::Written(length) => put_number(length as u64, answer),
-    }
+    answers::report_code(written, answer)
 }
 
 // Accepts a report if it is the one that the writer gives after the test calls with the records of a file, all in one class, from an empty store.
@@ -188,10 +125,7 @@ pub extern "C" fn genduwal_audit(
     ensures { λ _. ⌜ WorkAfter (now (netlist .entry)) «test_class» (now (store .entry)) (now (work .entry)) (now (work .exit)) ⌝ }
 {
     let audited = audit::audit(netlist, tests, report, test_class, store, work);
-    match audited {
-        AuditAnswer::Refused(why) => refusal_number(why),
-        AuditAnswer::Accepted => 0,
-    }
+    answers::audit_code(audited)
 }
 
 // The beginning of an audit whose test file comes in pieces: lent memory, netlist and class. The store is emptied unread.
@@ -206,10 +140,7 @@ pub extern "C" fn genduwal_audit_begin(
     ensures { λ _. ⌜ now (store .exit) ≡ beginStore (now (store .entry)) (now (work .entry)) ⌝ }
 {
     let begun = pieces::audit_begin(netlist, test_class, store, work);
-    match begun {
-        BeginAnswer::Refused(why) => refusal_number(why),
-        BeginAnswer::Ready => 0,
-    }
+    answers::begin_code(begun)
 }
 
 // A piece of the test file, judged in the class of the beginning: the number of its records, if all were taken.
@@ -228,11 +159,7 @@ pub extern "C" fn genduwal_audit_piece(
     ensures { λ _. ⌜ PieceWork (now (netlist .entry)) «test_class» (now (store .entry)) (now (work .entry)) (now (work .exit)) ⌝ }
 {
     let taken = pieces::audit_piece(netlist, piece, test_class, store, work);
-    match taken {
-        PieceAnswer::Refused(why) => refusal_number(why),
-        PieceAnswer::RecordRefused(_, why) => refusal_number(why),
-        PieceAnswer::Taken(records) => put_number(records as u64, answer),
-    }
+    answers::piece_code(taken, answer)
 }
 
 // The end, of a file of so many bytes whose first refusal has the number `first`, 0 if there is none: whether the report is accepted.
@@ -265,10 +192,7 @@ pub extern "C" fn genduwal_bench_to_netlist(
     ensures { λ _. ⌜ now (netlist .exit) ≡ convertBuffer (now (text .entry)) (now (netlist .entry)) ⌝ }
 {
     let converted = bench_text::bench_to_netlist(text, netlist);
-    match converted {
-        BenchAnswer::Refused { why, line: _ } => refusal_number(why),
-        BenchAnswer::Written(length) => put_number(length as u64, answer),
-    }
+    answers::bench_code(converted, answer)
 }
 
 // Writes the records of one vector of a load, drawn from a state: the state afterwards, and the bytes written.
@@ -283,15 +207,5 @@ pub extern "C" fn genduwal_load(
     ensures { λ _. ⌜ now (records .exit) ≡ loadBuffer state inputs (now (records .entry)) ⌝ }
 {
     let written = load::write_load(state, inputs, records);
-    match written {
-        LoadAnswer::Refused(why) => refusal_number(why),
-        LoadAnswer::Written {
-            state: after,
-            length,
-        } => {
-            answer[0] = after as u64;
-            answer[1] = length as u64;
-            0
-        }
-    }
+    answers::load_code(written, answer)
 }

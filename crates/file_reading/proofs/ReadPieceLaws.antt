@@ -42,13 +42,6 @@ part-most n most part l h k m = omega (arith, h, k, length-take-le most l m)
 
 pub ruleset read-cases = (part-length, part-within, part-counts, part-most, needs)
 
--- the bytes of a record by the number of inputs
-pub record-bytes : (netlist : List ℕ) (C : Netlist) (inputs recordBytes : ℕ) → readNetlist netlist ≡ value C → inputs ≡ C .inputs
-    → recordBytes ≡ 2 + 2 * vectorBytes inputs → (N : Netlist) → readNetlist netlist ≡ value N → recordBytes ≡ recordLength N
-record-bytes netlist C inputs recordBytes c i eb N e =
-    let same : inputs ≡ N .inputs = i ∙ ap (λ (M : Netlist). M .inputs) (value-inj (sym c ∙ e)) in
-    eb ∙ ap (λ (k : ℕ). 2 + 2 * vectorBytes k) same
-
 -- the bytes with one piece more
 pub file-more : (bytes n : ℕ) (testFile space : List ℕ) → bytes ≡ length testFile → n ≤ length space → bytes + n ≡ length (testFile ++ take n space)
 file-more bytes n testFile space b h = omega (arith, b, length-append testFile (take n space), length-take-le n space h)
@@ -69,8 +62,15 @@ module _ (netlist : List ℕ) (full most : ℕ) where
     spaceLength = l;
   }
 
-  module _ (recordBytes : ℕ) (len : (N : Netlist) → readNetlist netlist ≡ value N → recordBytes ≡ recordLength N) (near : most < full + recordBytes)
-      (f : List ℕ) (bytes : ℕ) (space : List ℕ) (g : FileSoFar f bytes space) where
+  -- the file of a netlist, whose inputs say how many bytes a record has
+  module _ {C : Netlist} {inputs recordBytes : ℕ} (legal : readNetlist netlist ≡ value C) (are : inputs ≡ C .inputs)
+      (eb : recordBytes ≡ 2 + 2 * vectorBytes inputs) (near : most < full + recordBytes)
+      {f : List ℕ} {bytes : ℕ} {space : List ℕ} (g : FileSoFar f bytes space) where
+    len : (N : Netlist) → readNetlist netlist ≡ value N → recordBytes ≡ recordLength N
+    len N e =
+        let same : inputs ≡ N .inputs = are ∙ ap (λ (M : Netlist). M .inputs) (value-inj (sym legal ∙ e)) in
+        eb ∙ ap (λ (k : ℕ). 2 + 2 * vectorBytes k) same
+
     -- a file as long as a full piece does not fit
     pub file-over : 0 < bytes → InSpace netlist f space
     file-over h N e k = absurd (fits (g .first))

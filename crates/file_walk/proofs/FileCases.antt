@@ -17,11 +17,12 @@ use Rattle.model.specs.declared.Refusal.the-variants as why
 use Rattle.model.proofs.AnswerLaws.{value-inj}
 use Rattle.netlist.specs.declared.inner.Loaded.{Loaded}
 use Rattle.coverage.specs.Stage.{MemoryReady}
-use Rattle.audit.specs.TestFile.{fileOf, leftStore, wholeLength}
+use Rattle.file_block.specs.RecordsTaken.{fileOf, leftStore}
+use Rattle.file_judging.specs.FileJudging.{wholeLength}
 use Rattle.coverage.specs.declared.inner.StageAnswer.the-variants as stage
-use Rattle.audit.proofs.MemoryLaws.{emptied, empty-memory}
-use Rattle.pieces.specs.Steps.{Ready}
-use Rattle.pieces.proofs.StepCases.{ready-inputs}
+use Rattle.file_block.proofs.MemoryLaws.{emptied, empty-memory}
+use Rattle.file_records.specs.FileRecords.{Ready}
+use Rattle.file_records.proofs.ReadyLaws.{ready-inputs}
 use Rattle.file_walk.specs.declared.inner.Walk.{Walk}
 use Rattle.file_walk.specs.Walked.{recordsTaken, fileTaken, Walked}
 

@@ -12,22 +12,23 @@ use lib.Seq.{length-take-le}
 use Rattle.model.specs.Base.{Answer, refused, value}
 use Rattle.model.specs.Netlist.{Netlist}
 use Rattle.model.specs.Detect.{Class}
-use Rattle.model.specs.Read.{vectorBytes, recordLength, readNetlist, classOf}
+use Rattle.model.specs.Read.{vectorBytes, readNetlist, classOf}
 use Rattle.model.specs.Store.{emptyStore}
 use Rattle.model.specs.Calls.{workWords}
 use Rattle.model.specs.Report.{fileRecords, testAll}
 use Rattle.netlist.specs.declared.inner.Loaded.{Loaded}
-use Rattle.audit.specs.TestFile.{fileOf, leftStore, takenOf}
+use Rattle.file_block.specs.RecordsTaken.{fileOf, leftStore, takenOf}
 use Rattle.coverage.specs.declared.inner.StageAnswer.{StageAnswer}
 use Rattle.coverage.specs.declared.inner.StageAnswer.the-variants as stage
-use Rattle.audit.specs.declared.inner.TakenRecords.{TakenRecords}
-use Rattle.pieces.specs.Steps.{Ready, PieceTaken, withPiece, takenWith, pieceStore}
+use Rattle.file_block.specs.declared.inner.TakenRecords.{TakenRecords}
+use Rattle.file_records.specs.FileRecords.{Ready}
+use Rattle.piece_steps.specs.Steps.{PieceTaken, withPiece, takenWith, pieceStore}
 use Rattle.pieces.specs.Together.{noRecords}
-use Rattle.pieces.proofs.StepCases.{ready-inputs}
-use Rattle.pieces.proofs.TogetherHolds.{no-bytes, piece-then}
+use Rattle.file_records.proofs.ReadyLaws.{ready-inputs}
+use Rattle.piece_steps.proofs.JoinedPieceLaws.{no-bytes, piece-then}
 use Rattle.pieces.proofs.TakenLaws.{taken-none, taken-both}
 use Rattle.file_walk.specs.Walked.{recordsTaken, Walked}
-use Rattle.file_reading.proofs.ReadPieceLaws.{record-bytes, FileSoFar, file-start, file-more, file-over, file-next, file-last}
+use Rattle.file_reading.proofs.ReadPieceLaws.{FileSoFar, file-start, file-more, file-over, file-next, file-last}
 
 -- the store after a piece, by the state before it
 store-with : (N : Netlist) (c : Class) (a : StageAnswer) (piece ws : List ℕ) → ws ≡ leftStore (fileOf a ws)
@@ -77,14 +78,11 @@ module _ (netlist : List ℕ) (loaded : Loaded) (class : ℕ) (full most : ℕ) 
     abbrev f : List ℕ
     f = g .testFile
 
-    length-is : (N : Netlist) → readNetlist netlist ≡ value N → recordBytes ≡ recordLength N
-    length-is = record-bytes netlist (g .ready .circuit) (loaded .shape .inputs) recordBytes (g .ready .tables .legal) (g .ready .tables .inputsAre) eb
-
     pub reading-over : 77309411310 < bytes → (b : Bool) → Walked recordsTaken (record { bytes = bytes; records = records; whole = b }) netlist loaded class space ws work₀ work
     reading-over h b = record {
       testFile = f;
       bytesAre = g .read .bytesAre;
-      inSpace = file-over netlist full most recordBytes length-is near f bytes space (g .read) (omega (arith, h));
+      inSpace = file-over netlist full most (g .ready .tables .legal) (g .ready .tables .inputsAre) eb near (g .read) (omega (arith, h));
       answer = λ N e. g .state N e ∙ records-are N (classOf class) f;
       store = λ N e. g .store N e ∙ ap leftStore (records-are N (classOf class) f);
       taken = λ N e. g .taken N e ∙ taken-from N (classOf class) f;
@@ -115,7 +113,7 @@ module _ (netlist : List ℕ) (loaded : Loaded) (class : ℕ) (full most : ℕ) 
       pub reading-next : (least : ℕ) → full ≤ least → least ≤ n → full % recordBytes ≡ 0 → Reading r (bytes + n) space′ ws′ work′
       reading-next least fl ln w = record {
         testFile = f ++ piece;
-        read = file-next netlist full most recordBytes length-is near f bytes space (g .read) n space′ cn cm l (omega (arith, fl, ln)) w;
+        read = file-next netlist full most (g .ready .tables .legal) (g .ready .tables .inputsAre) eb near (g .read) n space′ cn cm l (omega (arith, fl, ln)) w;
         state = more-state;
         store = more-store;
         taken = more-taken;
@@ -130,7 +128,7 @@ module _ (netlist : List ℕ) (loaded : Loaded) (class : ℕ) (full most : ℕ) 
       reading-last b = record {
         testFile = f ++ piece;
         bytesAre = file-more bytes n f space′ (g .read .bytesAre) cn;
-        inSpace = file-last netlist full most recordBytes length-is near f bytes space (g .read) n space′ cn cm l;
+        inSpace = file-last netlist full most (g .ready .tables .legal) (g .ready .tables .inputsAre) eb near (g .read) n space′ cn cm l;
         answer = λ N e. more-state N e ∙ records-are N (classOf class) (f ++ piece);
         store = λ N e. more-store N e ∙ ap leftStore (records-are N (classOf class) (f ++ piece));
         taken = λ N e. more-taken N e ∙ taken-from N (classOf class) (f ++ piece);

@@ -13,8 +13,8 @@ use Rattle.model.specs.Store.{emptyStore}
 use Rattle.model.specs.Calls.{workWords}
 use Rattle.model.specs.Report.{fileRecords, wholeRecords, testAll}
 use Rattle.netlist.specs.declared.inner.Loaded.{Loaded}
-use Rattle.audit.specs.TestFile.{fileOf, leftStore, takenOf}
-use Rattle.pieces.specs.Steps.{Ready}
+use Rattle.file_block.specs.RecordsTaken.{fileOf, leftStore, takenOf}
+use Rattle.file_records.specs.FileRecords.{Ready}
 use Rattle.file_reading.specs.Space.{InSpace}
 use Rattle.file_walk.specs.declared.inner.Walk.{Walk}
 

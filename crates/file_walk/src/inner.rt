@@ -1,22 +1,22 @@
 // The test calls with the records of a test file, a piece of whole records at a time: a caller proves what a function requires.
 ghost use mathlib.Core.Path.{_≡_};
 ghost use Rattle.model.specs.Store.{emptyStore};
-ghost use Rattle.pieces.specs.Steps.{Ready};
+ghost use Rattle.file_records.specs.FileRecords.{Ready};
 ghost use Rattle.file_walk.specs.Walked.{Walked, recordsTaken, fileTaken};
-use audit::inner::MAX_RECORDS;
-use audit::inner::TakenRecords;
-use audit::inner::whole_length;
 use command::at_end;
 use command::end_progress;
 use command::file_size;
 use command::show_progress;
 use coverage::inner::StageAnswer;
+use file_block::inner::TakenRecords;
+use file_judging::inner::MAX_RECORDS;
+use file_judging::inner::whole_length;
 use file_reading::inner::full_piece;
 use file_reading::inner::read_part;
 use file_reading::inner::whole_part;
 use model::Refusal;
 use netlist::inner::Loaded;
-use pieces::inner::apply_piece;
+use piece_steps::inner::apply_piece;
 use store_writing::inner::clear;
 use test_records::inner::record_length;
 

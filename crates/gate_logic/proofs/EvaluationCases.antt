@@ -15,7 +15,7 @@ use Rattle.model.specs.Read.{kindOf, classOf}
 use Rattle.packed_pins.specs.Packed.{bitsIn, parityOf, openSet}
 use Rattle.gate_logic.specs.States.{stateOf, wordOf, pinsIn, stillBy, PackedStates}
 use Rattle.gate_logic.specs.declared.inner.PinStates.{PinStates}
-use Rattle.packed_pins.proofs.KindCases.{few}
+use Rattle.packed_pins.proofs.KindCases.{few, no-ninth}
 use Rattle.gate_logic.proofs.ValueCases.{one-pin, eighth, value-1, value-2, value-3, value-4, value-5, value-6, value-7, value-8}
 use Rattle.gate_logic.proofs.StateLaws.{firsts, lasts, still-and, still-or, still-xor, robust-and, robust-or, robust-xor, robust-single}
 
@@ -133,10 +133,7 @@ module _ (kind pins : ℕ) (p : PinStates) (h : PackedStates kind pins p) where
       rest-open (suc (suc (suc (suc (suc (suc zero)))))) a b n3 n4 n5 n6 one x l = absurd (n6 refl)
       rest-open (suc (suc (suc (suc (suc (suc (suc zero))))))) a b n3 n4 n5 n6 one x l = refl
       rest-open (suc (suc (suc (suc (suc (suc (suc (suc zero)))))))) a b n3 n4 n5 n6 one x l = refl
-      rest-open (suc (suc (suc (suc (suc (suc (suc (suc (suc k))))))))) a b n3 n4 n5 n6 one x l = absurd (past k b)
-        where
-          past : (k : ℕ) → suc (suc (suc (suc (suc (suc (suc (suc (suc k)))))))) ≤ 8 → ⊥
-          past k b = omega arith
+      rest-open (suc (suc (suc (suc (suc (suc (suc (suc (suc k))))))))) a b n3 n4 n5 n6 one x l = absurd (no-ninth k b)
 
       pub robust-rest : (kind ≡ 3 → ⊥) → (kind ≡ 4 → ⊥) → (kind ≡ 5 → ⊥) → (kind ≡ 6 → ⊥)
           → (x : ℕ) → x < pins → bit (bitAnd (bitXor (p .v1) (p .v2)) calm) x ≡ isOpen robust (kindOf kind) ns x

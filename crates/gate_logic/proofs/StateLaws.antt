@@ -1,7 +1,7 @@
 -- The pins of a gate from three packed bytes: their values under V1 and V2, and which are steady.
 -- Assumes nothing.
 use mathlib.Core.Path.{_≡_, refl, ap, ap₂, sym, _∙_}
-use mathlib.Core.Bool.{Bool, true, false, _&&_, _||_, not, Bool·beq, and-true}
+use mathlib.Core.Bool.{Bool, true, false, _&&_, _||_, not, Bool·beq, and-true, and-comm, and-assoc, or-false}
 use mathlib.Core.List.{List, [], _∷_, map}
 use mathlib.Core.Logic.{_⊎_, inl, inr}
 use Prim.Native.Nat.{ℕ, zero, suc, _+_, _-_, _*_, _/_, _%_, _^_, _≤_, _<_}
@@ -109,25 +109,11 @@ steady-zero (suc n) a b s =
     is-not true = refl
     is-not false = refl
 
-and-swap : (x y : Bool) → (x && y) ≡ (y && x)
-and-swap true true = refl
-and-swap true false = refl
-and-swap false true = refl
-and-swap false false = refl
-
-and-around : (x y z : Bool) → ((x && y) && z) ≡ (x && (y && z))
-and-around true y z = refl
-and-around false y z = refl
-
 and-cross : (x xs y ys : Bool) → ((x && xs) && (y && ys)) ≡ ((x && y) && (xs && ys))
 and-cross true true y ys = refl
 and-cross true false true ys = refl
 and-cross true false false ys = refl
 and-cross false xs y ys = refl
-
-or-none : (v : Bool) → v ≡ (v || false)
-or-none true = refl
-or-none false = refl
 
 -- two tests of every other entry
 allOf-both : {A : Type 0} (f g : A → Bool) (xs : List A) → (allOf f xs && allOf g xs) ≡ allOf (λ x. f x && g x) xs
@@ -149,7 +135,7 @@ sides-rule v ns p = go (Bool·beq v (getD ns p noEvaluation .underV2))
         ≡ elim t [ true ↦ others (λ e. Bool·beq v (e .underV2)) ns p | false ↦ others (λ e. e .steady && Bool·beq v (e .underV2)) ns p ]
     go true = and-true (others (λ e. Bool·beq v (e .underV2)) ns p)
     go false =
-        and-swap (others (λ e. Bool·beq v (e .underV2)) ns p) (others (λ e. e .steady) ns p)
+        and-comm (others (λ e. Bool·beq v (e .underV2)) ns p) (others (λ e. e .steady) ns p)
         ∙ others-both (λ e. e .steady) (λ e. Bool·beq v (e .underV2)) ns p
 
 beq-true : (v : Bool) → v ≡ Bool·beq true v
@@ -179,7 +165,7 @@ module _ (n a b s : ℕ) (h : n ≤ 8) (l : b < 2 ^ n) (m : s < 2 ^ n) where
   still-or = ap₂ (λ x y. x || y) all-steady (some-both b ∙ sym (steady-one n a b s))
 
   pub still-xor : eqb s (2 ^ n - 1) ≡ gateSteady xor (pinsIn n a b s)
-  still-xor = all-steady ∙ or-none (allOf (λ e. e .steady) (pinsIn n a b s))
+  still-xor = all-steady ∙ sym (or-false (allOf (λ e. e .steady) (pinsIn n a b s)))
 
   -- Robustly open pins
   module _ (p : ℕ) (k : p < n) where
@@ -210,7 +196,7 @@ module _ (n a b s : ℕ) (h : n ≤ 8) (l : b < 2 ^ n) (m : s < 2 ^ n) where
         and-bit (bitAnd (bitXor a b) clear) (bitOr ending (openSet (2 ^ n - 1) (2 ^ n - 1 - s))) p
         ∙ ap₂ (λ x y. x && y) (and-bit (bitXor a b) clear p ∙ ap₂ (λ x y. x && y) moved o)
         (or-bit ending (openSet (2 ^ n - 1) (2 ^ n - 1 - s)) p ∙ ap₂ (λ x y. x || y) e sides-calm)
-        ∙ and-around (differs (getD (pinsIn n a b s) p noEvaluation)) (others (λ e. Bool·beq v (e .underV2)) (pinsIn n a b s) p) _
+        ∙ and-assoc (differs (getD (pinsIn n a b s) p noEvaluation)) (others (λ e. Bool·beq v (e .underV2)) (pinsIn n a b s) p) _
         ∙ ap (λ x. differs (getD (pinsIn n a b s) p noEvaluation) && x) (sides-rule v (pinsIn n a b s) p)
 
     pub robust-and : bit (bitAnd (bitAnd (bitXor a b) (openSet (2 ^ n - 1) (2 ^ n - 1 - b))) (bitOr b (openSet (2 ^ n - 1) (2 ^ n - 1 - s)))) p

@@ -1,7 +1,7 @@
 -- A gate's value from its packed pins, kind by kind.
 -- Assumes nothing.
-use mathlib.Core.Path.{_≡_, refl, ap, _∙_}
-use mathlib.Core.Bool.{Bool, true, false, _&&_, not}
+use mathlib.Core.Path.{_≡_, refl, ap, sym, _∙_}
+use mathlib.Core.Bool.{Bool, _&&_, not, Bool·not-not}
 use mathlib.Core.Logic.{⊎-elim}
 use Prim.Native.Nat.{ℕ, zero, suc, _-_, _^_, _≤_, _<_}
 use native.Mathlib.Omega.{arith}
@@ -12,10 +12,6 @@ use Rattle.model.proofs.BoolLaws.{and-left, and-right, or-cases}
 use Rattle.packed_pins.specs.Packed.{bitsIn, parityOf, PackedPins}
 use Rattle.packed_pins.proofs.PackedLaws.{all-ones, some-one, odd-ones, single, single-not}
 use Rattle.packed_pins.proofs.KindCases.{few}
-
-not-not : (b : Bool) → b ≡ not (not b)
-not-not true = refl
-not-not false = refl
 
 pub eighth : (k : ℕ) → 1 ≤ k → k ≤ 8 → (k ≡ 1 → ⊥) → (k ≡ 2 → ⊥) → (k ≡ 3 → ⊥) → (k ≡ 4 → ⊥) → (k ≡ 5 → ⊥) → (k ≡ 6 → ⊥) → (k ≡ 7 → ⊥) → k ≡ 8
 eighth zero a b n1 n2 n3 n4 n5 n6 n7 = absurd (omega arith)
@@ -62,7 +58,7 @@ module _ (kind pins packed : ℕ) (h : PackedPins kind pins packed) where
   value-5 e = rw e (some-one pins packed (few kind pins packed h) (h .small))
 
   pub value-6 : kind ≡ 6 → eqb packed 0 ≡ gateValue (kindOf kind) (bitsIn pins packed)
-  value-6 e = rw e (not-not (eqb packed 0) ∙ ap not (some-one pins packed (few kind pins packed h) (h .small)))
+  value-6 e = rw e (sym (Bool·not-not (eqb packed 0)) ∙ ap not (some-one pins packed (few kind pins packed h) (h .small)))
 
   pub value-7 : (r : Bool) → r ≡ parityOf packed → kind ≡ 7 → r ≡ gateValue (kindOf kind) (bitsIn pins packed)
   value-7 r q e = rw e (q ∙ odd-ones pins packed (few kind pins packed h) (h .small))

@@ -1,7 +1,6 @@
 -- Laws of the counts in an array, then the cases of each reader.
 pub mod PaddedLaws
 pub mod PinSteps
-pub mod FitCases
 pub mod GateCases
 pub mod PositionSteps
 pub mod GateSteps

@@ -4,11 +4,11 @@ ghost use mathlib.Core.Path.{_≡_};
 ghost use mathlib.Core.Bool.{true};
 ghost use Prim.Native.Nat.{_+_, _*_, _≤_};
 ghost use lib.ListN.{length, replicate};
-ghost use Rattle.model.specs.Read.{pinsFit};
 ghost use Rattle.model.specs.Calls.{padded};
 ghost use Rattle.gate_records.specs.GateReading.{zeros, gateOf, gateStep, pinsLower, pinSum, SumIs, GatesAre};
 use model::MAX_COUNT;
 use model::Refusal;
+use pin_counts::pin_count_fits;
 use records::inner::begins_with;
 use records::inner::u16_at;
 use records::inner::wide;
@@ -97,19 +97,6 @@ fn read_gate(part: &[u8], net: usize, counts: &[u64; 512]) -> GateAnswer
         SumAnswer::Sum(count) => GateAnswer::Gate { count, size },
         SumAnswer::Over => GateAnswer::Refused(Refusal::CountOverLimit),
     }
-}
-
-// Whether a gate of this kind can have so many pins.
-fn pin_count_fits(kind: usize, pins: usize) -> bool
-    ensures { λ r. ⌜ r ≡ pinsFit kind pins ⌝ }
-{
-    if kind <= 2 {
-        return pins == 1;
-    }
-    if pins < 1 {
-        return false;
-    }
-    pins <= 8
 }
 
 // Whether every pin names a net lower than the gate's.

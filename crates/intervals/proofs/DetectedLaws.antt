@@ -33,7 +33,7 @@ use Rattle.model.proofs.BoolLaws.{cases}
 use Rattle.runs.proofs.MemberLaws.{sound-mono}
 use Rattle.intervals.specs.Edges.{Case, EdgeAt, detected, working, Detects}
 use Rattle.intervals.specs.Nets.{setRuns, runsBefore}
-use Rattle.intervals.specs.PlaceRuns.{Places, firstRuns}
+use Rattle.place_runs.specs.RunsOfPlaces.{Places, firstRuns}
 use Rattle.intervals.proofs.PlaceRunLaws.{PlaceIs, first-make, first-none, first-few}
 use Rattle.intervals.proofs.StandLaws.{runs-next, runs-mono}
 

@@ -27,8 +27,8 @@ use Rattle.run_union.proofs.Adding.{answer-fits}
 use Rattle.run_union.proofs.Adding.{adds-count}
 use Rattle.intervals.specs.Edges.{Case, EdgeAt, SomeEdgeAt, detected, working, Detects}
 use Rattle.intervals.specs.Nets.{setRuns, inputRuns, Stand, Kept, NetsAt, SomeNetsAt, NetsMade}
-use Rattle.intervals.specs.PlaceRuns.{outputAt, outputPlaces, outputRuns, runsIn, NetReady, OutputsReady}
-use Rattle.intervals.proofs.AddLaws.{as-adds, adds-kept, full-count}
+use Rattle.place_runs.specs.RunsOfPlaces.{outputAt, outputPlaces, outputRuns, runsIn, NetReady, OutputsReady}
+use Rattle.place_runs.proofs.AddedLaws.{as-adds, adds-kept, full-count}
 use Rattle.intervals.proofs.PlaceRunLaws.{paths-most}
 use Rattle.intervals.proofs.StandLaws.{stand-same, stand-runs, stand-net}
 use Rattle.intervals.proofs.DetectedLaws.{no-edge, input-set, set-sound, OutIs, detected-set, working-all, few-detected}

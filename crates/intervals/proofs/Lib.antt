@@ -1,6 +1,5 @@
 pub mod AddLaws
 pub mod PlaceRunLaws
-pub mod PlaceRunSteps
 pub mod OpenRunLaws
 pub mod StandLaws
 pub mod DetectedLaws

@@ -24,8 +24,8 @@ use Rattle.runs.specs.declared.inner.Added.the-variants.{Count, Full}
 use Rattle.run_union.proofs.Adding.{answer-over, adds-count}
 use Rattle.intervals.specs.Edges.{Case}
 use Rattle.intervals.specs.Nets.{setRuns, Stand, Kept, NetsAt, SomeNetsAt, NetsMade}
-use Rattle.intervals.specs.PlaceRuns.{gatePlaces, runsIn, gateRuns, NetReady, GateReady}
-use Rattle.intervals.proofs.AddLaws.{as-adds, take-short, full-count}
+use Rattle.place_runs.specs.RunsOfPlaces.{gatePlaces, runsIn, gateRuns, NetReady, GateReady}
+use Rattle.place_runs.proofs.AddedLaws.{as-adds, take-short, full-count}
 use Rattle.intervals.proofs.PlaceRunLaws.{paths-most}
 use Rattle.intervals.proofs.StandLaws.{runs-next, runs-mono, kept-refl, kept-then, kept-write, stand-runs, stand-net, stand-more}
 use Rattle.intervals.proofs.DetectedLaws.{PinIs, pins-all, gate-set, set-sound, working-all}
@@ -42,9 +42,6 @@ module _ {file ps cs masks : List ℕ} {shape : Shape} {ws₀ starts₀ : List �
   nets-start s = record { some = s; begun = omega arith; within = inputs-below (s .at-nets .tables); kept = kept-refl ws₀; stand = λ K a. a .inputsStand }
 
   module _ {ws starts : List ℕ} {net start : ℕ} (i : NetsDone file ps cs masks shape ws₀ starts₀ first ws starts net start) where
-    pub nets-kept : (ws′ : List ℕ) → length ws′ ≡ length ws → length ws′ ≡ length ws₀
-    nets-kept ws′ e = e ∙ i .kept .same
-
     pub nets-done : shape .nets ≤ net → (K : Case) → NetsAt K file ps cs masks shape ws₀ starts₀ first → NetsMade K ws₀ ws starts (Count start)
     nets-done h K a =
         let all : net ≡ nets (K .netlist) = omega (arith, i .within, a .tables .netsAre) in
@@ -174,4 +171,4 @@ module _ {file ps cs masks : List ℕ} {shape : Shape} {ws₀ starts₀ : List �
             }
 
 pub ruleset gate-cases =
-    (nets-start, nets-kept, nets-done, nets-below, nets-next, nets-index, nets-inside, nets-gate, nets-full, nets-sum, nets-word, nets-more, needs)
+    (nets-start, nets-done, nets-below, nets-next, nets-index, nets-inside, nets-gate, nets-full, nets-sum, nets-word, nets-more, needs)

@@ -20,8 +20,9 @@ use Rattle.runs.specs.Answers.{Adds}
 use Rattle.runs.specs.declared.inner.Added.the-variants.{Count}
 use Rattle.model.proofs.BoolLaws.{cases}
 use Rattle.run_union.proofs.Adding.{answer-fits}
-use Rattle.intervals.specs.PlaceRuns.{pathsBefore, firstRuns, runsIn, gatePlaces, gateRuns, countIf, runCount, openRuns, PinsReady, GateReady}
-use Rattle.intervals.proofs.AddLaws.{as-adds, times-most}
+use Rattle.place_runs.specs.RunsOfPlaces.{pathsBefore, firstRuns, runsIn, gatePlaces, gateRuns, GateReady}
+use Rattle.place_runs.proofs.AddedLaws.{as-adds, times-most}
+use Rattle.intervals.specs.OpenRuns.{countIf, runCount, openRuns, PinsReady}
 
 -- ---- the runs of one pin's net
 

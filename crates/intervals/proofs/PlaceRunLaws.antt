@@ -5,7 +5,6 @@ use mathlib.Core.Path.{_≡_, refl, ap, ap₂, _∙_}
 use mathlib.Core.Bool.{Bool, true, false}
 use mathlib.Core.List.{List, [], _∷_}
 use native.Mathlib.Omega.{arith}
-use native.Mathlib.Numerals.{add-one}
 use lib.ListN.{length, getD}
 use Rattle.model.specs.Base.{sumOf}
 use Rattle.model.specs.Path.{countsBefore}
@@ -15,14 +14,7 @@ use Rattle.model.proofs.RunLaws.{runs-by}
 use Rattle.runs.specs.RunLists.{onlyIf, addRun, addRuns, shiftRuns}
 use Rattle.model.proofs.BoolLaws.{cases}
 use Rattle.run_union.proofs.AddRunLaws.{joined-one, joined-two}
-use Rattle.intervals.specs.PlaceRuns.{Places, pathsBefore, placeRuns, firstRuns}
-
-pub paths-next : (P : Places) (p : ℕ) → pathsBefore P (p + 1) ≡ pathsBefore P p + P .paths (P .netOf p)
-paths-next P p = rw (add-one p)
-
-pub first-next : (P : Places) (f : ℕ → List Run) (p : ℕ) → firstRuns P f (p + 1) ≡ addRuns (firstRuns P f p) (placeRuns P f p)
-unfolding firstRuns
-first-next P f p = rw (add-one p)
+use Rattle.place_runs.specs.RunsOfPlaces.{Places, pathsBefore, placeRuns, firstRuns}
 
 -- a place that is open or not, with as many paths and these runs at its net
 pub record PlaceIs (P : Places) (f : ℕ → List Run) (p : ℕ) (isOpen : Bool) (paths : ℕ) (runs : List Run) : Type 0 where

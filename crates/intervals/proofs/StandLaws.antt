@@ -17,9 +17,9 @@ use Rattle.model.specs.Store.{maxRuns}
 use Rattle.runs.specs.RunLists.{run, Sound, onlyIf, runsInWords, writeRuns}
 use Rattle.model.proofs.BoolLaws.{cases}
 use Rattle.run_union.proofs.RunWriteLaws.{length-writeRuns, runs-write, runs-write-before}
-use Rattle.intervals.specs.PlaceRuns.{runsIn, NetReady}
+use Rattle.place_runs.specs.RunsOfPlaces.{runsIn, NetReady}
 use Rattle.intervals.specs.Nets.{inputRuns, runsBefore, Stand, Kept}
-use Rattle.intervals.proofs.AddLaws.{drop-write}
+use Rattle.place_runs.proofs.AddedLaws.{drop-write}
 
 -- ---- places of the nets' runs
 

@@ -1,3 +1,4 @@
 pub mod PlaceRuns
+pub mod OpenRuns
 pub mod Edges
 pub mod Nets

@@ -2,9 +2,9 @@
 ghost use Rattle.intervals.specs.Edges.{Case, EdgeAt, SomeEdgeAt, Detects};
 use crate::nets::input_runs;
 use crate::nets::net_runs;
-use crate::outputs::out_runs;
 use netlist::inner::Shape;
 use netlist::inner::outputs_part;
+use place_runs::inner::outputs::out_runs;
 use runs::inner::Added;
 
 // Makes the runs of the path numbers that the test detects, net by net, or answers Full where the working runs are over 1,024. No work where no input makes

@@ -1,5 +1,3 @@
 // The interval method: the runs of every net's set for one edge of a test, then those of the detected path numbers.
-mod adding;
 pub mod inner;
 mod nets;
-mod outputs;

@@ -1,21 +1,22 @@
 // The runs of every net, one net after the other from the first word on.
 ghost use mathlib.Core.Path.{_≡_};
-ghost use Prim.Native.Nat.{_-_, _*_, _≤_};
-ghost use lib.ListN.{length};
+ghost use Prim.Native.Nat.{_+_, _-_, _*_, _<_, _≤_};
+ghost use lib.Dec.{eqb};
+ghost use lib.ListN.{length, getD};
 ghost use Rattle.model.specs.Store.{maxRuns};
 ghost use Rattle.netlist.specs.Tables.{pinCountIn};
 ghost use Rattle.runs.specs.Answers.{Adds};
-ghost use Rattle.intervals.specs.PlaceRuns.{PinsReady, GateReady, gateRuns, openRuns};
+ghost use Rattle.place_runs.specs.RunsOfPlaces.{GateReady, gateRuns};
+ghost use Rattle.intervals.specs.OpenRuns.{PinsReady, openRuns, countIf, runCount};
 ghost use Rattle.intervals.specs.Edges.{Case};
 ghost use Rattle.intervals.specs.Nets.{inputRuns, Stand, Kept, NetsAt, SomeNetsAt, NetsMade};
-use crate::adding::add_net;
-use crate::adding::digit;
-use crate::adding::open_count;
-use model::MAX_RUNS;
 use netlist::inner::Shape;
 use netlist::inner::gate_part;
 use netlist::inner::pin_net;
+use place_runs::inner::digit;
+use place_runs::inner::gates::gate_runs;
 use records::inner::wide;
+use records::inner::wide_word;
 use runs::inner::Added;
 
 // Makes the runs of the inputs, and where each input's begin. The run 1 to 1 is written for each input, and counts for one that makes the edge: a branch
@@ -42,6 +43,16 @@ pub(crate) fn input_runs(
     start
 }
 
+// How many runs a net has where `opened` is 1, and 0 where it is 0.
+fn open_count(opened: usize, starts: &[u16; 513], net: usize) -> usize
+    requires { ⌜ (opened < 2) × (net < 512) × (getD (now starts) net 0 ≤ getD (now starts) (net + 1) 0) ⌝ }
+    ensures { λ r. ⌜ (r ≡ countIf (eqb opened 1) (runCount (now (starts .entry)) net)) × (r < 65536) ⌝ }
+{
+    let from = wide_word(starts[net]);
+    let to = wide_word(starts[net + 1]);
+    (to - from) * opened
+}
+
 // How many runs the nets of a gate's open pins have together.
 fn open_runs(part: &[u8], mask: u8, starts: &[u16; 513]) -> usize
     requires { ⌜ PinsReady (now part) (now starts) ⌝ }
@@ -56,48 +67,6 @@ fn open_runs(part: &[u8], mask: u8, starts: &[u16; 513]) -> usize
         pin += 1;
     }
     sum
-}
-
-// Makes the runs of a gate's net, pin by pin.
-fn gate_runs(
-    part: &[u8],
-    mask: u8,
-    counts: &[u64; 512],
-    starts: &[u16; 513],
-    words: &mut [u64],
-    start: usize,
-) -> Added
-    requires { ⌜ GateReady (now part) mask (now counts) (now starts) (now words) start ⌝ }
-    ensures { λ r. ⌜ Adds (now (words .entry)) (now (words .exit)) start (maxRuns - start)
-        (gateRuns (now (part .entry)) mask (now (counts .entry)) (now (starts .entry)) (now (words .entry))) r ⌝ }
-{
-    let pins = wide(part[3]);
-    let mut pin = 0;
-    let mut count = 0;
-    let mut offset: u64 = 0;
-    while pin < pins {
-        let net = pin_net(part, pin);
-        match add_net(
-            digit(mask as u64, pin as u64),
-            starts,
-            net,
-            words,
-            start,
-            count,
-            MAX_RUNS - start,
-            offset,
-        ) {
-            Added::Count(c) => {
-                count = c;
-            }
-            Added::Full => {
-                return Added::Full;
-            }
-        }
-        offset += counts[net];
-        pin += 1;
-    }
-    Added::Count(count)
 }
 
 // Makes the runs of a gate's net. Most gates have none: one test passes over them, where a branch on each pin would be mispredicted.

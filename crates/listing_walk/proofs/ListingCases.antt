@@ -28,7 +28,7 @@ use Rattle.listing_text.proofs.CutLaws.{listed-end}
 use Rattle.listing_text.proofs.ListedPiecesHold.{store-more, count-more}
 use Rattle.listing_walk.specs.ListingWalk.{listedStore, PiecesListed, FileListed}
 use Rattle.listing_walk.specs.declared.inner.ListedFile.{ListedFile}
-use Rattle.file_reading.proofs.ReadPieceLaws.{part-length, record-bytes, FileSoFar, file-start, file-more, file-over, file-next, file-last}
+use Rattle.file_reading.proofs.ReadPieceLaws.{part-length, FileSoFar, file-start, file-more, file-over, file-next, file-last}
 
 -- nothing is read yet
 none-listed : (N : Netlist) → listedRecords N [] ≡ []
@@ -111,14 +111,11 @@ module _ (netlist : List ℕ) (t : Loaded) (class : ℕ) (full most : ℕ) (work
         }
 
     module _ (recordBytes : ℕ) (eb : recordBytes ≡ 2 + 2 * vectorBytes (t .shape .inputs)) (near : most < full + recordBytes) where
-      length-is : (N : Netlist) → readNetlist netlist ≡ value N → recordBytes ≡ recordLength N
-      length-is = record-bytes netlist (g .ready .circuit) (t .shape .inputs) recordBytes (g .ready .tables .legal) (g .ready .tables .inputsAre) eb
-
       pub listed-over : 9223372036854775807 < bytes → PiecesListed bytes place netlist t class space ws work₀ work out
       listed-over h = record {
         testFile = f;
         bytesAre = g .read .bytesAre;
-        inSpace = file-over netlist full most recordBytes length-is near f bytes space (g .read) (omega (arith, h));
+        inSpace = file-over netlist full most (g .ready .tables .legal) (g .ready .tables .inputsAre) eb near (g .read) (omega (arith, h));
         placeIs = g .placeIs;
         store = g .store;
         ready = g .ready;
@@ -152,7 +149,7 @@ module _ (netlist : List ℕ) (t : Loaded) (class : ℕ) (full most : ℕ) (work
         pub listed-next : (least : ℕ) → full ≤ least → least ≤ n → full % recordBytes ≡ 0 → ListedSoFar (r .place) (bytes + n) space′ ws′ work′ out′
         listed-next least fl ln w = record {
           testFile = f ++ piece;
-          read = file-next netlist full most recordBytes length-is near f bytes space (g .read) n space′ cn cm l (omega (arith, fl, ln)) w;
+          read = file-next netlist full most (g .ready .tables .legal) (g .ready .tables .inputsAre) eb near (g .read) n space′ cn cm l (omega (arith, fl, ln)) w;
           store = more-store;
           placeIs = more-places;
           few = omega (arith, q .fewPlaces, g .few, length-take-le n space′ cn);
@@ -166,7 +163,7 @@ module _ (netlist : List ℕ) (t : Loaded) (class : ℕ) (full most : ℕ) (work
         listed-last = record {
           testFile = f ++ piece;
           bytesAre = file-more bytes n f space′ (g .read .bytesAre) cn;
-          inSpace = file-last netlist full most recordBytes length-is near f bytes space (g .read) n space′ cn cm l;
+          inSpace = file-last netlist full most (g .ready .tables .legal) (g .ready .tables .inputsAre) eb near (g .read) n space′ cn cm l;
           placeIs = more-places;
           store = more-store;
           ready = list-again netlist t ws work out (g .ready) r class place piece ws′ work′ out′ q;

@@ -4,9 +4,11 @@ use mathlib.Core.Path.{_≡_, refl}
 use mathlib.Core.List.{[], _∷_}
 use lib.ListN.{length, take}
 use Rattle.model.specs.Encode.{testBytes}
-use Rattle.load.specs.Load.{nextState, stateAfter, drawn, inputTest, testsFrom, loadTests, wordOf, recordBytes}
+use Rattle.drawing.specs.Drawing.{nextState, stateAfter, drawn, wordOf}
+use Rattle.load.specs.Load.{inputTest, testsFrom, loadTests, recordBytes}
 use Rattle.load.specs.Load.{fileBytes, loadRecords, vectorRecords}
-use Rattle.load.specs.Calls.{requestOf, programBytes}
+use Rattle.load_request.specs.Requests.{requestOf}
+use Rattle.load.specs.Calls.{programBytes}
 
 -- load.bin asks for 2 vectors of 3 inputs from seed 1: the vectors are 0, 0, 1 and 1, 0, 0
 pub seed-one-holds :

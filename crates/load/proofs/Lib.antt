@@ -1,8 +1,5 @@
 -- Laws of the load's definitions, then the cases of each function.
 pub mod VectorWordLaws
-pub mod DrawSteps
-pub mod ByteSteps
-pub mod RequestCases
 pub mod VectorSteps
 pub mod SizeLaws
 pub mod LoadCallCases

@@ -15,7 +15,8 @@ use Rattle.model.specs.Read.{within}
 use Rattle.model.specs.declared.Refusal.the-variants as why
 use Rattle.model.proofs.BoolLaws.{and-left, and-right, true→T}
 use Rattle.records.proofs.ByteLaws.{sets-append}
-use Rattle.load.specs.Load.{stateAfter, loadRecords, vectorRecords}
+use Rattle.drawing.specs.Drawing.{stateAfter}
+use Rattle.load.specs.Load.{loadRecords, vectorRecords}
 use Rattle.load.specs.Calls.{loadBufferBytes, loadCall, loadAnswer, loadBuffer}
 use Rattle.load.specs.Answers.{LoadTrue, FilledTrue, vectorSize}
 use Rattle.load.specs.declared.LoadAnswer.the-variants as load

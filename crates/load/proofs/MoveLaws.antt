@@ -13,7 +13,8 @@ use lib.Seq.{getD-set-same, getD-set-other, getD-append-add}
 use Rattle.model.specs.Detect.{Class, Test, hasEdge}
 use Rattle.model.specs.Path.{Edge, rising, falling}
 use Rattle.model.proofs.BoolLaws.{le-or-lt}
-use Rattle.load.specs.Load.{Pair, stateAfter, drawn, finalValue, inputTest, testsFrom, loadTests, fileBytes}
+use Rattle.load.specs.Load.{Pair, finalValue, inputTest, testsFrom, loadTests, fileBytes}
+use Rattle.drawing.specs.Drawing.{stateAfter, drawn}
 use Rattle.load.specs.Load.{loadRecords, vectorRecords, recordBytes}
 use Rattle.load.specs.Passes.{MovesOnly, inputAt, edgeAt}
 use Rattle.load.proofs.VectorSteps.{length-drawn, test-is}

@@ -21,7 +21,8 @@ use Rattle.model.proofs.BoolLaws.{both, false→not, eq→eqb}
 use Rattle.model.proofs.ListLaws.{getD-map-in, length-numbersFrom, numbersFrom-at}
 use Rattle.model.proofs.ReportLaws.{littleEndian-back}
 use Rattle.records.proofs.BitLaws.{word-bit}
-use Rattle.load.specs.Load.{Pair, wordOf, packed, recordBytes}
+use Rattle.load.specs.Load.{Pair, packed, recordBytes}
+use Rattle.drawing.specs.Drawing.{wordOf}
 use Rattle.load.proofs.VectorWordLaws.{word-is, word-small}
 use Rattle.load.proofs.SizeLaws.{length-packed, Wide, length-record}
 

@@ -4,18 +4,22 @@ use mathlib.Core.Path.{_≡_, refl, ap, _∙_}
 use mathlib.Core.Bool.{Bool}
 use mathlib.Core.List.{List, [], _++_}
 use Prim.Native.Nat.{ℕ, zero, suc, _+_, _-_, _*_, _≤_, _<_}
-use native.Mathlib.Nat.{suc-mul, mul-pos}
+use native.Mathlib.Nat.{suc-mul, mul-pos, mul-le-mul}
 use native.Mathlib.Omega.{arith}
 use lib.ListN.{length, set, length-append, length-set}
 use Rattle.model.specs.Encode.{testBytes}
 use Rattle.model.specs.Path.{Edge, rising, falling}
 use Rattle.model.specs.Read.{vectorBytes}
 use Rattle.model.proofs.FieldLaws.{length-littleEndian}
-use Rattle.load.specs.Load.{Pair, nextState, stateAfter, drawn, inputTest, testsFrom, loadTests, wordOf, packed}
+use Rattle.load.specs.Load.{Pair, inputTest, testsFrom, loadTests, packed}
+use Rattle.drawing.specs.Drawing.{nextState, stateAfter, drawn, wordOf}
 use Rattle.load.specs.Load.{recordBytes, fileBytes, loadRecords, vectorRecords}
 use Rattle.load.specs.Answers.{recordSize, vectorSize}
-use Rattle.load.proofs.ByteSteps.{size-small}
 use Rattle.load.proofs.VectorSteps.{length-drawn}
+
+-- the sizes are small
+pub size-small : (inputs bytes : ℕ) → inputs ≤ 64 → bytes ≤ 8 → inputs * (2 * (2 + 2 * bytes)) ≤ 2304
+size-small inputs bytes h l = mul-le-mul {n₁ = inputs} {m₁ = 2 * (2 + 2 * bytes)} {n₂ = 64} {m₂ = 36} h (omega arith)
 
 pub length-packed : (v : List Bool) → length (packed v) ≡ vectorBytes (length v)
 length-packed v = length-littleEndian (vectorBytes (length v)) (wordOf v)

@@ -17,10 +17,13 @@ use Rattle.model.specs.Path.{Edge, rising, falling}
 use Rattle.model.specs.Read.{vectorBytes}
 use Rattle.records.proofs.ByteLaws.{sets-append}
 use Rattle.model.proofs.FieldLaws.{length-littleEndian}
-use Rattle.load.specs.Load.{Pair, nextState, drawn, finalValue, invertedAt, inputTest, testsFrom, loadTests}
-use Rattle.load.specs.Load.{wordOf, packed, recordBytes, fileBytes, loadRecords}
-use Rattle.load.specs.Answers.{DrawnTrue, vectorSize}
-use Rattle.load.specs.declared.inner.Drawn.{Drawn}
+use Rattle.load.specs.Load.{Pair, finalValue, invertedAt, inputTest, testsFrom, loadTests}
+use Rattle.drawing.specs.Drawing.{nextState, drawn}
+use Rattle.drawing.specs.Drawing.{wordOf}
+use Rattle.load.specs.Load.{packed, recordBytes, fileBytes, loadRecords}
+use Rattle.drawing.specs.DrawnVector.{DrawnTrue}
+use Rattle.load.specs.Answers.{vectorSize}
+use Rattle.drawing.specs.declared.inner.Drawn.{Drawn}
 use Rattle.load.proofs.VectorWordLaws.{word-small, lowered-is, raised-is}
 
 pub length-drawn : (n s : ℕ) → length (drawn n s) ≡ n

@@ -6,14 +6,14 @@ use mathlib.Core.List.{List, [], _∷_}
 use Prim.Native.Nat.{ℕ, zero, suc, _+_, _-_, _*_, _/_, _%_, _^_, _<_}
 use native.Mathlib.Nat.{le-of-suc-le-suc, not-suc-le-zero, mul-left-comm}
 use native.Mathlib.Omega.{arith}
-use native.Mathlib.Numerals.{add-one}
 use lib.Bits.{bitAnd, and-high}
 use lib.Dec.{eqb}
 use lib.ListN.{length, getD, set}
-use lib.Pow.{shr-shr, shr-le}
+use lib.Pow.{shr-shr, shr-le, shl-exact}
 use Rattle.model.specs.Base.{bit}
 use Rattle.packed_pins.specs.Packed.{oneWhere}
-use Rattle.load.specs.Load.{wordOf}
+use Rattle.drawing.specs.Drawing.{wordOf}
+use Rattle.drawing.proofs.DrawSteps.{pow-next}
 
 pub one-small : (b : Bool) → oneWhere b < 2
 one-small true = omega arith
@@ -68,9 +68,9 @@ set-word (x ∷ v) (suc j) b h =
     set-step (oneWhere x) (wordOf v) (wordOf (set v j b)) (oneWhere (getD v j false)) (oneWhere b) (2 ^ j) (2 ^ suc j) (omega arith)
     (set-word v j b (le-of-suc-le-suc h))
 
--- the next power of 2
-pub pow-next : (j : ℕ) → 2 ^ (j + 1) ≡ 2 * 2 ^ j
-pow-next j = let e : 2 ^ suc j ≡ 2 * 2 ^ j = omega arith in rw (add-one j) e
+-- a 1 shifted to an input's place
+pub weight-is : (j : ℕ) → j < 64 → (1 * 2 ^ j) % 2 ^ 64 ≡ 2 ^ j
+weight-is j h = let e : 1 * 2 ^ j ≡ 2 ^ j = omega arith in shl-exact {a = 1} 1 j 64 (omega arith) (omega arith) ∙ e
 
 -- one bit of a number, by the mask of its place
 pub mask-bit : (n j : ℕ) → bitAnd n (2 ^ j) ≡ n / 2 ^ j % 2 * 2 ^ j

@@ -2,20 +2,17 @@
 -- Assumes nothing.
 use mathlib.Core.Path.{_≡_}
 use mathlib.Core.List.{List}
-use mathlib.Core.Option.{Option, none, some}
 use Prim.Native.Nat.{ℕ, _+_, _*_, _≤_, _<_}
 use lib.ListN.{length}
 use lib.Seq.{sets}
 use Rattle.model.specs.Base.{Answer, refused, value}
 use Rattle.model.specs.Read.{vectorBytes}
 use Rattle.model.specs.Refusals.{refusalNumber}
-use Rattle.load.specs.Load.{stateAfter, drawn, wordOf, vectorRecords}
-use Rattle.load.specs.Calls.{Handed, loadAnswer, loadBuffer, Request}
+use Rattle.drawing.specs.Drawing.{stateAfter}
+use Rattle.load.specs.Load.{vectorRecords}
+use Rattle.load.specs.Calls.{Handed, loadAnswer, loadBuffer}
 use Rattle.load.specs.declared.LoadAnswer.{LoadAnswer}
 use Rattle.load.specs.declared.LoadAnswer.the-variants as load
-use Rattle.load.specs.declared.Asked.{Asked}
-use Rattle.load.specs.declared.Asked.the-variants as asked
-use Rattle.load.specs.declared.inner.Drawn.{Drawn}
 use Rattle.load.specs.declared.inner.Filled.{Filled}
 
 -- the load call: the state afterwards, and the length of the records
@@ -27,16 +24,6 @@ loadedOf (load.Refused w) = refused (refusalNumber w)
 pub record LoadTrue (r : LoadAnswer) (state inputs : ℕ) (found left : List ℕ) : Type 0 where
   pub answer : loadedOf r ≡ loadAnswer state inputs found
   pub buffer : left ≡ loadBuffer state inputs found
-
--- what load.bin asks for
-abbrev pub askedOf : Asked → Option Request
-askedOf (asked.Load s n i) = some (record { seed = s; vectors = n; inputs = i })
-askedOf asked.Nothing = none
-
--- a drawn vector as a number, input j in bit j, and the state afterwards
-pub record DrawnTrue (r : Drawn) (inputs state : ℕ) : Type 0 where
-  pub vectorIs : r .vector ≡ wordOf (drawn inputs state)
-  pub stateIs : r .state ≡ stateAfter inputs state
 
 -- the bytes of a test record, and of one vector's records: a rising test and a falling one for each input
 abbrev pub recordSize : ℕ → ℕ

@@ -5,11 +5,13 @@ use mathlib.Core.Bool.{true, false}
 use mathlib.Core.List.{List, [], _∷_, _++_}
 use mathlib.Core.Option.{Option, none, some}
 use Prim.Native.Nat.{ℕ}
-use lib.Dec.{leb, eqb}
+use lib.Dec.{leb}
 use lib.ListN.{length, drop}
-use Rattle.model.specs.Base.{Answer, value, _>>=_, _>>_, Rule, checks, after, field}
+use Rattle.model.specs.Base.{Answer, value, _>>=_, _>>_, Rule, checks, after}
 use Rattle.model.specs.Read.{within}
-use Rattle.load.specs.Load.{stateAfter, loadRecords, vectorRecords}
+use Rattle.load_request.specs.Requests.{Request}
+use Rattle.drawing.specs.Drawing.{stateAfter}
+use Rattle.load.specs.Load.{loadRecords, vectorRecords}
 
 -- bytes of a buffer for one vector's records, at the least: 128 records of 18 bytes
 abbrev pub loadBufferBytes : ℕ
@@ -35,23 +37,6 @@ loadAnswer state inputs buffer =
 -- nothing past the records is written, and nothing when refused
 unfoldable pub loadBuffer : ℕ → ℕ → List ℕ → List ℕ
 loadBuffer state inputs buffer = after (loadCall state inputs buffer) buffer (λ r. r ++ drop (length r) buffer)
-
--- load.bin, low byte first: seed and vectors of 4 bytes each, inputs of 2
-pub record Request : Type 0 where
-  pub seed : ℕ
-  pub vectors : ℕ
-  pub inputs : ℕ
-
-abbrev pub requestBytes : ℕ
-requestBytes = 10
-
--- what load.bin asks for: nothing where it has another length
-unfoldable pub requestOf : List ℕ → Option Request
-requestOf bs =
-    elim (eqb (length bs) requestBytes) [
-      | true ↦ some (record { seed = field 0 4 bs; vectors = field 4 4 bs; inputs = field 8 2 bs })
-      | false ↦ none
-    ]
 
 -- What the program writes: the records of all vectors, the first from the seed; another length or a refusal writes nothing
 unfoldable pub programBytes : Option Request → List ℕ

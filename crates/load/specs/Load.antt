@@ -1,34 +1,16 @@
--- A test load that anyone can repeat: the state and its steps, the vector that is drawn, its two tests per input, and their records.
+-- A test load that anyone can repeat: the two tests per input of a vector that is drawn (drawing/specs/Drawing), and their records.
 -- A test is here a pair of vectors: a load does not depend on the class in which its tests are judged.
 -- Names: s is a state, v a vector (a value for each input, input 0 first), j an input, e an edge.
 -- Assumes nothing.
 use mathlib.Core.Bool.{Bool, true, false, not}
 use mathlib.Core.List.{List, [], _∷_, _++_}
-use Prim.Native.Nat.{ℕ, zero, suc, _+_, _*_, _%_, _^_}
+use Prim.Native.Nat.{ℕ, zero, suc}
 use lib.ListN.{length, getD, set}
-use Rattle.model.specs.Base.{bit, littleEndian}
+use Rattle.model.specs.Base.{littleEndian}
 use Rattle.model.specs.Encode.{testBytes}
 use Rattle.model.specs.Path.{Edge, rising, falling}
 use Rattle.model.specs.Read.{vectorBytes}
-use Rattle.packed_pins.specs.Packed.{oneWhere}
-
--- A step replaces state s by 1664525 times s plus 1013904223, modulo 2^32
-unfoldable pub nextState : ℕ → ℕ
-nextState s = (1664525 * s + 1013904223) % 2 ^ 32
-
--- the state after `n` steps
-unfoldable pub stateAfter : ℕ → ℕ → ℕ
-stateAfter zero s = s
-stateAfter (suc n) s = stateAfter n (nextState s)
-
--- the top bit of a state of 32 bits
-abbrev pub topBit : ℕ → Bool
-topBit s = bit s 31
-
--- A vector of `n` inputs is drawn: the new state's top bit is the next input's value, input 0 first
-unfoldable pub drawn : ℕ → ℕ → List Bool
-drawn zero s = []
-drawn (suc n) s = topBit (nextState s) ∷ drawn n (nextState s)
+use Rattle.drawing.specs.Drawing.{stateAfter, drawn, wordOf}
 
 -- the value of an input after its edge
 abbrev pub finalValue : Edge → Bool
@@ -56,11 +38,6 @@ testsFrom v j (suc n) = inputTest v j rising ∷ inputTest v j falling ∷ tests
 -- The tests of the vector that is drawn from state s for `n` inputs: two per input, for input 0 upward
 unfoldable pub loadTests : ℕ → ℕ → List Pair
 loadTests n s = testsFrom (drawn n s) 0 n
-
--- a vector as a number, input j in bit j
-unfoldable pub wordOf : List Bool → ℕ
-wordOf [] = 0
-wordOf (b ∷ v) = oneWhere b + 2 * wordOf v
 
 -- a vector in whole bytes: input j is bit j mod 8 of byte j / 8, and spare bits are zero (Passes.antt says so by document 01's own reading)
 abbrev pub packed : List Bool → List ℕ

@@ -1,40 +1,20 @@
 // A vector drawn and its records written, one vector after another. Each caller proves what a function requires.
-ghost use mathlib.Core.List.{[], _∷_};
 ghost use mathlib.Core.Path.{_≡_};
 ghost use Prim.Native.Nat.{_+_, _-_, _*_, _/_, _%_, _^_, _≤_, _<_};
 ghost use lib.ListN.{length};
 ghost use lib.Seq.{sets};
-ghost use Rattle.model.specs.Base.{littleEndian, field};
-ghost use Rattle.model.specs.Encode.{testBytes};
-ghost use Rattle.packed_pins.specs.Packed.{oneWhere};
-ghost use Rattle.load.specs.Load.{topBit, stateAfter, loadRecords, vectorRecords};
-ghost use Rattle.load.specs.Answers.{DrawnTrue, FilledTrue, vectorSize};
-use crate::next_state;
-use records::inner::put;
-use records::inner::u16_at;
+ghost use Rattle.drawing.specs.Drawing.{stateAfter};
+ghost use Rattle.load.specs.Load.{loadRecords, vectorRecords};
+ghost use Rattle.load.specs.Answers.{FilledTrue, vectorSize};
+use drawing::inner::draw_vector;
 use test_records::inner::vector_bytes;
-
-// A vector, input j in bit j, and the state after it was drawn.
-pub struct Drawn {
-    pub vector: u64,
-    pub state: u32,
-}
+use test_writing::inner::put_test;
 
 // What a buffer was filled with: the number of vectors, the bytes of their records, and the state afterwards.
 pub struct Filled {
     pub vectors: usize,
     pub length: usize,
     pub state: u32,
-}
-
-// The field of four bytes at a place.
-pub fn u32_at(s: &[u8], at: usize) -> u32
-    requires { ⌜ at + 3 < length (now s) ⌝ }
-    ensures { λ r. ⌜ r ≡ field at 4 (now (s .entry)) ⌝ }
-{
-    let low = u16_at(s, at);
-    let high = u16_at(s, at + 2);
-    (low + 65536 * high) as u32
 }
 
 // The bytes of one vector's records.
@@ -54,60 +34,12 @@ fn weight(input: usize) -> u64
     1u64 << (input as u64)
 }
 
-// A state's top bit as the value of an input.
-fn top_bit_at(state: u32, input: usize) -> u64
-    requires { ⌜ input < 64 ⌝ }
-    ensures { λ r. ⌜ r ≡ oneWhere (topBit state) * 2 ^ input ⌝ }
-{
-    (((state >> 31) & 1) as u64) << (input as u64)
-}
-
-// Draws a vector: a step before each input, whose value is the new state's top bit.
-pub fn draw_vector(state: u32, inputs: usize) -> Drawn
-    requires { ⌜ inputs ≤ 64 ⌝ }
-    ensures { λ r. ⌜ DrawnTrue r inputs state ⌝ }
-{
-    let mut vector: u64 = 0;
-    let mut last = state;
-    let mut input = 0;
-    while input < inputs {
-        let next = next_state(last);
-        vector += top_bit_at(next, input);
-        last = next;
-        input += 1;
-    }
-    Drawn {
-        vector,
-        state: last,
-    }
-}
-
 // A vector with one input at 0.
 fn lowered(vector: u64, bit: u64, input: usize) -> u64
     requires { ⌜ bit ≡ 2 ^ input ⌝ }
     ensures { λ r. ⌜ r ≡ vector - vector / 2 ^ input % 2 * 2 ^ input ⌝ }
 {
     vector - (vector & bit)
-}
-
-// Writes the mark of a test record.
-fn put_mark(records: &mut [u8], at: usize)
-    requires { ⌜ at + 2 ≤ length (now records) ⌝ }
-    ensures { λ _. ⌜ now (records .exit) ≡ sets (now (records .entry)) at (0x54 ∷ 0x50 ∷ []) ⌝ }
-{
-    records[at] = 0x54;
-    records[at + 1] = 0x50;
-}
-
-// Writes the record of two vectors of so many bytes each.
-fn put_test(records: &mut [u8], at: usize, bytes: usize, first: u64, second: u64)
-    requires { ⌜ at + 2 + 2 * bytes ≤ length (now records) ⌝ }
-    ensures { λ _. ⌜ now (records .exit) ≡ sets (now (records .entry)) at
-        (testBytes (littleEndian bytes first) (littleEndian bytes second)) ⌝ }
-{
-    put_mark(records, at);
-    put(records, at + 2, bytes, first);
-    put(records, at + 2 + bytes, bytes, second);
 }
 
 // Draws a vector from a state and writes its records from a place on: for input 0 upward the rising test, V1 with that input at 0 and V2 with it

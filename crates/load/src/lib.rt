@@ -3,42 +3,18 @@ pub mod inner;
 
 ghost use mathlib.Core.Path.{_≡_};
 ghost use Rattle.model.specs.Read.{within};
-ghost use Rattle.load.specs.Load.{nextState};
-ghost use Rattle.load.specs.Calls.{requestOf};
-ghost use Rattle.load.specs.Answers.{LoadTrue, askedOf};
+ghost use Rattle.load.specs.Answers.{LoadTrue};
 use crate::inner::put_vector;
-use crate::inner::u32_at;
 use crate::inner::vector_size;
 use model::Refusal;
-use records::inner::u16_at;
 
 // The least bytes of a buffer for one vector's records.
 pub const LOAD_BYTES: usize = 2304;
-
-// The bytes of load.bin.
-pub const REQUEST_BYTES: usize = 10;
 
 // The state afterwards, and the bytes of the records that were written.
 pub enum LoadAnswer {
     Written { state: u32, length: usize },
     Refused(Refusal),
-}
-
-// What load.bin asks for: nothing where it has another length.
-pub enum Asked {
-    Load {
-        seed: u32,
-        vectors: u32,
-        inputs: u32,
-    },
-    Nothing,
-}
-
-// A step of the generator.
-pub fn next_state(state: u32) -> u32
-    ensures { λ r. ⌜ r ≡ nextState state ⌝ }
-{
-    ((1664525 * (state as u64) + 1013904223) % 4294967296) as u32
 }
 
 // Whether a load can have so many inputs.
@@ -68,22 +44,5 @@ pub fn write_load(state: u32, inputs: u32, records: &mut [u8]) -> LoadAnswer
     LoadAnswer::Written {
         state: after,
         length: vector_size(count),
-    }
-}
-
-// What the bytes of load.bin ask for.
-pub fn read_request(bytes: &[u8]) -> Asked
-    ensures { λ r. ⌜ askedOf r ≡ requestOf (now (bytes .entry)) ⌝ }
-{
-    if bytes.len() != REQUEST_BYTES {
-        return Asked::Nothing;
-    }
-    let seed = u32_at(bytes, 0);
-    let vectors = u32_at(bytes, 4);
-    let inputs = u16_at(bytes, 8) as u32;
-    Asked::Load {
-        seed,
-        vectors,
-        inputs,
     }
 }

@@ -13,11 +13,11 @@ use console::print_line;
 use console::with_refusal;
 use libc::STDERR_FILENO;
 use libc::STDOUT_FILENO;
-use load::Asked;
-use load::REQUEST_BYTES;
 use load::inner::fill;
 use load::inputs_fit;
-use load::read_request;
+use load_request::Asked;
+use load_request::REQUEST_BYTES;
+use load_request::read_request;
 use model::Refusal;
 
 fn print_usage(fd: i32) {

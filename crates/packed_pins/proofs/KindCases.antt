@@ -28,8 +28,12 @@ others-map f g [] p = refl
 others-map f g (x ∷ xs) zero = allOf-map f g xs
 others-map f g (x ∷ xs) (suc p) = ap (λ b. f (g x) && b) (others-map f g xs p)
 
+-- no kind is over 8
+pub no-ninth : (k : ℕ) → suc (suc (suc (suc (suc (suc (suc (suc (suc k)))))))) ≤ 8 → ⊥
+no-ninth k h = omega arith
+
 -- the pins of the other kinds are always open
-always : (k : ℕ) (vs : List Evaluation) (p : ℕ) → (k ≡ 3 → ⊥) → (k ≡ 4 → ⊥) → (k ≡ 5 → ⊥) → (k ≡ 6 → ⊥) → true ≡ isOpen nonRobust (kindOf k) vs p
+pub always : (k : ℕ) (vs : List Evaluation) (p : ℕ) → (k ≡ 3 → ⊥) → (k ≡ 4 → ⊥) → (k ≡ 5 → ⊥) → (k ≡ 6 → ⊥) → true ≡ isOpen nonRobust (kindOf k) vs p
 always zero vs p n3 n4 n5 n6 = refl
 always (suc zero) vs p n3 n4 n5 n6 = refl
 always (suc (suc zero)) vs p n3 n4 n5 n6 = refl

@@ -27,7 +27,7 @@ use Rattle.netlist.proofs.TableLaws.{few-outputs, outputs-inside, output-is, ou
 use Rattle.path_picks.specs.Picks.{RecordsOfOutputs, outputCountsIn}
 use Rattle.path_numbers.specs.PathNumbers.{orZero, numberIn, partialNumber}
 use Rattle.path_picks.proofs.WalkTableLaws.{outputs-before, output-counts}
-use Rattle.path_picks.proofs.OutputPicks.{counts-before}
+use Rattle.path_picks.proofs.OutputPicks.{counts-before, output-start, output-room}
 
 chosen : (v : Bool) (a : ℕ) → v ≡ false → 0 ≡ orZero v a
 chosen v a e = rw e refl
@@ -55,16 +55,16 @@ module _ (file ps cs : List ℕ) (shape : Shape) (known : SomeTables file ps cs 
 
   module _ (outs : List ℕ) (eo : outs ≡ drop (length file - 4 * shape .outputs) file) (place : ℕ) (there : place < shape .outputs) where
     records : RecordsOfOutputs outs (shape .outputs)
-    records = subst (λ (x : List ℕ). RecordsOfOutputs x (shape .outputs)) (sym eo) (outputs-before t (shape .outputs) (omega arith))
+    records = outputs-before t eo (shape .outputs) (omega arith)
 
     pub place-start : 4 * place ≤ length outs
-    place-start = omega (arith, records .inside)
+    place-start = output-start outs (shape .outputs) records place there
 
     pub place-room : 4 ≤ length (take (length outs - 4 * place) (drop (4 * place) outs))
-    place-room = rw (part-rest (4 * place) outs) (omega (arith, records .inside, length-drop (4 * place) outs))
+    place-room = output-room outs (shape .outputs) records place there
 
     pub place-records : RecordsOfOutputs outs place
-    place-records = subst (λ (x : List ℕ). RecordsOfOutputs x place) (sym eo) (outputs-before t place (omega arith))
+    place-records = outputs-before t eo place (omega arith)
 
     pub place-net : (net : ℕ) → net ≡ outputIn (take (length outs - 4 * place) (drop (4 * place) outs)) → net < shape .nets
     place-net net en =
@@ -76,7 +76,7 @@ module _ (file ps cs : List ℕ) (shape : Shape) (known : SomeTables file ps cs 
     unfolding pathTotal
     place-sum =
         let all : sumOf (outputCountsIn outs (shape .outputs) (shape .inputs) cs) ≡ sumOf (outputCounts (known .circuit)) =
-        ap (λ (x : List ℕ). sumOf (outputCountsIn x (shape .outputs) (shape .inputs) cs)) eo ∙ ap sumOf (output-counts t) in
+        ap sumOf (output-counts t eo) in
         let part = counts-before outs (shape .outputs) (shape .inputs) cs place (omega arith) in
         omega (arith, all, part .1, limits file (known .circuit) (t .legal) .totalFits)
 
@@ -159,7 +159,7 @@ module _ (file ps cs : List ℕ) (shape : Shape) (ws : List ℕ) where
             before =
                 eb ∙ counts-before outs (shape .outputs) (shape .inputs) cs place (omega arith) .0
                 ∙ ap₂ (λ k (x : List ℕ). countsBefore k x) eo
-                (ap (λ (x : List ℕ). outputCountsIn x (shape .outputs) (shape .inputs) cs) ee ∙ output-counts t)
+                (output-counts t ee)
 
             whole-is : rest + b ≡ numberOf N (pathIn ws)
             unfolding numberOf

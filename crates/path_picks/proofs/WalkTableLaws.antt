@@ -21,21 +21,19 @@ use Rattle.path_picks.proofs.PinCases.{length-pins, pins-at}
 
 module _ {N : Netlist} {file ps cs : List ℕ} {shape : Shape} (t : CircuitTables N file ps cs shape) where
   -- the records of the outputs
-  abbrev outs : List ℕ
-  outs = drop (length file - 4 * shape .outputs) file
+  module _ {outs : List ℕ} (e : outs ≡ drop (length file - 4 * shape .outputs) file) where
+    pub outputs-before : (n : ℕ) → n ≤ shape .outputs → RecordsOfOutputs outs n
+    outputs-before n h = record {
+      inside = omega (arith, ap (length {A = ℕ}) e, length-drop (length file - 4 * shape .outputs) file, outputs-inside t);
+      low = λ o there.
+          let net : outputIn (drop (4 * o) outs) ≡ outputNet N o = ap (λ (x : List ℕ). outputIn (drop (4 * o) x)) e ∙ output-is t o (omega arith) in
+          omega (arith, net, output-below t o (omega arith), few-nets t);
+    }
 
-  length-outs : length outs ≡ 4 * shape .outputs
-  length-outs = omega (arith, length-drop (length file - 4 * shape .outputs) file, outputs-inside t)
-
-  pub outputs-before : (n : ℕ) → n ≤ shape .outputs → RecordsOfOutputs outs n
-  outputs-before n h = record {
-    inside = omega (arith, length-outs);
-    low = λ o there. omega (arith, output-is t o (omega arith), output-below t o (omega arith), few-nets t);
-  }
-
-  pub output-counts : outputCountsIn outs (shape .outputs) (shape .inputs) cs ≡ outputCounts N
-  unfolding outputCountsIn
-  output-counts = ap (map (outputCount (shape .inputs) cs)) (outputs-read t) ∙ counts-of-outputs t
+    pub output-counts : outputCountsIn outs (shape .outputs) (shape .inputs) cs ≡ outputCounts N
+    unfolding outputCountsIn
+    output-counts = ap (λ (x : List ℕ). map (outputCount (shape .inputs) cs) (outputsFrom (shape .outputs) x)) e
+        ∙ ap (map (outputCount (shape .inputs) cs)) (outputs-read t) ∙ counts-of-outputs t
 
   -- the gate that drives a net
   module _ (net : ℕ) (low : shape .inputs ≤ net) (high : net < shape .nets) where

@@ -44,13 +44,13 @@ module _ (file ps cs : List ℕ) (shape : Shape) (k : ℕ) (r : Wanted file ps c
 
   module _ (outs : List ℕ) (eo : outs ≡ drop (length file - 4 * shape .outputs) file) where
     pub wanted-outputs : RecordsOfOutputs outs (shape .outputs)
-    wanted-outputs = subst (λ (x : List ℕ). RecordsOfOutputs x (shape .outputs)) (sym eo) (outputs-before t (shape .outputs) (omega arith))
+    wanted-outputs = outputs-before t eo (shape .outputs) (omega arith)
 
     pub wanted-small : k ≤ sumOf (outputCountsIn outs (shape .outputs) (shape .inputs) cs)
     unfolding pathTotal
     wanted-small =
         let sum : sumOf (outputCountsIn outs (shape .outputs) (shape .inputs) cs) ≡ sumOf (outputCounts (r .circuit)) =
-        ap (λ (x : List ℕ). sumOf (outputCountsIn x (shape .outputs) (shape .inputs) cs)) eo ∙ ap sumOf (output-counts t) in
+        ap sumOf (output-counts t eo) in
         omega (arith, sum, r .high)
 
     module _ (o : Pick) (ep : o ≡ pickOutput outs (shape .outputs) (shape .inputs) cs k) where
@@ -59,20 +59,17 @@ module _ (file ps cs : List ℕ) (shape : Shape) (k : ℕ) (r : Wanted file ps c
         w : WellFormed N
         w = legal file N (u .legal)
 
-        counts-are : outputCountsIn outs (shape .outputs) (shape .inputs) cs ≡ outputCounts N
-        counts-are = ap (λ (x : List ℕ). outputCountsIn x (shape .outputs) (shape .inputs) cs) eo ∙ output-counts u
-
         chosen : Splits (outputCounts N) k (split (outputCounts N) k)
         unfolding pathTotal
         chosen = splits (outputCounts N) k (r .low) high
 
         pin-is : o .pin ≡ split (outputCounts N) k .0
         unfolding pickOutput
-        pin-is = ap (λ (x : Pick). x .pin) ep ∙ ap (λ (x : List ℕ). split x k .0) counts-are
+        pin-is = ap (λ (x : Pick). x .pin) ep ∙ ap (λ (x : List ℕ). split x k .0) (output-counts u eo)
 
         number-is : o .number ≡ split (outputCounts N) k .1
         unfolding pickOutput
-        number-is = ap (λ (x : Pick). x .number) ep ∙ ap (λ (x : List ℕ). split x k .1) counts-are
+        number-is = ap (λ (x : Pick). x .number) ep ∙ ap (λ (x : List ℕ). split x k .1) (output-counts u eo)
 
         place : o .pin < length (N .outputs)
         place = omega (arith, pin-is, chosen .place, length-outputCounts N w)

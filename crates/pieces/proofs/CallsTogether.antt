@@ -22,19 +22,20 @@ use Rattle.model.proofs.AnswerLaws.{not-refused, value-inj}
 use Rattle.model.proofs.RefusalLaws.{refused-over, all-over}
 use Rattle.coverage.specs.Stage.{MemoryReady}
 use Rattle.coverage.proofs.TestCallLaws.{refused-by, taken-by}
-use Rattle.audit.specs.TestFile.{leftStore, takenOf}
-use Rattle.pieces.specs.declared.BeginAnswer.the-variants as beginning
+use Rattle.file_block.specs.RecordsTaken.{leftStore, takenOf}
+use Rattle.piece_steps.specs.declared.BeginAnswer.the-variants as beginning
 use Rattle.pieces.specs.declared.PieceAnswer.{PieceAnswer}
 use Rattle.pieces.specs.declared.PieceAnswer.the-variants as piece
-use Rattle.pieces.specs.declared.EndAnswer.{EndAnswer}
-use Rattle.pieces.specs.Steps.{lentRules, withPiece, takenWith, endOf}
-use Rattle.pieces.specs.Calls.{RecordsSaid, pieceOf, recordsSaid, storeChecked, pieceAnswer, pieceCall, pieceLeft, PieceTrue}
-use Rattle.pieces.specs.Calls.{soFar, endLegal, endStage, endCall, endAnswer, endStore, EndTrue}
-use Rattle.pieces.specs.Together.{joined, withPieces, MadeCall, callBytes, firstOf, takenIn, HandedOver, lastFirst, lastTaken, lastStore, lastMemory}
-use Rattle.pieces.specs.Together.{OnlyByRecords, PiecesMade, WholeAudit}
-use Rattle.pieces.proofs.StepCases.{lent-passed}
-use Rattle.audit.proofs.MemoryLaws.{left-memory}
-use Rattle.pieces.proofs.TogetherHolds.{pieces-joined, end-answer, end-store, end-work, begun-lent, begun-known, begun-before, begun-empty, begun-memory}
+use Rattle.file_judging.specs.declared.EndAnswer.{EndAnswer}
+use Rattle.piece_steps.specs.Steps.{lentRules, withPiece, takenWith, endOf}
+use Rattle.pieces.specs.Calls.{RecordsSaid, pieceOf, recordsSaid, pieceAnswer, pieceCall, pieceLeft, PieceTrue, endStage, endCall, endAnswer, endStore, EndTrue}
+use Rattle.file_judging.specs.FileJudging.{storeChecked, soFar, endLegal}
+use Rattle.piece_steps.specs.JoinedPieces.{joined, withPieces}
+use Rattle.pieces.specs.Together.{MadeCall, callBytes, firstOf, takenIn, HandedOver, lastFirst, lastTaken, lastStore, lastMemory, OnlyByRecords, PiecesMade, WholeAudit}
+use Rattle.piece_steps.proofs.StepCases.{lent-passed}
+use Rattle.file_block.proofs.MemoryLaws.{left-memory}
+use Rattle.piece_steps.proofs.JoinedPieceLaws.{pieces-joined}
+use Rattle.pieces.proofs.TogetherHolds.{end-answer, end-store, end-work, begun-lent, begun-known, begun-before, begun-empty, begun-memory}
 use Rattle.pieces.proofs.TakenLaws.{takenWiths, taken-whole}
 
 -- One call on a legal netlist and a store that no rule refuses

@@ -1,7 +1,7 @@
 -- The public end of an audit in pieces, case by case as the code meets them.
 -- Assumes nothing.
 use mathlib.Core.Path.{_≡_, refl, ap, ap₂, sym, _∙_}
-use mathlib.Core.Bool.{Bool, true, false, not}
+use mathlib.Core.Bool.{Bool, true, false}
 use mathlib.Core.List.{List, [], _∷_}
 use Prim.Native.Nat.{ℕ, _+_, _*_, _/_, _^_, _≤_}
 use native.Mathlib.Omega.{arith}
@@ -24,65 +24,13 @@ use Rattle.netlist.specs.Answers.{SurveyTrue}
 use Rattle.netlist.specs.declared.SurveyAnswer.the-variants as survey
 use Rattle.netlist.specs.declared.Surveyed.{Surveyed}
 use Rattle.netlist.proofs.LoadLaws.{legal-survey, refused-survey}
-use Rattle.store_words.specs.WordAnswers.{checkOf}
-use Rattle.store_words.specs.declared.inner.StoreCheck.{StoreCheck}
-use Rattle.store_words.specs.declared.inner.StoreCheck.the-variants as check
-use Rattle.store_words.proofs.SoundLaws.{checked-sound}
 use Rattle.coverage.proofs.TestCallLaws.{refused-by, taken-by}
-use Rattle.report.specs.Answers.{comparedOf}
-use Rattle.audit.specs.TestFile.{leftStore, wholeLength}
-use Rattle.report.specs.declared.inner.Comparison.{Comparison}
-use Rattle.report.specs.declared.inner.Comparison.the-variants as comparison
-use Rattle.audit.proofs.MemoryLaws.{emptied}
-use Rattle.pieces.specs.declared.EndAnswer.{EndAnswer}
-use Rattle.pieces.specs.declared.EndAnswer.the-variants as ending
-use Rattle.pieces.specs.Steps.{endBy}
-use Rattle.pieces.specs.Calls.{storeChecked, endedOf, soFar, endLegal, endStage, endCall, endAnswer, endStore, EndTrue}
-use Rattle.pieces.proofs.StepCases.{end-other-length, end-refused-before, end-other-report, end-same-report}
-
--- The end on a legal netlist
-module _ (inputs paths total first : ℕ) (report ws : List ℕ) (each : ℕ) (ee : each ≡ 2 + 2 * vectorBytes inputs)
-    (b : Bool) (eb : b ≡ wholeLength each total) where
-  abbrev state : Answer (List ℕ)
-  state = soFar first ws >>= λ left. storeChecked paths left
-
-  ends : (a : Answer (List ℕ)) → endBy each paths total report state ≡ a → passes a ≡ passes (endLegal (2 + 2 * vectorBytes inputs) paths total first report ws)
-  unfolding endLegal
-  ends a q = ap (λ (x : Answer (List ℕ)). passes x) (sym q ∙ ap (λ (k : ℕ). endBy k paths total report state) ee)
-
-  pub legal-length : not b ≡ true → (m : ℕ) → m ≡ refusalNumber why.TestFileLength
-      → refused m ≡ passes (endLegal (2 + 2 * vectorBytes inputs) paths total first report ws)
-  legal-length n m q = ap (λ (i : ℕ). refused i) q ∙ ends (refused 33) (end-other-length each paths total report state b eb n)
-
-  module _ (n : not b ≡ false) where
-    pub legal-first : (first ≡ 0 → ⊥) → refused first ≡ passes (endLegal (2 + 2 * vectorBytes inputs) paths total first report ws)
-    unfolding soFar
-    legal-first d = ends (refused first) (end-refused-before each paths total report state b eb n first (rw (ne-eqb first 0 d, soFar) refl))
-
-    module _ (z : first ≡ 0) (k : StoreCheck) (ek : checkOf k ≡ checks (storeRules paths ws)) where
-      all-taken : soFar first ws ≡ value ws
-      unfolding soFar
-      all-taken = rw (eq-eqb first 0 z, soFar) refl
-
-      pub legal-store : (w : Refusal) → k ≡ check.Refused w → (m : ℕ) → m ≡ refusalNumber w
-          → refused m ≡ passes (endLegal (2 + 2 * vectorBytes inputs) paths total first report ws)
-      legal-store w e m q =
-          let x : state ≡ refused m = rw (all-taken, sym ek ∙ ap checkOf e) (ap (λ (i : ℕ). refused i) (sym q)) in
-          ends (refused m) (end-refused-before each paths total report state b eb n m x)
-
-      module _ (s : k ≡ check.Sound) (c : Comparison) (ec : comparedOf c ≡ checks (reportRules report (reportRecord (total / each) paths (runsByEdge ws)))) where
-        sound-state : state ≡ value ws
-        sound-state = rw (all-taken, sym ek ∙ ap checkOf s) refl
-
-        pub legal-report : (w : Refusal) → c ≡ comparison.Refused w → (m : ℕ) → m ≡ refusalNumber w
-            → refused m ≡ passes (endLegal (2 + 2 * vectorBytes inputs) paths total first report ws)
-        legal-report w e m q =
-            ap (λ (i : ℕ). refused i) q ∙ ends (refused (refusalNumber w)) (end-other-report each paths total report state b eb n ws sound-state c ec w e)
-
-        pub legal-accepted : c ≡ comparison.Equal → value tt ≡ passes (endLegal (2 + 2 * vectorBytes inputs) paths total first report ws)
-        legal-accepted e = ends (value ws) (end-same-report each paths total report state b eb n ws sound-state c ec e)
-
-pub ruleset legal-cases = (legal-length, legal-first, legal-store, legal-report, legal-accepted, checked-sound, needs)
+use Rattle.file_block.specs.RecordsTaken.{leftStore}
+use Rattle.file_judging.specs.FileJudging.{wholeLength, endBy, storeChecked, endedOf, soFar, endLegal}
+use Rattle.file_block.proofs.MemoryLaws.{emptied}
+use Rattle.file_judging.specs.declared.EndAnswer.{EndAnswer}
+use Rattle.file_judging.specs.declared.EndAnswer.the-variants as ending
+use Rattle.pieces.specs.Calls.{endStage, endCall, endAnswer, endStore, EndTrue}
 
 -- The end with a store of the right length
 module _ (netlist : List ℕ) (total first : ℕ) (report ws : List ℕ) (r : Surveyed) (t : SurveyTrue r netlist) where

@@ -1,5 +1,4 @@
--- Each step's cases, then each public call's, then the steps together, the public calls together, and the theorem.
-pub mod StepCases
+-- The cases of each public call, then the steps together, the public calls together, and the theorem.
 pub mod PieceCases
 pub mod EndCases
 pub mod TogetherHolds

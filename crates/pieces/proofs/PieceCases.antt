@@ -26,16 +26,18 @@ use Rattle.netlist.proofs.LoadLaws.{loaded-legal, loaded-refused}
 use Rattle.store_words.specs.WordAnswers.{checkOf}
 use Rattle.store_words.specs.declared.inner.StoreCheck.{StoreCheck}
 use Rattle.store_words.specs.declared.inner.StoreCheck.the-variants as check
-use Rattle.audit.specs.TestFile.{fileOf, leftStore, takenOf}
+use Rattle.file_block.specs.RecordsTaken.{fileOf, leftStore, takenOf}
 use Rattle.coverage.specs.declared.inner.StageAnswer.the-variants as stage
-use Rattle.audit.specs.declared.inner.TakenRecords.{TakenRecords}
-use Rattle.audit.proofs.MemoryLaws.{emptied}
+use Rattle.file_block.specs.declared.inner.TakenRecords.{TakenRecords}
+use Rattle.file_block.proofs.MemoryLaws.{emptied}
 use Rattle.pieces.specs.declared.PieceAnswer.{PieceAnswer}
 use Rattle.pieces.specs.declared.PieceAnswer.the-variants as piece
-use Rattle.pieces.specs.declared.inner.Begun.{Begun}
-use Rattle.pieces.specs.Steps.{BeginTrue, lentRules, Ready, PieceTaken, withPiece, takenWith, pieceStore}
-use Rattle.pieces.specs.Calls.{BegunTrue, RecordsSaid, pieceOf, recordsSaid, storeChecked, pieceAnswer, pieceCall, pieceLeft, PieceWork, PieceTrue, PieceReady, PieceStaged}
-use Rattle.pieces.proofs.StepCases.{lent-words, lent-short, lent-passed}
+use Rattle.piece_steps.specs.declared.inner.Begun.{Begun}
+use Rattle.piece_steps.specs.Steps.{BeginTrue, lentRules, PieceTaken, withPiece, takenWith, pieceStore}
+use Rattle.file_records.specs.FileRecords.{Ready}
+use Rattle.pieces.specs.Calls.{BegunTrue, RecordsSaid, pieceOf, recordsSaid, pieceAnswer, pieceCall, pieceLeft, PieceWork, PieceTrue, PieceReady, PieceStaged}
+use Rattle.file_judging.specs.FileJudging.{storeChecked}
+use Rattle.piece_steps.proofs.StepCases.{lent-words, lent-short, lent-passed}
 
 -- The beginning
 pub begun-answer : (r : Begun) (netlist : List ℕ) (class : ℕ) (ws ws′ work : List ℕ) → BeginTrue r netlist class ws ws′ work

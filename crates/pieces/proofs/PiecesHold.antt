@@ -14,17 +14,19 @@ use Rattle.model.specs.declared.Refusal.{Refusal}
 use Rattle.model.proofs.AnswerLaws.{not-refused}
 use Rattle.model.proofs.ReportsHold.{demand-3}
 use Rattle.audit.specs.Answers.{AuditTrue}
-use Rattle.audit.specs.TestFile.{takenOf}
-use Rattle.audit.specs.declared.AuditAnswer.{AuditAnswer}
-use Rattle.audit.specs.declared.AuditAnswer.the-variants as audit
+use Rattle.file_block.specs.RecordsTaken.{takenOf}
+use Rattle.file_judging.specs.declared.AuditAnswer.{AuditAnswer}
+use Rattle.file_judging.specs.declared.AuditAnswer.the-variants as audit
 use Rattle.audit.proofs.PromisesHold.{calls-true}
-use Rattle.pieces.specs.declared.BeginAnswer.the-variants as beginning
-use Rattle.pieces.specs.declared.EndAnswer.{EndAnswer}
-use Rattle.pieces.specs.declared.EndAnswer.the-variants as ending
-use Rattle.pieces.specs.declared.inner.Begun.{Begun}
-use Rattle.pieces.specs.Steps.{BeginTrue, begunOf}
-use Rattle.pieces.specs.Calls.{BegunTrue, endedOf}
-use Rattle.pieces.specs.Together.{joined, MadePiece, bytesOf, noRecords, lastAnswer, StepsMade, WholeAudit, PiecesTrue}
+use Rattle.piece_steps.specs.declared.BeginAnswer.the-variants as beginning
+use Rattle.file_judging.specs.declared.EndAnswer.{EndAnswer}
+use Rattle.file_judging.specs.declared.EndAnswer.the-variants as ending
+use Rattle.piece_steps.specs.declared.inner.Begun.{Begun}
+use Rattle.piece_steps.specs.Steps.{BeginTrue, begunOf}
+use Rattle.pieces.specs.Calls.{BegunTrue}
+use Rattle.file_judging.specs.FileJudging.{endedOf}
+use Rattle.piece_steps.specs.JoinedPieces.{joined}
+use Rattle.pieces.specs.Together.{MadePiece, bytesOf, noRecords, lastAnswer, StepsMade, WholeAudit, PiecesTrue}
 use Rattle.pieces.proofs.TogetherHolds.{calls-joined, pieces-made, begun-ready, begun-empty, begun-refused, untouched}
 use Rattle.pieces.proofs.TakenLaws.{takenWiths, taken-whole, last-taken}
 use Rattle.pieces.proofs.CallsTogether.{calls-made, never-for-store, call-places}

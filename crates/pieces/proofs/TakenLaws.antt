@@ -13,11 +13,12 @@ use Rattle.model.specs.Detect.{Class}
 use Rattle.model.specs.Read.{readNetlist, classOf, recordLength}
 use Rattle.model.specs.Report.{records, fileRecords, testAll}
 use Rattle.netlist.specs.declared.inner.Loaded.{Loaded}
-use Rattle.audit.specs.TestFile.{fileOf, takenOf}
-use Rattle.audit.specs.declared.inner.TakenRecords.{TakenRecords}
-use Rattle.audit.proofs.TakenRecordLaws.{takenThen, then-more, taken-append}
-use Rattle.pieces.specs.Steps.{withPiece, takenWith}
-use Rattle.pieces.specs.Together.{joined, WholeButLast, MadePiece, bytesOf, Promised, lastAnswer}
+use Rattle.file_block.specs.RecordsTaken.{fileOf, takenOf}
+use Rattle.file_block.specs.declared.inner.TakenRecords.{TakenRecords}
+use Rattle.file_block.proofs.TakenRecordLaws.{takenThen, then-more, taken-append}
+use Rattle.piece_steps.specs.Steps.{withPiece, takenWith}
+use Rattle.piece_steps.specs.JoinedPieces.{joined, WholeButLast}
+use Rattle.pieces.specs.Together.{MadePiece, bytesOf, Promised, lastAnswer}
 
 -- the records of a piece, then those of the rest
 records-append : (len m n : ℕ) (a b : List ℕ) → length a ≡ m * len → records len (m + n) (a ++ b) ≡ records len m a ++ records len n b

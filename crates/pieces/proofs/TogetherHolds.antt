@@ -2,64 +2,44 @@
 -- Assumes nothing.
 use mathlib.Core.Path.{_≡_, refl, ap, sym, _∙_, subst}
 use mathlib.Core.Bool.{Bool, true, false}
-use mathlib.Core.List.{List, [], _∷_, _++_, append-nil}
-use Prim.Native.Nat.{ℕ, _/_, _%_}
-use native.Mathlib.Nat.{div-eq-of-lt}
-use native.Mathlib.Omega.{arith}
-use lib.Dec.{T, leb→le}
+use mathlib.Core.List.{List, [], _∷_}
+use Prim.Native.Nat.{ℕ, _/_}
+use lib.Dec.{leb→le}
 use lib.ListN.{length, drop}
-use Rattle.model.specs.Base.{Answer, refused, value, _>>=_, _>>_, checks, passes}
+use Rattle.model.specs.Base.{Answer, refused, value, _>>=_, _>>_, passes}
 use Rattle.model.specs.Netlist.{Netlist}
 use Rattle.model.specs.Detect.{Class}
 use Rattle.model.specs.Read.{within, readNetlist, classOf, recordLength}
 use Rattle.model.specs.Refusals.{refusalNumber}
 use Rattle.model.specs.Store.{emptyStore}
 use Rattle.model.specs.Calls.{workWords, storeRule, workRule, beforeTest, WorkAfter}
-use Rattle.model.specs.Report.{records, testAll, auditCall, auditAnswer, auditStore}
+use Rattle.model.specs.Report.{auditCall, auditAnswer, auditStore}
 use Rattle.model.proofs.BoolLaws.{T→true}
 use Rattle.model.proofs.AnswerLaws.{Passed, checks→, →checks, then-first, not-refused, value-inj}
 use Rattle.model.proofs.BeforeLaws.{Reached, reached→}
 use Rattle.model.proofs.RefusalLaws.{audit-found, audit-emptied}
 use Rattle.model.proofs.ReportLaws.{length-records}
-use Rattle.model.proofs.PieceLaws.{piece-first}
 use Rattle.netlist.specs.declared.SurveyAnswer.{SurveyAnswer}
 use Rattle.netlist.specs.declared.SurveyAnswer.the-variants as survey
 use Rattle.netlist.specs.declared.inner.Loaded.{Loaded}
 use Rattle.netlist.proofs.LoadLaws.{loaded-legal, loaded-refused}
 use Rattle.coverage.specs.Stage.{MemoryReady}
 use Rattle.audit.specs.Answers.{AuditTrue}
-use Rattle.audit.specs.TestFile.{fileOf, leftStore, auditFile}
-use Rattle.audit.specs.declared.AuditAnswer.{AuditAnswer}
-use Rattle.audit.specs.declared.inner.TakenRecords.{TakenRecords}
-use Rattle.audit.proofs.MemoryLaws.{empty-memory, audit-left}
-use Rattle.pieces.specs.declared.BeginAnswer.{BeginAnswer}
-use Rattle.pieces.specs.declared.BeginAnswer.the-variants as beginning
-use Rattle.pieces.specs.declared.inner.Begun.{Begun}
-use Rattle.pieces.specs.Steps.{BeginTrue, begunOf, lentRules, beginAnswer, beginStore, Ready, withPiece, endBy, endOf}
-use Rattle.pieces.specs.Together.{joined, WholeButLast, withPieces, piecesCall, MadePiece, bytesOf, noRecords, Promised, lastAnswer, lastLeft, lastWork, StepsMade}
-
--- no piece changes nothing
-pub no-bytes : (N : Netlist) (c : Class) (x : Answer (List ℕ)) → withPiece N c [] x ≡ x
-unfolding withPiece testAll
-no-bytes N c (refused n) = refl
-no-bytes N c (value ws) =
-    let d : 0 / recordLength N ≡ 0 = div-eq-of-lt {n = 0} {m = recordLength N} (omega arith) in
-    ap (λ (k : ℕ). testAll N c (records (recordLength N) k []) ws) d
-
--- a piece of whole records, then another
-pub piece-then : (N : Netlist) (c : Class) (piece rest : List ℕ) (x : Answer (List ℕ)) → length piece % recordLength N ≡ 0
-    → withPiece N c rest (withPiece N c piece x) ≡ withPiece N c (piece ++ rest) x
-unfolding withPiece
-piece-then N c piece rest (refused n) h = refl
-piece-then N c piece rest (value ws) h = sym (piece-first N c piece rest ws h)
-
--- The pieces of a file, one after the other, are the file
-pub pieces-joined : (N : Netlist) (c : Class) (ps : List (List ℕ)) → WholeButLast N ps → (x : Answer (List ℕ))
-    → withPieces N c ps x ≡ withPiece N c (joined ps) x
-unfolding withPieces
-pieces-joined N c [] h x = sym (no-bytes N c x)
-pieces-joined N c (p ∷ []) h x = ap (λ (b : List ℕ). withPiece N c b x) (sym (append-nil p))
-pieces-joined N c (p ∷ q ∷ ps) h x = pieces-joined N c (q ∷ ps) (h .1) (withPiece N c p x) ∙ piece-then N c p (joined (q ∷ ps)) x (h .0)
+use Rattle.file_block.specs.RecordsTaken.{fileOf, leftStore}
+use Rattle.audit.specs.TestFile.{auditFile}
+use Rattle.file_judging.specs.declared.AuditAnswer.{AuditAnswer}
+use Rattle.file_block.specs.declared.inner.TakenRecords.{TakenRecords}
+use Rattle.file_block.proofs.MemoryLaws.{empty-memory}
+use Rattle.audit.proofs.AuditCases.{audit-left}
+use Rattle.piece_steps.specs.declared.BeginAnswer.{BeginAnswer}
+use Rattle.piece_steps.specs.declared.BeginAnswer.the-variants as beginning
+use Rattle.piece_steps.specs.declared.inner.Begun.{Begun}
+use Rattle.piece_steps.specs.Steps.{BeginTrue, begunOf, lentRules, beginAnswer, beginStore, withPiece, endOf}
+use Rattle.file_records.specs.FileRecords.{Ready}
+use Rattle.file_judging.specs.FileJudging.{endBy}
+use Rattle.piece_steps.specs.JoinedPieces.{joined, WholeButLast, withPieces}
+use Rattle.piece_steps.proofs.JoinedPieceLaws.{pieces-joined}
+use Rattle.pieces.specs.Together.{piecesCall, MadePiece, bytesOf, noRecords, Promised, lastAnswer, lastLeft, lastWork, StepsMade}
 
 -- The end of a file that was taken whole is the audit from 33 on
 pub end-file : (N : Netlist) (c : Class) (testFile report : List ℕ)

@@ -2,28 +2,26 @@
 -- Names: class is the number of a class, the same for the whole file; piece is the bytes of a piece, total the number of bytes of the whole file, first the number of the first refusal or 0.
 -- Assumes nothing.
 use mathlib.Core.Path.{_≡_}
-use mathlib.Core.Bool.{true, false}
 use mathlib.Core.List.{List, [], _∷_}
-use Prim.Native.Nat.{ℕ, _+_, _≤_}
-use lib.Dec.{eqb}
+use Prim.Native.Nat.{ℕ, _≤_}
 use lib.ListN.{length, drop}
 use Rattle.model.specs.Base.{Answer, refused, value, _>>=_, _>>_, checks, passes, after}
 use Rattle.model.specs.Netlist.{Netlist, pathTotal}
 use Rattle.model.specs.Detect.{Class}
 use Rattle.model.specs.Read.{readNetlist, classOf, recordLength}
 use Rattle.model.specs.Refusals.{refusalNumber}
-use Rattle.model.specs.Store.{storeWords, storeRules}
+use Rattle.model.specs.Store.{storeWords}
 use Rattle.model.specs.Calls.{workWords, storeRule, beforeTest}
 use Rattle.model.specs.Report.{fileRecords, testAll}
 use Rattle.netlist.specs.declared.inner.Loaded.{Loaded}
 use Rattle.netlist.specs.Tables.{CircuitTables}
-use Rattle.audit.specs.TestFile.{leftStore, takenOf}
-use Rattle.pieces.specs.declared.BeginAnswer.{BeginAnswer}
+use Rattle.file_block.specs.RecordsTaken.{leftStore, takenOf}
+use Rattle.piece_steps.specs.declared.BeginAnswer.{BeginAnswer}
 use Rattle.pieces.specs.declared.PieceAnswer.{PieceAnswer}
 use Rattle.pieces.specs.declared.PieceAnswer.the-variants as piece
-use Rattle.pieces.specs.declared.EndAnswer.{EndAnswer}
-use Rattle.pieces.specs.declared.EndAnswer.the-variants as ending
-use Rattle.pieces.specs.Steps.{begunOf, lentRules, beginAnswer, beginStore, endBy}
+use Rattle.file_judging.specs.declared.EndAnswer.{EndAnswer}
+use Rattle.file_judging.specs.FileJudging.{storeChecked, endedOf, endLegal}
+use Rattle.piece_steps.specs.Steps.{begunOf, lentRules, beginAnswer, beginStore}
 
 -- The beginning: its answer, and the store afterwards
 pub record BegunTrue (r : BeginAnswer) (netlist : List ℕ) (class : ℕ) (ws ws′ work : List ℕ) : Type 0 where
@@ -44,10 +42,6 @@ pieceOf (piece.Refused w) = refused (refusalNumber w)
 -- the records of a piece, in order, on a netlist, in a class and from a store: what they answer
 unfoldable pub recordsSaid : Netlist → Class → List ℕ → List ℕ → RecordsSaid
 recordsSaid N c bytes ws = record { taken = takenOf N c (fileRecords N bytes) ws; said = passes (testAll N c (fileRecords N bytes) ws) }
-
--- the store is checked before the first record
-abbrev pub storeChecked : ℕ → List ℕ → Answer (List ℕ)
-storeChecked paths ws = checks (storeRules paths ws) >> value ws
 
 -- A piece: 1, 2, the netlist, 83, 40 to 42, then the records. Its answer, and the store that the test calls leave
 unfoldable pub pieceAnswer : List ℕ → ℕ → List ℕ → List ℕ → List ℕ → Answer RecordsSaid
@@ -90,19 +84,7 @@ pub record PieceStaged (r : PieceAnswer) (netlist : List ℕ) (class : ℕ) (byt
   pub pastWork : drop workWords work′ ≡ drop workWords work
   pub notReached : (N : Netlist) → readNetlist netlist ≡ value N → (n : ℕ) → storeChecked (pathTotal N) ws ≡ refused n → work′ ≡ work
 
--- The end: that it accepts, or the number of the refusal
-abbrev pub endedOf : EndAnswer → Answer (Unit {0})
-endedOf ending.Accepted = value tt
-endedOf (ending.Refused n) = refused n
-
--- what the pieces answered, as their caller keeps it: 0 says that every record was taken, any other number is that of the first refusal
-unfoldable pub soFar : ℕ → List ℕ → Answer (List ℕ)
-soFar first ws = elim (eqb first 0) [ true ↦ value ws | false ↦ refused first ]
-
--- 1, the netlist, 33 by the length of the whole file, the first refusal, 40 to 42, then the report
-unfoldable pub endLegal : ℕ → ℕ → ℕ → ℕ → List ℕ → List ℕ → Answer (List ℕ)
-endLegal each paths total first report ws = endBy each paths total report (soFar first ws >>= λ left. storeChecked paths left)
-
+-- 1, the netlist, then the rest of the end on it
 unfoldable pub endStage : List ℕ → ℕ → ℕ → List ℕ → List ℕ → Answer (List ℕ)
 endStage netlist total first report ws = readNetlist netlist >>= λ N. endLegal (recordLength N) (pathTotal N) total first report ws
 

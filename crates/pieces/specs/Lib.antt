@@ -1,4 +1,3 @@
--- The audit in pieces: what each step promises, what each public call promises, then the pieces together.
-pub mod Steps
+-- The audit in pieces: what each public call promises, then the pieces together.
 pub mod Calls
 pub mod Together

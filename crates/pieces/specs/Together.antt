@@ -2,13 +2,12 @@
 -- Assumes nothing.
 use mathlib.Core.Path.{_≡_}
 use mathlib.Core.Logic.{_↔_}
-use mathlib.Core.List.{List, [], _∷_, _++_, map}
-use Prim.Native.Nat.{ℕ, zero, suc, _+_, _%_}
+use mathlib.Core.List.{List, [], _∷_, map}
+use Prim.Native.Nat.{ℕ, zero, suc, _+_}
 use lib.ListN.{length}
 use Rattle.model.specs.Base.{Answer, value, _>>=_}
 use Rattle.model.specs.Netlist.{Netlist}
-use Rattle.model.specs.Detect.{Class}
-use Rattle.model.specs.Read.{readNetlist, classOf, recordLength}
+use Rattle.model.specs.Read.{readNetlist, classOf}
 use Rattle.model.specs.Refusals.{refusalNumber}
 use Rattle.model.specs.Store.{emptyStore}
 use Rattle.model.specs.Calls.{beforeTest, WorkAfter}
@@ -17,35 +16,22 @@ use Rattle.model.specs.Demand3.{Acceptable}
 use Rattle.model.specs.declared.Refusal.{Refusal}
 use Rattle.netlist.specs.declared.inner.Loaded.{Loaded}
 use Rattle.audit.specs.Answers.{AuditTrue}
-use Rattle.audit.specs.TestFile.{takenOf}
-use Rattle.audit.specs.declared.AuditAnswer.{AuditAnswer}
-use Rattle.audit.specs.declared.AuditAnswer.the-variants as audit
+use Rattle.file_block.specs.RecordsTaken.{takenOf}
+use Rattle.file_judging.specs.declared.AuditAnswer.{AuditAnswer}
+use Rattle.file_judging.specs.declared.AuditAnswer.the-variants as audit
 use Rattle.coverage.specs.declared.inner.StageAnswer.the-variants as stage
-use Rattle.audit.specs.declared.inner.TakenRecords.{TakenRecords}
-use Rattle.pieces.specs.declared.BeginAnswer.the-variants as beginning
+use Rattle.file_block.specs.declared.inner.TakenRecords.{TakenRecords}
+use Rattle.piece_steps.specs.declared.BeginAnswer.the-variants as beginning
 use Rattle.pieces.specs.declared.PieceAnswer.{PieceAnswer}
 use Rattle.pieces.specs.declared.PieceAnswer.the-variants as piece
-use Rattle.pieces.specs.declared.EndAnswer.{EndAnswer}
-use Rattle.pieces.specs.declared.EndAnswer.the-variants as ending
-use Rattle.pieces.specs.declared.inner.Begun.{Begun}
-use Rattle.pieces.specs.Steps.{BeginTrue, Ready, PieceTaken, Ended, withPiece, endOf}
-use Rattle.pieces.specs.Calls.{BegunTrue, PieceTrue, EndTrue, endedOf}
-
--- the file that the pieces make
-abbrev pub joined : List (List ℕ) → List ℕ
-joined [] = []
-joined (p ∷ ps) = p ++ joined ps
-
--- each piece but the last is a whole number of records
-abbrev pub WholeButLast : Netlist → List (List ℕ) → Type 0
-WholeButLast N [] = Unit {0}
-WholeButLast N (p ∷ []) = Unit {0}
-WholeButLast N (p ∷ q ∷ ps) = (length p % recordLength N ≡ 0) × WholeButLast N (q ∷ ps)
-
--- the pieces in order, all in one class
-unfoldable pub withPieces : Netlist → Class → List (List ℕ) → Answer (List ℕ) → Answer (List ℕ)
-withPieces N c [] x = x
-withPieces N c (p ∷ ps) x = withPieces N c ps (withPiece N c p x)
+use Rattle.file_judging.specs.declared.EndAnswer.{EndAnswer}
+use Rattle.file_judging.specs.declared.EndAnswer.the-variants as ending
+use Rattle.piece_steps.specs.declared.inner.Begun.{Begun}
+use Rattle.piece_steps.specs.Steps.{BeginTrue, PieceTaken, Ended, endOf}
+use Rattle.file_records.specs.FileRecords.{Ready}
+use Rattle.piece_steps.specs.JoinedPieces.{joined, WholeButLast, withPieces}
+use Rattle.pieces.specs.Calls.{BegunTrue, PieceTrue, EndTrue}
+use Rattle.file_judging.specs.FileJudging.{endedOf}
 
 -- beginning, pieces and end
 unfoldable pub piecesCall : List ℕ → ℕ → List (List ℕ) → List ℕ → List ℕ → List ℕ → Answer (List ℕ)

@@ -1,20 +1,16 @@
 // The audit with its test file in pieces, so that a file of any length is judged: a beginning, a call for each piece in file order, an end.
 // Each piece but the last is a whole number of records, and all are handed the class of the beginning. A caller keeps the number of bytes so far and the number of the first refusal; once a
 // piece is refused, no other is handed over.
-pub mod inner;
-
 ghost use mathlib.Core.Path.{_≡_};
-ghost use Prim.Native.Nat.{_+_, _*_, _^_, _≤_};
 ghost use lib.ListN.{length};
 ghost use Rattle.model.specs.Base.{passes};
-ghost use Rattle.model.specs.Read.{vectorBytes};
 ghost use Rattle.model.specs.Store.{storeWords};
-ghost use Rattle.pieces.specs.Calls.{BegunTrue, PieceReady, PieceStaged, PieceTrue, EndTrue, endedOf, endStage, endLegal};
-use crate::inner::apply_piece;
-use crate::inner::begin;
-use audit::inner::TakenRecords;
-use audit::inner::whole_length;
+ghost use Rattle.file_judging.specs.FileJudging.{endedOf};
+ghost use Rattle.pieces.specs.Calls.{BegunTrue, PieceReady, PieceStaged, PieceTrue, EndTrue, endStage};
 use coverage::inner::StageAnswer;
+use file_block::inner::TakenRecords;
+use file_judging::EndAnswer;
+use file_judging::inner::end_legal;
 use model::Refusal;
 use model::STORE_WORDS;
 use model::WORK_WORDS;
@@ -24,18 +20,12 @@ use netlist::SurveyAnswer;
 use netlist::inner::Loaded;
 use netlist::inner::load_by_value;
 use netlist::survey;
-use report::inner::Comparison;
-use report::inner::compare;
+use piece_steps::BeginAnswer;
+use piece_steps::inner::apply_piece;
+use piece_steps::inner::begin;
 use store_words::inner::StoreCheck;
 use store_words::inner::check_words;
 use store_writing::inner::clear;
-use test_records::inner::record_length;
-
-// What the places before the test file answer.
-pub enum BeginAnswer {
-    Ready,
-    Refused(Refusal),
-}
 
 // What a piece answers: the number of its records, all taken; the number of those taken before the first that was refused, and why; or why no
 // record was tried.
@@ -43,12 +33,6 @@ pub enum PieceAnswer {
     Taken(usize),
     RecordRefused(usize, Refusal),
     Refused(Refusal),
-}
-
-// What the whole audit answers: that it accepts, or the number of the refusal.
-pub enum EndAnswer {
-    Accepted,
-    Refused(u32),
 }
 
 // The beginning: lent memory, netlist and class. The store is emptied unread, unless the lent memory is refused.
@@ -168,37 +152,5 @@ fn end_on(netlist: &[u8], bytes: u64, first: u32, report: &[u8], store: &[u64]) 
             report,
             store,
         ),
-    }
-}
-
-// The same on a legal netlist with so many inputs and paths.
-fn end_legal(
-    inputs: usize,
-    paths: u64,
-    bytes: u64,
-    first: u32,
-    report: &[u8],
-    store: &[u64],
-) -> EndAnswer
-    requires { ⌜ (inputs ≤ 64) × (paths ≤ 2 ^ 62) × (length (now store) ≡ storeWords) ⌝ }
-    ensures { λ r. ⌜ endedOf r ≡ passes (endLegal (2 + 2 * vectorBytes inputs) paths bytes first (now (report .entry)) (now (store .entry))) ⌝ }
-{
-    let each = record_length(inputs) as u64;
-    if !whole_length(bytes, each) {
-        return EndAnswer::Refused(refusal_number(Refusal::TestFileLength));
-    }
-    if first != 0 {
-        return EndAnswer::Refused(first);
-    }
-    let checked = check_words(store, paths);
-    match checked {
-        StoreCheck::Refused(why) => EndAnswer::Refused(refusal_number(why)),
-        StoreCheck::Sound => {
-            let compared = compare(report, store, bytes / each, paths);
-            match compared {
-                Comparison::Equal => EndAnswer::Accepted,
-                Comparison::Refused(why) => EndAnswer::Refused(refusal_number(why)),
-            }
-        }
     }
 }

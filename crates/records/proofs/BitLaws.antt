@@ -7,7 +7,7 @@ use mathlib.Core.Logic.{⊎-elim}
 use Prim.Native.Nat.{ℕ, zero, suc, _+_, _-_, _*_, _/_, _%_, _^_, _≤_, _<_}
 use native.Mathlib.Nat.{mod-lt, not-suc-le-zero}
 use native.Mathlib.Omega.{arith}
-use lib.Bits.{bitAnd, bitOr, bitXor, and-shr, or-shr, xor-shr, and-mod, or-mod, xor-mod}
+use lib.Bits.{bitAnd, bitOr, bitXor, and-mask, and-shr, or-shr, xor-shr, and-mod, or-mod, xor-mod}
 use lib.Dec.{eqb}
 use lib.ListN.{length, getD}
 use lib.Pow.{shr-shr}
@@ -18,6 +18,10 @@ use Rattle.model.proofs.BoolLaws.{le-or-lt}
 -- Bits of `and`, `or` and `xor`
 pub below-two : (x : ℕ) → x % 2 < 2
 below-two x = mod-lt x (omega arith)
+
+-- a digit of a word, as the code makes it
+pub word-digit : (word i : ℕ) → (bitAnd (word / 2 ^ i) 1 < 2) × (eqb (bitAnd (word / 2 ^ i) 1) 1 ≡ bit word i)
+word-digit word i = (rw (and-mask (word / 2 ^ i) 1) (below-two (word / 2 ^ i)), rw (and-mask (word / 2 ^ i) 1) refl)
 
 pub and-digit : (x y : ℕ) → x < 2 → y < 2 → eqb (bitAnd x y) 1 ≡ (eqb x 1 && eqb y 1)
 and-digit zero zero h l = refl

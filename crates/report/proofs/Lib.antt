@@ -1,6 +1,4 @@
--- The writer and the comparison part by part, then the cases of each.
-pub mod WordSteps
-pub mod HeadLaws
+-- The record part by part, then the cases of the comparison and of the writer.
 pub mod ReportPartLaws
 pub mod ReportCases
 pub mod WriterCases

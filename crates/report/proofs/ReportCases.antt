@@ -20,7 +20,7 @@ use Rattle.records.proofs.ByteLaws.{part-yes, part-no, same-length}
 use Rattle.store_words.specs.WordAnswers.{totalsIn, totalsBoth}
 use Rattle.store_words.specs.Sound.{SoundWords, edgeWords}
 use Rattle.store_words.specs.declared.inner.StoreTotals.{StoreTotals}
-use Rattle.report.specs.Layout.{wordBytes, SameHead}
+use Rattle.report_bytes.specs.Layout.{wordBytes, SameHead}
 use Rattle.report.proofs.ReportPartLaws.{length-words, report-parts, length-whole}
 
 module _ (report ws : List ℕ) (tests paths : ℕ) (sound : SoundWords (2 ^ 62) ws) (R F : List ℕ) (er : R ≡ edgeWords ws rising) (ef : F ≡ edgeWords ws falling)

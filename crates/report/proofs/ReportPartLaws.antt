@@ -16,7 +16,7 @@ use Rattle.store_words.specs.WordAnswers.{totalsIn, totalsBoth}
 use Rattle.store_words.specs.Sound.{FewRuns, SoundWords, edgeWords}
 use Rattle.store_words.specs.declared.inner.StoreTotals.{StoreTotals}
 use Rattle.store_words.proofs.RunPlaceLaws.{edge-words-fit}
-use Rattle.report.specs.Layout.{wordBytes, headBytes}
+use Rattle.report_bytes.specs.Layout.{wordBytes, headBytes}
 
 pub length-words : (ws : List ℕ) → length (wordBytes ws) ≡ 8 * length ws
 length-words [] = refl

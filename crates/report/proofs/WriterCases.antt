@@ -28,9 +28,10 @@ use Rattle.store_words.specs.declared.inner.StoreCheck.the-variants as check
 use Rattle.store_words.specs.declared.inner.StoreTotals.{StoreTotals}
 use Rattle.store_words.proofs.SoundLaws.{checked-sound}
 use Rattle.report.specs.Answers.{WriteTrue}
-use Rattle.report.specs.Layout.{wordBytes, headBytes, ReportPut}
+use Rattle.report_bytes.specs.Layout.{wordBytes, headBytes}
+use Rattle.report.specs.ReportWriting.{ReportPut}
 use Rattle.report.specs.declared.WriteAnswer.the-variants as write
-use Rattle.report.proofs.HeadLaws.{next-put}
+use Rattle.report_bytes.proofs.HeadLaws.{next-put}
 use Rattle.report.proofs.ReportPartLaws.{length-words, report-parts, length-head, length-whole, edge-few, record-fits}
 
 -- the head, then the words of both edges' runs

@@ -1,3 +1,3 @@
--- Reports: what the calls promise, then what their parts do.
+-- Reports: what the calls promise, then what is written.
 pub mod Answers
-pub mod Layout
+pub mod ReportWriting

@@ -1,6 +1,5 @@
 // Reports of the tested faults: the writer; inner: a report compared with the one that the writer gives.
 pub mod inner;
-pub mod layout;
 mod writing;
 
 ghost use Rattle.report.specs.Answers.{WriteTrue};

@@ -19,13 +19,6 @@ use Rattle.simulation.specs.StateWords.{stateIn, IsState}
 use Rattle.simulation.specs.Simulated.{inputState, InputStates}
 use Rattle.simulation.proofs.PackStates.{word-form, word-back}
 
--- a digit of a word
-pub digit : (word i : ℕ) → bitAnd (word / 2 ^ i) 1 ≡ word / 2 ^ i % 2
-digit word i = and-mask (word / 2 ^ i) 1
-
-pub input-bit : (word i : ℕ) → (bitAnd (word / 2 ^ i) 1 < 2) × (eqb (bitAnd (word / 2 ^ i) 1) 1 ≡ bit word i)
-input-bit word i = (rw (digit word i) (mod-lt (word / 2 ^ i) (omega arith)), rw (digit word i) refl)
-
 -- the state of an input, from its two digits
 pub digit-state : (first last i x y : ℕ) → (x < 2) × (eqb x 1 ≡ bit first i) → (y < 2) × (eqb y 1 ≡ bit last i)
     → wordOf (record { underV1 = eqb x 1; underV2 = eqb y 1; steady = eqb x y }) ≡ wordOf (inputState first last i)

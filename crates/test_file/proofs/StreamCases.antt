@@ -18,20 +18,20 @@ use Rattle.model.specs.Report.{fileRecords, wholeRecords, testAll, writerCall, 
 use Rattle.model.specs.Demand3.{Acceptable}
 use Rattle.model.specs.declared.Refusal.{Refusal}
 use Rattle.model.proofs.AnswerLaws.{not-refused}
-use Rattle.audit.specs.TestFile.{fileOf, leftStore, takenOf}
-use Rattle.audit.specs.declared.AuditAnswer.{AuditAnswer}
-use Rattle.audit.specs.declared.AuditAnswer.the-variants as audit
+use Rattle.file_block.specs.RecordsTaken.{fileOf, leftStore}
+use Rattle.file_judging.specs.declared.AuditAnswer.{AuditAnswer}
+use Rattle.file_judging.specs.declared.AuditAnswer.the-variants as audit
 use Rattle.report.specs.declared.WriteAnswer.the-variants as write
 use Rattle.audit.proofs.PromisesHold.{calls-true}
-use Rattle.pieces.specs.declared.BeginAnswer.the-variants as beginning
-use Rattle.pieces.specs.declared.inner.Begun.{Begun}
-use Rattle.pieces.specs.Steps.{begunOf, lentRules, beginAnswer, beginStore, BeginTrue, Ended, withPiece, endBy, endOf}
+use Rattle.piece_steps.specs.declared.BeginAnswer.the-variants as beginning
+use Rattle.piece_steps.specs.declared.inner.Begun.{Begun}
+use Rattle.piece_steps.specs.Steps.{begunOf, lentRules, beginAnswer, beginStore, BeginTrue, Ended, withPiece, endOf}
+use Rattle.file_judging.specs.FileJudging.{endBy}
 use Rattle.pieces.proofs.TogetherHolds.{begun-ready, begun-empty, begun-lent, begun-known, begun-before, end-answer, end-store, end-work}
 use Rattle.pieces.proofs.PiecesHold.{pieces-true}
 use Rattle.file_walk.specs.declared.inner.Walk.{Walk}
 use Rattle.test_file.specs.declared.writing.Written.{Written}
 use Rattle.test_file.specs.declared.Judged.{Judged}
-use Rattle.test_file.specs.declared.Reported.{Reported}
 use Rattle.file_walk.specs.Walked.{fileTaken, Walked}
 use Rattle.test_file.specs.TrueReport.{Wrote, lengthIn, withReport, writerAfter}
 use Rattle.test_file.specs.Streams.{fileCall, fileStore, trueReport, takenBy, StreamRead, StreamAudited, StreamReported}

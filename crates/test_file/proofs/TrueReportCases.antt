@@ -1,8 +1,8 @@
 -- The true report: where all records are taken they are as many as the file has, and the writer's bytes lie in the buffer.
 -- Assumes nothing.
 use mathlib.Core.Path.{_≡_, refl, ap, sym, _∙_, subst}
-use mathlib.Core.List.{List, [], _∷_, _++_}
-use Prim.Native.Nat.{ℕ, _+_, _/_, _%_, _≤_, _<_}
+use mathlib.Core.List.{List, [], _∷_}
+use Prim.Native.Nat.{ℕ, _/_, _%_, _≤_, _<_}
 use native.Mathlib.Omega.{arith}
 use mir.Val.{Fits}
 use mir.Syntax.{w32}
@@ -14,16 +14,16 @@ use Rattle.model.specs.Base.{Answer, refused, value, _>>=_, _>>_, checks}
 use Rattle.model.specs.Netlist.{Netlist}
 use Rattle.model.specs.Detect.{Class}
 use Rattle.model.specs.Read.{recordLength, readNetlist, classOf}
-use Rattle.model.specs.Store.{emptyStore, storeOf}
-use Rattle.model.specs.Calls.{Tested, testStage}
-use Rattle.model.specs.Report.{fileRecords, wholeRecords, testAll, writerCall, writerAnswer, writerBuffer}
+use Rattle.model.specs.Store.{emptyStore}
+use Rattle.model.specs.Report.{fileRecords, wholeRecords, testAll, writerAnswer, writerBuffer}
 use Rattle.model.specs.declared.Refusal.{Refusal}
-use Rattle.model.proofs.AnswerLaws.{not-refused, then-first, then-second, checks→}
+use Rattle.model.proofs.AnswerLaws.{then-first, then-second, checks→}
 use Rattle.model.proofs.BoolLaws.{and-right}
 use Rattle.model.proofs.ReportLaws.{length-records}
 use Rattle.netlist.specs.declared.inner.Loaded.{Loaded}
 use Rattle.report.specs.Answers.{writtenOf, WriteTrue}
-use Rattle.audit.specs.TestFile.{fileOf, oneMore, takenOf}
+use Rattle.file_block.specs.RecordsTaken.{fileOf, takenOf}
+use Rattle.file_block.proofs.TakenRecordLaws.{taken-all}
 use Rattle.report.specs.declared.WriteAnswer.{WriteAnswer}
 use Rattle.report.specs.declared.WriteAnswer.the-variants as write
 use Rattle.coverage.specs.declared.inner.StageAnswer.{StageAnswer}
@@ -32,19 +32,6 @@ use Rattle.file_walk.specs.declared.inner.Walk.{Walk}
 use Rattle.test_file.specs.declared.writing.Written.{Written}
 use Rattle.file_walk.specs.Walked.{fileTaken, Walked}
 use Rattle.test_file.specs.TrueReport.{Wrote, lengthIn, withReport, writerAfter}
-
--- one record that is taken, then all others
-one-all : (x : Answer Tested) (f : List ℕ → ℕ) (h : List ℕ → Answer (List ℕ)) (k : ℕ) (left : List ℕ) → ((ws : List ℕ) → h ws ≡ value left → f ws ≡ k)
-    → (x >>= λ d. h (storeOf (d .runs))) ≡ value left → oneMore x (λ d. f (storeOf (d .runs))) ≡ 1 + k
-one-all (refused n) f h k left g q = absurd (not-refused q)
-one-all (value d) f h k left g q = ap (λ (j : ℕ). 1 + j) (g (storeOf (d .runs)) q)
-
--- records that are all taken are counted all
-taken-all : (N : Netlist) (c : Class) (rs : List (List ℕ)) (ws left : List ℕ) → testAll N c rs ws ≡ value left → takenOf N c rs ws ≡ length rs
-unfolding testAll takenOf
-taken-all N c [] ws left q = refl
-taken-all N c (r ∷ rs) ws left q =
-    one-all (testStage N c r ws) (λ v. takenOf N c rs v) (λ v. testAll N c rs v) (length rs) left (λ v p. taken-all N c rs v left p) q ∙ omega arith
 
 -- a file that is taken whole
 module _ (N : Netlist) (c : Class) (testFile left : List ℕ) (q : fileTaken N c testFile ≡ value left) where

@@ -13,8 +13,8 @@ use Rattle.model.specs.Calls.{beforeTest, WorkAfter}
 use Rattle.model.specs.Report.{fileRecords, writerCall}
 use Rattle.report.specs.Answers.{writtenOf}
 use Rattle.audit.specs.Answers.{AuditTrue}
-use Rattle.audit.specs.TestFile.{leftStore, takenOf}
-use Rattle.pieces.specs.Steps.{lentRules}
+use Rattle.file_block.specs.RecordsTaken.{leftStore, takenOf}
+use Rattle.piece_steps.specs.Steps.{lentRules}
 use Rattle.file_reading.specs.Space.{InSpace}
 use Rattle.file_walk.specs.Walked.{fileTaken}
 use Rattle.test_file.specs.declared.Judged.{Judged}

@@ -4,11 +4,11 @@ mod writing;
 ghost use Rattle.io.specs.Counts.{Counts};
 ghost use Rattle.test_file.specs.Streams.{StreamAudited, StreamReported};
 use crate::writing::true_report;
-use audit::AuditAnswer;
+use file_judging::AuditAnswer;
 use file_walk::inner::walk_file;
-use pieces::BeginAnswer;
-use pieces::inner::begin;
-use pieces::inner::finish;
+use piece_steps::BeginAnswer;
+use piece_steps::inner::begin;
+use piece_steps::inner::finish;
 use report::WriteAnswer;
 pub use writing::Written;
 

@@ -5,10 +5,10 @@ ghost use Prim.Native.Nat.{ℕ, _<_};
 ghost use Rattle.io.specs.Counts.{Counts};
 ghost use Rattle.model.specs.Base.{value};
 ghost use Rattle.report.specs.Answers.{writtenOf};
-ghost use Rattle.audit.specs.TestFile.{fileOf};
+ghost use Rattle.file_block.specs.RecordsTaken.{fileOf};
 ghost use Rattle.test_file.specs.TrueReport.{Wrote, writerAfter, lengthIn};
-use audit::inner::TakenRecords;
 use coverage::inner::StageAnswer;
+use file_block::inner::TakenRecords;
 use report::WriteAnswer;
 use report::write_report;
 

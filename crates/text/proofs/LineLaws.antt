@@ -57,6 +57,23 @@ pub onLine-twice : (t a b : List ℕ) → onLine (onLine t a) b ≡ onLine t (a 
 unfolding onLine
 onLine-twice t a b = take-front 128 (t ++ a) b ∙ ap (λ (l : List ℕ). take 128 l) (append-assoc t a b)
 
+-- a line with one part more at its end
+pub then-part : (t x y a b : List ℕ) → x ≡ onLine t a → y ≡ onLine x b → y ≡ onLine t (a ++ b)
+then-part t x y a b e f = f ∙ ap (λ (z : List ℕ). onLine z b) e ∙ onLine-twice t a b
+
+-- the first part of a line
+pub first-part : (x y a : List ℕ) → x ≡ [] → y ≡ onLine x a → y ≡ onLine [] a
+first-part x y a e f = f ∙ ap (λ (z : List ℕ). onLine z a) e
+
+-- the same part in other words
+pub as-part : (t y a b : List ℕ) → y ≡ onLine t a → a ≡ b → y ≡ onLine t b
+as-part t y a b e f = e ∙ ap (λ (z : List ℕ). onLine t z) f
+
+-- a text alone on a line
+pub onLine-alone : (a : List ℕ) → length a ≤ 128 → onLine [] a ≡ a
+unfolding onLine
+onLine-alone a h = take-all 128 a h
+
 -- A text put into a buffer byte by byte: what is left to write, written, gives the whole
 module _ (out text : List ℕ) (place i : ℕ) where
   pub put-step : i < length text → sets (set out place (getD text i 0)) (place + 1) (drop (i + 1) text) ≡ sets out place (drop i text)

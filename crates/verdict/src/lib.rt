@@ -1,10 +1,10 @@
 // The verdict of an audit as a line of text: the first line that `audit_report` prints.
 ghost use mathlib.Core.Path.{_≡_};
 ghost use Rattle.model.specs.Refusals.{refusalNumber};
-ghost use Rattle.audit.specs.Answers.{auditedOf};
+ghost use Rattle.file_judging.specs.FileJudging.{auditedOf};
 ghost use Rattle.text.specs.Lines.{textOf};
 ghost use Rattle.verdict.specs.Verdict.{verdictText, ofRecord, classText};
-use audit::AuditAnswer;
+use file_judging::AuditAnswer;
 use model::ROBUST;
 use model::Refusal;
 use model::refusal_number;

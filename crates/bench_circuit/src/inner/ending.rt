@@ -2,14 +2,14 @@
 ghost use mathlib.Core.Path.{_≡_};
 ghost use Prim.Native.Nat.{_*_, _≤_};
 ghost use lib.ListN.{length};
-ghost use Rattle.bench_circuit.specs.Judging.{NamesRoom};
+ghost use Rattle.bench_names.specs.NameNets.{NamesRoom};
 ghost use Rattle.bench_circuit.specs.Ending.{pairsKnown, OutputTold, LineTold, TextHeld, EndTrue};
 use crate::inner::judging::NameCounts;
-use crate::inner::names::net_at;
-use crate::inner::names::net_of_key;
 use bench_lines::inner::lines::next_line;
 use bench_lines::inner::statements::LineStatement;
 use bench_lines::inner::statements::read_statement;
+use bench_names::inner::net_at;
+use bench_names::inner::net_of_key;
 use model::Refusal;
 
 // Whether a text is sound at its end; or why not, and the line that is refused, 0 where it is no line.

@@ -1,23 +1,22 @@
 // The lines of a text, judged one after the other; the names that they define as keys in lent words.
 ghost use mathlib.Core.Path.{_≡_};
-ghost use mathlib.Core.Bool.{_&&_};
 ghost use Prim.Native.Nat.{_+_, _≤_};
 ghost use lib.ListN.{length};
-ghost use Rattle.model.specs.Read.{pinsFit};
 ghost use Rattle.bench_lines.specs.LineReading.{part, NameIn};
-ghost use Rattle.bench_circuit.specs.Judging.{NamesRoom, PinsJudged, InputJudged, OutputJudged, GateJudged};
+ghost use Rattle.bench_names.specs.NameNets.{NamesRoom};
+ghost use Rattle.bench_circuit.specs.Judging.{InputJudged, OutputJudged, GateJudged};
 ghost use Rattle.bench_circuit.specs.Judging.{HeldRoom, WordsRoom, countedAs, LineTrue, TextTrue};
-use crate::inner::names::net_at;
 use bench_lines::inner::keys::find_key;
 use bench_lines::inner::keys::key_at;
 use bench_lines::inner::keys::put_key;
 use bench_lines::inner::lines::next_line;
 use bench_lines::inner::statements::GateParts;
 use bench_lines::inner::statements::LineStatement;
-use bench_lines::inner::statements::PinRead;
-use bench_lines::inner::statements::read_pin;
 use bench_lines::inner::statements::read_statement;
+use bench_names::inner::net_at;
+use bench_names::inner::pins_known;
 use model::Refusal;
+use pin_counts::pin_count_fits;
 
 // How many inputs, gates and outputs there are.
 pub struct NameCounts {
@@ -40,69 +39,6 @@ pub enum LineAnswer {
 pub enum TextAnswer {
     Taken(NameCounts),
     Refused { why: Refusal, line: usize },
-}
-
-// Whether both are so.
-fn both(a: bool, b: bool) -> bool
-    ensures { λ r. ⌜ r ≡ a && b ⌝ }
-{
-    if a {
-        return b;
-    }
-    false
-}
-
-// Whether the pins from a position on are all defined.
-fn pins_known(
-    line: &[u8],
-    at: usize,
-    inputs: &[u64],
-    input_count: usize,
-    gates: &[u64],
-    gate_count: usize,
-) -> bool
-    requires { ⌜ at ≤ length (now line) ⌝ }
-    requires { ⌜ NamesRoom (now inputs) «input_count» (now gates) «gate_count» ⌝ }
-    ensures { λ r. ⌜ PinsJudged r at (now (line .entry)) (now (inputs .entry)) «input_count» (now (gates .entry))
-        «gate_count» ⌝ }
-{
-    let nets = input_count + gate_count;
-    let mut place = at;
-    let mut more = true;
-    let mut known = true;
-    while more {
-        let pin = read_pin(line, place);
-        match pin {
-            PinRead::Other => {
-                return false;
-            }
-            PinRead::Pin {
-                from,
-                to,
-                next,
-                more: again,
-            } => {
-                let net = net_at(line, from, to, inputs, input_count, gates, gate_count);
-                known = both(known, net < nets);
-                place = next;
-                more = again;
-            }
-        }
-    }
-    known
-}
-
-// Whether a gate of this kind can have so many pins.
-fn pin_count_fits(kind: usize, pins: usize) -> bool
-    ensures { λ r. ⌜ r ≡ pinsFit kind pins ⌝ }
-{
-    if kind <= 2 {
-        return pins == 1;
-    }
-    if pins < 1 {
-        return false;
-    }
-    pins <= 8
 }
 
 // Adds an input, unless its line is refused.

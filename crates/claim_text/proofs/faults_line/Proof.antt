@@ -1,9 +1,10 @@
 -- `claim_text::faults_line` meets its contract: the parts one after the other, and the line holds them all.
 -- Assumes nothing.
 use borrow.Author.Needs.{needs}
+use mathlib.Core.Path.{_∙_}
 use Rattle.claim_text.specs.Claims.{faultsText}
 use Rattle.claim_text.proofs.LengthLaws.{faults-short}
-use Rattle.claim_text.proofs.LinePartLaws.{first-part, then-part, whole-line}
+use Rattle.text.proofs.LineLaws.{first-part, then-part, onLine-alone}
 use Rattle.claim_text.proofs.faults_line.Statement.{statement}
 use Rattle.claim_text.proofs.faults_line.Tie as tie
 
@@ -57,7 +58,7 @@ returns c =
     let p5 = then-part _ _ _ _ _ p4 (at-with-text2 .with-text2 .ensures) in
     let p6 = then-part _ _ _ _ _ p5 (at-with-number2 .with-number2 .ensures) in
     let p7 = then-part _ _ _ _ _ p6 (c .with-true-share .ensures) in
-    whole-line _ _ (faults-short (a .edge) (a .claimed) (a .truth) (a .paths)) p7
+    p7 ∙ onLine-alone _ (faults-short (a .edge) (a .claimed) (a .truth) (a .paths))
 
 pub faults-line-spec : {M : Type 1} → statement M
 faults-line-spec =

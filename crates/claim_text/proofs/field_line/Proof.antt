@@ -1,9 +1,10 @@
 -- `claim_text::field_line` meets its contract: the parts one after the other, and the line holds them all.
 -- Assumes nothing.
 use borrow.Author.Needs.{needs}
+use mathlib.Core.Path.{_∙_}
 use Rattle.claim_text.specs.Claims.{fieldText}
 use Rattle.claim_text.proofs.LengthLaws.{field-line-short}
-use Rattle.claim_text.proofs.LinePartLaws.{first-part, then-part, whole-line}
+use Rattle.text.proofs.LineLaws.{first-part, then-part, onLine-alone}
 use Rattle.claim_text.proofs.field_line.Statement.{statement}
 use Rattle.claim_text.proofs.field_line.Tie as tie
 
@@ -47,7 +48,7 @@ returns c =
     let p3 = then-part _ _ _ _ _ p2 (at-with-number .with-number .ensures) in
     let p4 = then-part _ _ _ _ _ p3 (at-with-text2 .with-text2 .ensures) in
     let p5 = then-part _ _ _ _ _ p4 (c .with-number2 .ensures) in
-    whole-line _ _ (field-line-short (a .field) (a .claimed) (a .truth)) p5
+    p5 ∙ onLine-alone _ (field-line-short (a .field) (a .claimed) (a .truth))
 
 pub field-line-spec : {M : Type 1} → statement M
 field-line-spec =

@@ -1,9 +1,10 @@
 -- `claim_text::more_line` meets its contract: the parts one after the other, and the line holds them all.
 -- Assumes nothing.
 use borrow.Author.Needs.{needs}
+use mathlib.Core.Path.{_∙_}
 use Rattle.claim_text.specs.Claims.{moreText}
 use Rattle.claim_text.proofs.LengthLaws.{more-short}
-use Rattle.claim_text.proofs.LinePartLaws.{first-part, then-part, whole-line}
+use Rattle.text.proofs.LineLaws.{first-part, then-part, onLine-alone}
 use Rattle.claim_text.proofs.more_line.Statement.{statement}
 use Rattle.claim_text.proofs.more_line.Tie as tie
 
@@ -40,7 +41,7 @@ returns c =
     let p2 = then-part _ _ _ _ _ p1 (at-with-number .with-number .ensures) in
     let p3 = then-part _ _ _ _ _ p2 (at-with-text2 .with-text2 .ensures) in
     let p4 = then-part _ _ _ _ _ p3 (c .with-plural .ensures) in
-    whole-line _ _ (more-short (a .kind) (a .count)) p4
+    p4 ∙ onLine-alone _ (more-short (a .kind) (a .count))
 
 pub more-line-spec : {M : Type 1} → statement M
 more-line-spec =

@@ -1,9 +1,10 @@
 -- `claim_text::order_line` meets its contract: the parts one after the other, and the line holds them all.
 -- Assumes nothing.
 use borrow.Author.Needs.{needs}
+use mathlib.Core.Path.{_∙_}
 use Rattle.claim_text.specs.Claims.{orderText}
 use Rattle.claim_text.proofs.LengthLaws.{order-short}
-use Rattle.claim_text.proofs.LinePartLaws.{first-part, then-part, whole-line}
+use Rattle.text.proofs.LineLaws.{first-part, then-part, onLine-alone}
 use Rattle.claim_text.proofs.order_line.Statement.{statement}
 use Rattle.claim_text.proofs.order_line.Tie as tie
 
@@ -68,7 +69,7 @@ returns c =
     let p6 = then-part _ _ _ _ _ p5 (at-with-text3 .with-text3 .ensures) in
     let p7 = then-part _ _ _ _ _ p6 (at-with-number3 .with-number3 .ensures) in
     let p8 = then-part _ _ _ _ _ p7 (c .with-text4 .ensures) in
-    whole-line _ _ (order-short (a .edge) (a .number) (a .low) (a .high)) p8
+    p8 ∙ onLine-alone _ (order-short (a .edge) (a .number) (a .low) (a .high))
 
 pub order-line-spec : {M : Type 1} → statement M
 order-line-spec =

@@ -1,7 +1,7 @@
 -- `claim_text::shown_lines` meets its contract: all lines, or as many as there is room for.
 -- Assumes nothing.
 use borrow.Author.Needs.{needs}
-use Rattle.claim_text.proofs.LinePartLaws.{shown-all, shown-fewer, shown-room}
+use Rattle.claim_text.proofs.ShownCases.{shown-all, shown-fewer, shown-room}
 use Rattle.claim_text.proofs.shown_lines.Statement.{statement}
 use Rattle.claim_text.proofs.shown_lines.Tie as tie
 

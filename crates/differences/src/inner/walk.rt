@@ -2,9 +2,10 @@
 // the numbers: the runs before it end before them. No run is passed twice, so the stretches of two lists take time in proportion to their runs.
 ghost use mathlib.Core.Path.{_≡_};
 ghost use mathlib.Core.Bool.{true};
-ghost use Rattle.differences.specs.Differences.{runsOfBytes, only, Passed, Reached, Stands, Steps, FirstFrom, LastFrom, PieceFrom};
-use super::number_at;
-use report::layout::RUN_BYTES;
+ghost use Rattle.report_runs.specs.ReportRuns.{runsOfBytes};
+ghost use Rattle.differences.specs.Differences.{only, Passed, Reached, Stands, Steps, FirstFrom, LastFrom, PieceFrom};
+use report_bytes::layout::RUN_BYTES;
+use report_runs::inner::number_at;
 
 // Where a number stands among runs.
 enum Standing {

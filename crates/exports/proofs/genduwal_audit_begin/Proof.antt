@@ -1,5 +1,5 @@
--- `exports::genduwal_audit_begin` meets its contract. Assumes nothing.
-use Rattle.exports.proofs.CallCases.{begin-cases}
+-- `exports::genduwal_audit_begin` meets its contract: code and words are those of the answer of the call beneath. Assumes nothing.
+use mathlib.Core.Path.{_∙_}
 use borrow.Author.Needs.{needs}
 use Rattle.exports.proofs.genduwal_audit_begin.Statement.{statement}
 use Rattle.exports.proofs.genduwal_audit_begin.Tie as tie
@@ -7,36 +7,17 @@ use Rattle.exports.proofs.genduwal_audit_begin.Tie as tie
 audit-begin-requires : tie.Need-audit-begin-requires
 audit-begin-requires c κs = search needs
 
-enum-known-begun : tie.Need-enum-known-begun
-enum-known-begun c = search needs
-
-refusal-number-requires : tie.Need-refusal-number-requires
-refusal-number-requires c κs = search needs
-
-enum-told : tie.Need-enum-told
-enum-told c = search needs
+begin-code-requires : tie.Need-begin-code-requires
+begin-code-requires c κs = search needs
 
 same-length : tie.Need-same-length
 same-length c = search needs
 
 returns : tie.Need-returns
-returns c = search begin-cases
-
-same-length-2 : tie.Need-same-length-2
-same-length-2 c = search needs
-
-returns-2 : tie.Need-returns-2
-returns-2 c = search begin-cases
+returns c =
+    let called = c .before .before .before .audit-begin .ensures in
+    (c .begin-code .ensures ∙ called .answer, called .store)
 
 pub genduwal-audit-begin-spec : {M : Type 1} → statement M
 genduwal-audit-begin-spec =
-    tie.close
-    (tie.spec
-    audit-begin-requires
-    enum-known-begun
-    refusal-number-requires
-    enum-told
-    same-length
-    returns
-    same-length-2
-    returns-2)
+    tie.close (tie.spec audit-begin-requires begin-code-requires same-length returns)

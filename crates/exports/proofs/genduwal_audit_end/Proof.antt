@@ -1,5 +1,5 @@
 -- `exports::genduwal_audit_end` meets its contract. Assumes nothing.
-use Rattle.exports.proofs.CallCases.{end-cases}
+use Rattle.exports.proofs.CallCases.{end-refused, end-accepted}
 use borrow.Author.Needs.{needs}
 use Rattle.exports.proofs.genduwal_audit_end.Statement.{statement}
 use Rattle.exports.proofs.genduwal_audit_end.Tie as tie
@@ -17,13 +17,17 @@ same-length : tie.Need-same-length
 same-length c = search needs
 
 returns : tie.Need-returns
-returns c = search end-cases
+returns c =
+    let called = c .before .before .before .before .before .audit-end .ensures in
+    (end-refused called (c .before .ended .given .0 .0) (c .before .ended .given .1), called .store)
 
 same-length-2 : tie.Need-same-length-2
 same-length-2 c = search needs
 
 returns-2 : tie.Need-returns-2
-returns-2 c = search end-cases
+returns-2 c =
+    let called = c .before .before .before .before .audit-end .ensures in
+    (end-accepted called (c .enum-told .given .1), called .store)
 
 pub genduwal-audit-end-spec : {M : Type 1} → statement M
 genduwal-audit-end-spec =

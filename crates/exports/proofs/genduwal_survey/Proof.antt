@@ -1,38 +1,19 @@
--- `exports::genduwal_survey` meets its contract. Assumes nothing.
-use Rattle.exports.proofs.CallCases.{survey-cases}
+-- `exports::genduwal_survey` meets its contract: code and words are those of the answer of the call beneath. Assumes nothing.
 use borrow.Author.Needs.{needs}
+use Rattle.exports.proofs.CallCases.{answered-by, survey-is}
 use Rattle.exports.proofs.genduwal_survey.Statement.{statement}
 use Rattle.exports.proofs.genduwal_survey.Tie as tie
 
 survey-requires : tie.Need-survey-requires
 survey-requires c κs = search needs
 
-enum-known-found : tie.Need-enum-known-found
-enum-known-found c = search needs
-
-refusal-number-requires : tie.Need-refusal-number-requires
-refusal-number-requires c κs = search needs
-
-enum-told : tie.Need-enum-told
-enum-told c = search needs
-
-put-survey-requires : tie.Need-put-survey-requires
-put-survey-requires c κs = search needs
+survey-code-requires : tie.Need-survey-code-requires
+survey-code-requires c κs = search needs
 
 returns : tie.Need-returns
-returns c = search survey-cases
-
-returns-2 : tie.Need-returns-2
-returns-2 c = search survey-cases
+returns c =
+    let called = c .before .before .survey .ensures in
+    answered-by (survey-is called) (c .survey-code .ensures)
 
 pub genduwal-survey-spec : {M : Type 1} → statement M
-genduwal-survey-spec =
-    tie.close
-    (tie.spec
-    survey-requires
-    enum-known-found
-    refusal-number-requires
-    enum-told
-    put-survey-requires
-    returns
-    returns-2)
+genduwal-survey-spec = tie.close (tie.spec survey-requires survey-code-requires returns)

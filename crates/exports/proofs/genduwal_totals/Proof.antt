@@ -1,42 +1,19 @@
--- `exports::genduwal_totals` meets its contract. Assumes nothing.
-use Rattle.exports.proofs.CallCases.{totals-cases}
+-- `exports::genduwal_totals` meets its contract: code and words are those of the answer of the call beneath. Assumes nothing.
 use borrow.Author.Needs.{needs}
+use Rattle.exports.proofs.CallCases.{answered-by}
 use Rattle.exports.proofs.genduwal_totals.Statement.{statement}
 use Rattle.exports.proofs.genduwal_totals.Tie as tie
 
 totals-requires : tie.Need-totals-requires
 totals-requires c κs = search needs
 
-enum-known-totals : tie.Need-enum-known-totals
-enum-known-totals c = search needs
-
-refusal-number-requires : tie.Need-refusal-number-requires
-refusal-number-requires c κs = search needs
-
-enum-known-totals-2 : tie.Need-enum-known-totals-2
-enum-known-totals-2 c = search needs
-
-element-write-answer : tie.Need-element-write-answer
-element-write-answer c = search needs
-
-element-write-answer-2 : tie.Need-element-write-answer-2
-element-write-answer-2 c = search needs
+totals-code-requires : tie.Need-totals-code-requires
+totals-code-requires c κs = search needs
 
 returns : tie.Need-returns
-returns c = search totals-cases
-
-returns-2 : tie.Need-returns-2
-returns-2 c = search totals-cases
+returns c =
+    let called = c .before .before .totals .ensures in
+    answered-by called (c .totals-code .ensures)
 
 pub genduwal-totals-spec : {M : Type 1} → statement M
-genduwal-totals-spec =
-    tie.close
-    (tie.spec
-    totals-requires
-    enum-known-totals
-    refusal-number-requires
-    enum-known-totals-2
-    element-write-answer
-    element-write-answer-2
-    returns
-    returns-2)
+genduwal-totals-spec = tie.close (tie.spec totals-requires totals-code-requires returns)

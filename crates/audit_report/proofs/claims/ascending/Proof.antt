@@ -3,8 +3,8 @@
 use borrow.Author.Needs.{needs}
 use mathlib.Core.Path.{subst}
 use mathlib.Core.Bool.{false≢true}
-use Rattle.differences.specs.Differences.{runsOfBytes, Ordered}
-use Rattle.differences.specs.declared.Order.{Order}
+use Rattle.report_runs.specs.ReportRuns.{runsOfBytes, Ordered}
+use Rattle.report_runs.specs.declared.Order.{Order}
 use Rattle.audit_report.proofs.claims.ascending.Statement.{statement}
 use Rattle.audit_report.proofs.claims.ascending.Tie as tie
 

@@ -1,7 +1,7 @@
 -- `bench_text::writing::put_header` meets its contract: its fields one after the other.
 -- Assumes nothing.
 use borrow.Author.Needs.{needs}
-use Rattle.bench_text.proofs.OutputFileLaws.{header-put}
+use Rattle.bench_text.proofs.HeaderLaws.{header-put}
 use Rattle.bench_text.proofs.writing.put_header.Statement.{statement}
 use Rattle.bench_text.proofs.writing.put_header.Tie as tie
 

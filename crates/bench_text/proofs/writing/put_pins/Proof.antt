@@ -4,7 +4,8 @@ use borrow.Author.Needs.{needs}
 use Prim.Native.Nat.{_-_}
 use lib.ListN.{length}
 use Rattle.bench_text.proofs.GateLaws.{PutSoFar, put-start, put-inside, put-length, put-end, put-room, put-fits}
-use Rattle.bench_text.proofs.GateLaws.{put-stop, put-name, put-less, put-again}
+use Rattle.bench_text.proofs.GateLaws.{put-stop, put-again}
+use Rattle.bench_lines.proofs.PinWalkLaws.{pin-name, pin-less}
 use Rattle.bench_text.proofs.writing.put_pins.Statement.{statement}
 use Rattle.bench_text.proofs.writing.put_pins.Tie as tie
 
@@ -35,7 +36,7 @@ enum-known-pin : tie.Need-enum-known-pin Inv-loop μ-loop
 enum-known-pin c = search needs
 
 net-at-requires : tie.Need-net-at-requires Inv-loop μ-loop
-net-at-requires c κs = search (put-name, needs)
+net-at-requires c κs = search (pin-name, needs)
 
 put-requires : tie.Need-put-requires Inv-loop μ-loop
 put-requires c κs = search (put-room, needs)
@@ -44,7 +45,7 @@ add-write : tie.Need-add-write Inv-loop μ-loop
 add-write c = search (put-fits, needs)
 
 loop-less : tie.Need-loop-less Inv-loop μ-loop
-loop-less c = search (put-less, needs)
+loop-less c = search (pin-less, needs)
 
 loop-again : tie.Need-loop-again Inv-loop μ-loop
 loop-again c = search (put-again, needs)

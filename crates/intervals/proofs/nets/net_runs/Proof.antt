@@ -1,19 +1,22 @@
 -- `intervals::nets::net_runs` meets its contract: the runs of the nets so far stand in the words.
 -- Assumes nothing.
 use Prim.Native.Nat.{_-_}
+use mathlib.Core.Path.{_≡_}
+use borrow.Author.Needs.{needs}
+use lib.ListN.{length}
 use Rattle.intervals.proofs.NetSteps.{NetsDone, gate-cases, nets-more}
 use Rattle.intervals.proofs.nets.net_runs.Statement.{statement}
 use Rattle.intervals.proofs.nets.net_runs.Tie as tie
 
 abbrev Inv-loop : tie.InvT-loop
 Inv-loop netlist positions counts masks shape starts₀ words₀ first net₀ start₀ starts words net start =
-    NetsDone netlist positions counts masks shape words₀ starts₀ first words starts net start
+    NetsDone netlist positions counts masks shape words₀ starts₀ first words starts net start × (length words ≡ length words₀)
 
 abbrev μ-loop : tie.MeasureT-loop
 μ-loop netlist positions counts masks shape starts₀ words₀ first net₀ start₀ starts words net start = shape .nets - net
 
 loop-holds : tie.Need-loop-holds Inv-loop μ-loop
-loop-holds c = search gate-cases
+loop-holds c = (search gate-cases, search needs)
 
 gate-part-requires : tie.Need-gate-part-requires Inv-loop μ-loop
 gate-part-requires c κs = search gate-cases
@@ -57,8 +60,10 @@ loop-less c = search gate-cases
 loop-again : tie.Need-loop-again Inv-loop μ-loop
 loop-again c =
     let call = c .before .before .before .before .before in
-    let at = call .before .before .before .before in
-    nets-more (at .before .before .before .loop .inv) (at .before .if1 .taken) (at .gate-part .ensures) (call .add-gate .ensures) (c .before .c .given .1)
+    let at = call .before .before .before .before in (
+      nets-more (at .before .before .before .loop .inv .0) (at .before .if1 .taken) (at .gate-part .ensures) (call .add-gate .ensures) (c .before .c .given .1),
+      search needs,
+    )
 
 same-length-2 : tie.Need-same-length-2 Inv-loop μ-loop
 same-length-2 c = search gate-cases

@@ -2,7 +2,7 @@
 -- Assumes nothing.
 use mathlib.Core.Path.{refl}
 use native.Mathlib.Omega.{arith}
-use Rattle.load.proofs.ByteSteps.{size-small}
+use Rattle.load.proofs.SizeLaws.{size-small}
 use borrow.Author.Needs.{needs}
 use Rattle.load.proofs.inner.vector_size.Statement.{statement}
 use Rattle.load.proofs.inner.vector_size.Tie as tie

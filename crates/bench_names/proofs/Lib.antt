@@ -1,0 +1,2 @@
+-- Names looked up by their keys.
+pub mod NameNetLaws

@@ -1,0 +1,2 @@
+-- The nets of names.
+pub mod NameNets

@@ -1,0 +1,2 @@
+-- Outputs written one after the other.
+pub mod OutputFileLaws

@@ -1,0 +1,2 @@
+-- Records of outputs.
+pub mod OutputWriting

@@ -1,0 +1,61 @@
+-- `claim_words::with_kind` meets its contract: one text for each case of what is wrong.
+-- Assumes nothing.
+use borrow.Author.Needs.{needs}
+use mathlib.Core.Path.{ap, sym}
+use Rattle.claim_words.specs.ClaimWords.{kindText}
+use Rattle.text.proofs.LineLaws.{as-part}
+use Rattle.claim_words.proofs.with_kind.Statement.{statement}
+use Rattle.claim_words.proofs.with_kind.Tie as tie
+
+enum-told : tie.Need-enum-told
+enum-told c = search needs
+
+slice-aggregate-with-text : tie.Need-slice-aggregate-with-text
+slice-aggregate-with-text c = search needs
+
+with-text-requires : tie.Need-with-text-requires
+with-text-requires c κs = search needs
+
+enum-told-2 : tie.Need-enum-told-2
+enum-told-2 c = search needs
+
+slice-aggregate-with-text-2 : tie.Need-slice-aggregate-with-text-2
+slice-aggregate-with-text-2 c = search needs
+
+with-text-requires-2 : tie.Need-with-text-requires-2
+with-text-requires-2 c κs = search needs
+
+enum-told-3 : tie.Need-enum-told-3
+enum-told-3 c = search needs
+
+slice-aggregate-with-text-3 : tie.Need-slice-aggregate-with-text-3
+slice-aggregate-with-text-3 c = search needs
+
+with-text-requires-3 : tie.Need-with-text-requires-3
+with-text-requires-3 c κs = search needs
+
+returns : tie.Need-returns
+returns c = as-part _ _ _ _ (c .with-text .ensures) (sym (ap kindText (c .before .before .enum-told .given .1)))
+
+returns-2 : tie.Need-returns-2
+returns-2 c = as-part _ _ _ _ (c .with-text2 .ensures) (sym (ap kindText (c .before .before .enum-told2 .given .1)))
+
+returns-3 : tie.Need-returns-3
+returns-3 c = as-part _ _ _ _ (c .with-text3 .ensures) (sym (ap kindText (c .before .before .enum-told3 .given .1)))
+
+pub with-kind-spec : {M : Type 1} → statement M
+with-kind-spec =
+    tie.close
+    (tie.spec
+    enum-told
+    slice-aggregate-with-text
+    with-text-requires
+    enum-told-2
+    slice-aggregate-with-text-2
+    with-text-requires-2
+    enum-told-3
+    slice-aggregate-with-text-3
+    with-text-requires-3
+    returns
+    returns-2
+    returns-3)

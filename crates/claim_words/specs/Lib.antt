@@ -1,0 +1,2 @@
+-- The words of the lines on a refused report.
+pub mod ClaimWords

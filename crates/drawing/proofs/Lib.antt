@@ -1,0 +1,2 @@
+-- A vector as it is drawn.
+pub mod DrawSteps

@@ -1,0 +1,3 @@
+-- Vectors that are drawn.
+pub mod Drawing
+pub mod DrawnVector

@@ -1,0 +1,3 @@
+-- The records of a test file, and one block of them.
+pub mod RecordsTaken
+pub mod FileBlocks

@@ -1,0 +1,75 @@
+// The test stage with up to 64 records of a test file at a time, with the lists of a block in lent memory. Each caller proves what it requires.
+ghost use Rattle.file_block.specs.FileBlocks.{BlocksReady, BlockDone};
+use block_marks::inner::Batch;
+use block_marks::inner::marks::fill_block;
+use block_marks::inner::reading::read_block;
+use block_stage::inner::apply_block;
+use coverage::inner::StageAnswer;
+use test_records::inner::RecordAnswer;
+
+// The number of records taken before the first that was refused, all of them if none was, and what they answer.
+pub struct TakenRecords {
+    pub taken: usize,
+    pub answer: StageAnswer,
+}
+
+// The numbers of a netlist, and the class of a file's records.
+pub struct FileNumbers {
+    pub inputs: usize,
+    pub nets: usize,
+    pub outputs: usize,
+    pub class: u32,
+}
+
+// The test stage with the records of a block, with which a part of the file begins: up to 64 of them, or to the first that is refused.
+pub fn take_block(
+    table: &[u16; 5120],
+    places: &[u64; 4224],
+    file: FileNumbers,
+    part: &[u8],
+    ups: &mut [u32],
+    downs: &mut [u32],
+    store: &mut [u64],
+    work: &mut [u64],
+) -> TakenRecords
+    requires { ⌜ BlocksReady (now table) (now places) file (now ups) (now downs) (now store) (now work) ⌝ }
+    ensures { λ r. ⌜ BlockDone r (now (table .entry)) (now (places .entry)) file (now (part .entry)) (now (ups .entry)) (now (ups .exit))
+        (now (downs .entry)) (now (downs .exit)) (now (store .entry)) (now (store .exit)) (now (work .entry)) (now (work .exit)) ⌝ }
+{
+    let mut vectors = [0u64; 128];
+    let mut marks = [0u64; 384];
+    let read = read_block(part, file.inputs, &mut vectors);
+    let batch = Batch {
+        inputs: file.inputs,
+        nets: file.nets,
+        outputs: file.outputs,
+        records: read.records,
+        class: file.class,
+    };
+    fill_block(table, places, batch, &vectors, ups, downs, &mut marks, work);
+    let applied = apply_block(table, places, ups, downs, &marks, batch, store, work);
+    let said = applied.answer;
+    match said {
+        StageAnswer::Refused(why) => {
+            let answer = StageAnswer::Refused(why);
+            TakenRecords {
+                taken: applied.taken,
+                answer,
+            }
+        }
+        StageAnswer::Taken => {
+            let taken = read.records;
+            let after = read.after;
+            match after {
+                RecordAnswer::Refused(why) => {
+                    let answer = StageAnswer::Refused(why);
+                    TakenRecords { taken, answer }
+                }
+                RecordAnswer::Legal => {
+                    let answer = StageAnswer::Taken;
+                    TakenRecords { taken, answer }
+                }
+            }
+        }
+    }
+}

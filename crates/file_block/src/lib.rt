@@ -1,0 +1,2 @@
+// One block of a test file: its records are read, marked and applied to a store.
+pub mod inner;

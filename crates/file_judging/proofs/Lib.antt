@@ -1,0 +1,2 @@
+-- The length of a test file, and the place Report.
+pub mod JudgingCases

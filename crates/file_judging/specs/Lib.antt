@@ -1,0 +1,2 @@
+-- The end of an audit.
+pub mod FileJudging

@@ -1,0 +1,2 @@
+-- All records of a test file.
+pub mod FileRecords

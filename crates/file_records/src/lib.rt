@@ -1,0 +1,2 @@
+// The records of a test file on a store.
+pub mod inner;

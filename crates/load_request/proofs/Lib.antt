@@ -1,0 +1,2 @@
+-- The cases of load.bin.
+pub mod RequestCases

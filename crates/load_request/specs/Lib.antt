@@ -1,0 +1,3 @@
+-- Load requests.
+pub mod Requests
+pub mod AskedLoads

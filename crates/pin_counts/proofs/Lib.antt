@@ -1,0 +1,2 @@
+-- The cases of a gate's pin count.
+pub mod FitCases

@@ -1,0 +1,2 @@
+-- Runs of places one after the other.
+pub mod RunsOfPlaces

@@ -1,0 +1,2 @@
+-- The bytes of a report.
+pub mod Layout

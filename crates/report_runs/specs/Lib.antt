@@ -1,0 +1,2 @@
+-- Runs in the bytes of a report.
+pub mod ReportRuns

@@ -1,0 +1,2 @@
+-- Shares of the paths as text.
+pub mod Shares

@@ -1,0 +1,2 @@
+-- A test record as it is written.
+pub mod TestPutLaws

@@ -1,0 +1,2 @@
+// A test record written, for our own crates.
+pub mod inner;
