@@ -3,27 +3,28 @@
 use mathlib.Core.Path.{_≡_, refl, ap, ap₂, sym, _∙_, subst}
 use mathlib.Core.Bool.{Bool, true, _&&_, _||_}
 use mathlib.Core.List.{List, [], _∷_, map, map-map}
-use mathlib.Core.Logic.{⊎-elim, inl}
-use Prim.Native.Nat.{ℕ, suc, _+_, _-_, _*_, _^_, _≤_, _<_}
+use Prim.Native.Nat.{ℕ, suc, _-_, _^_, _≤_, _<_}
 use native.Mathlib.Omega.{arith}
 use lib.Dec.{T}
 use lib.ListN.{length, getD, length-map}
 use Rattle.model.specs.Base.{anyOf, bit}
 use Rattle.model.specs.Netlist.{Netlist, nets, gateOf, pinsOf, pinNet}
-use Rattle.model.specs.Detect.{nonRobust, robust, Test, Evaluation, noEvaluation, pinEvaluations, gateValue, gateSteady, isOpen, openPin}
+use Rattle.model.specs.Detect.{Class, Test, Evaluation, noEvaluation, pinEvaluations, gateValue, gateSteady, isOpen, openPin}
 use Rattle.model.specs.Read.{kindOf, pinsFit}
 use Rattle.model.proofs.WellFormed.{WellFormed}
 use Rattle.model.proofs.ListLaws.{getD-map-in}
 use Rattle.model.proofs.NetLaws.{evaluate-gate}
-use Rattle.block.specs.Words.{WordIs, bitsAt, wordsAt, unequal, flipWord, pinWords, pinWord, Filled, GateIs, SeenAt, SeenIs, ValueIs, OpensFilled}
-use Rattle.block.specs.Robust.{evaluationAt, HeldIs, SteadyIs, RobustFilled}
-use Rattle.block.specs.Table.{GateRow, CircuitTable}
-use Rattle.block.specs.Block.{BlockOf, evaluated, FactWords, StateWords, OpenWords}
+use Rattle.block.specs.Words.{WordIs, bitsAt, wordsAt, unequal, flipWord, pinWords, pinWord, GateIs, SeenAt, SeenIs, ValueIs}
+use Rattle.block.specs.Robust.{evaluationAt, HeldIs, SteadyIs}
+use Rattle.block.specs.NetStates.{PinOpenIs}
+use Rattle.block.specs.Table.{GateRow}
+use Rattle.block.specs.Block.{BlockOf, evaluated, FactWords, StateWords}
 use Rattle.block.specs.declared.inner.gates.Gate.{Gate}
 use Rattle.block.specs.declared.inner.gates.Seen.{Seen}
-use Rattle.block.proofs.WordLaws.{same-place, column}
+use Rattle.block.specs.declared.inner.gates.Looks.{Looks}
+use Rattle.block.proofs.WordLaws.{column}
 use Rattle.block.proofs.OpenWordCases.{ones-at}
-use Rattle.block.proofs.GateTableLaws.{row-few, count-is, kind-is, kind-fits, pin-is, lower, pins-are}
+use Rattle.block.proofs.GateTableLaws.{count-is, kind-is, kind-fits, pin-is, lower, pins-are}
 
 -- the nets at the pins of a gate
 abbrev atPins : Netlist → Test → ℕ → List Evaluation
@@ -35,7 +36,7 @@ any-same f g top h [] l = refl
 any-same f g top h (p ∷ ps) l =
     ap₂ (λ x y. x || y) (h p (l 0 (omega arith))) (any-same f g top h ps (λ q m. l (suc q) (omega arith)))
 
-any-map : (f : Evaluation → Bool) (g : ℕ → Evaluation) (ns : List ℕ) → anyOf (λ n. f (g n)) ns ≡ anyOf f (map g ns)
+pub any-map : {A : Type 0} (f : A → Bool) (g : ℕ → A) (ns : List ℕ) → anyOf (λ n. f (g n)) ns ≡ anyOf f (map g ns)
 any-map f g [] = refl
 any-map f g (n ∷ ns) = ap (λ b. f (g n) || b) (any-map f g ns)
 
@@ -115,12 +116,13 @@ module _ {N : Netlist} {table : List ℕ} {net : ℕ} {g : Gate} (w : WellFormed
         m .at (atPins N (tests t) net) t (omega arith) (loose-seen s t h .ones) (held-there a t h)
         ∙ ap (λ k. gateSteady k (atPins N (tests t) net)) (kind-is w low high r i) ∙ sym (ap (λ (e : Evaluation). e .steady) (net-is t))
 
-    -- the robustly open pins
-    pub robust-true : BlockOf tests robust n → {last loose : Seen} → SeenIs table g (g .flip) lasts last → SeenIs table g (2 ^ 64 - 1) steadies loose
-        → {opens opens′ : List ℕ} → RobustFilled table g last loose firsts lasts steadies opens opens′
-        → (p : ℕ) → p < length (pinsOf N net) → WordIs (getD opens′ (g .first + p) 0) (λ t. openPin N (tests t) net p) n
+    -- the open pins in a class
+    pub open-true : {c : Class} → BlockOf tests c n → {looks : Looks} → SeenIs table g (g .flip) lasts (looks .last) → SeenIs table g (2 ^ 64 - 1) steadies (looks .loose)
+        → {opens : ℕ → ℕ}
+        → ((p : ℕ) → p < g .pins → PinOpenIs c (g .kind) looks (pinWord table g firsts p) (pinWord table g lasts p) (pinWord table g steadies p) (opens p))
+        → (p : ℕ) → p < length (pinsOf N net) → WordIs (opens p) (λ t. openPin N (tests t) net p) n
     unfolding openPin
-    robust-true b {last} {loose} s₁ s₂ f p l t h =
+    open-true {c} b {looks} s₁ s₂ f p l t h =
         let ns = atPins N (tests t) net in
         let q : p < length ns = rw (pins-length t) l in
         let e : evaluationAt (pinWord table g firsts p) (pinWord table g lasts p) (pinWord table g steadies p) t ≡ getD ns p noEvaluation =
@@ -129,41 +131,7 @@ module _ {N : Netlist} {table : List ℕ} {net : ℕ} {g : Gate} (w : WellFormed
           underV2 = pin-fact (λ e. e .underV2) lasts (x .last) t h p l j;
           steady = pin-fact (λ e. e .steady) steadies (x .steady) t h p l j;
         }) in
-        f .each p (rw (count-is w low high r i) l) .at ns p t (omega arith) q
+        f p (rw (count-is w low high r i) l) .at ns p t (omega arith) q
         (subst (λ k. T (pinsFit (g .kind) k)) (sym (pins-length t)) (kind-fits w low high r i))
-        (flip-seen t (seen-facts (λ e. e .underV2) lasts (x .last) t h (g .flip) last s₁)) (loose-seen s₂ t h) e
-        ∙ ap (λ k. isOpen robust k ns p) (kind-is w low high r i) ∙ ap (λ c. isOpen c (gateOf N net .kind) ns p) (sym (b .inClass t h))
-
-  -- the open pins in class 1
-  pub open-true : BlockOf tests nonRobust n → {values : List ℕ} → FactWords (λ e. e .underV2) N tests n net values
-      → {seen : Seen} → SeenIs table g (g .flip) values seen → {opens opens′ : List ℕ} → OpensFilled table g seen values opens opens′
-      → (p : ℕ) → p < length (pinsOf N net) → WordIs (getD opens′ (g .first + p) 0) (λ t. openPin N (tests t) net p) n
-  unfolding openPin
-  open-true b {values} x {seen} s f p l t h =
-      let ns = atPins N (tests t) net in
-      let q : p < length ns = rw (pins-length t) l in
-      f .each p (rw (count-is w low high r i) l) .at ns p t (omega arith) q
-      (flip-seen t (seen-facts (λ e. e .underV2) values x t h (g .flip) seen s)) (pin-fact (λ e. e .underV2) values x t h p l)
-      ∙ ap (λ k. isOpen nonRobust k ns p) (kind-is w low high r i) ∙ ap (λ c. isOpen c (gateOf N net .kind) ns p) (sym (b .inClass t h))
-
--- the open words of one gate more
-pub opens-more : {N : Netlist} {table : List ℕ} {inputs netCount net : ℕ} {g : Gate} (c : CircuitTable N table inputs netCount) → net < netCount → inputs ≤ net
-    → GateIs table net g → (tests : ℕ → Test) (n : ℕ) {P : ℕ → ℕ → Type 0} {opens opens′ : List ℕ} → Filled (g .first) (g .pins) P opens opens′
-    → ((p : ℕ) → p < length (pinsOf N net) → WordIs (getD opens′ (g .first + p) 0) (λ t. openPin N (tests t) net p) n)
-    → OpenWords N tests n net opens → OpenWords N tests n (net + 1) opens′
-opens-more {N} {table} {inputs} {netCount} {net} {g} c t fi i tests n {P} {opens} {opens′} f new z = record {
-  words = λ k p l h m.
-      ⊎-elim
-      (λ (e : k ≡ net).
-      subst (λ j. p < length (pinsOf N j) → WordIs (getD opens′ (8 * j + p) 0) (λ t. openPin N (tests t) j p) n) (sym e)
-      (subst (λ a. p < length (pinsOf N net) → WordIs (getD opens′ (a + p) 0) (λ t. openPin N (tests t) net p) n) (i .firstIs) (new p)) m)
-      (λ (q : k ≡ net → ⊥).
-      let j : k < net = before k net q h in
-      let r = c .rows k l (omega (arith, c .netsAre)) in
-      let few : p < 8 = omega (arith, row-few r, r .pinCount) in
-      subst (λ v. WordIs v (λ t. openPin N (tests t) k p) n) (sym (f .same (8 * k + p) (inl (omega (arith, i .firstIs))))) (z .words k p l j m))
-      (same-place net k);
-}
-  where
-    before : (k net : ℕ) → (k ≡ net → ⊥) → k < net + 1 → k < net
-    before k net q h = omega arith
+        (flip-seen t (seen-facts (λ e. e .underV2) lasts (x .last) t h (g .flip) (looks .last) s₁)) (loose-seen s₂ t h) e
+        ∙ ap (λ k. isOpen c k ns p) (kind-is w low high r i) ∙ ap (λ d. isOpen d (gateOf N net .kind) ns p) (sym (b .inClass t h))

@@ -163,8 +163,3 @@ always (suc (suc (suc (suc (suc (suc (suc (suc (suc k))))))))) ns p n3 n4 n5 n6 
 pub open-others : (kind : ℕ) (seen : Seen) (value : ℕ) → (kind ≡ 3 → ⊥) → (kind ≡ 4 → ⊥) → (kind ≡ 5 → ⊥) → (kind ≡ 6 → ⊥)
     → OpenIs kind seen value (2 ^ 64 - 1)
 open-others kind seen value n3 n4 n5 n6 = record { at = λ ns p t h l s v. ones-at t h ∙ always kind ns p n3 n4 n5 n6 }
-
--- the word of the net at a pin
-pub open-at : (values : List ℕ) {kind : ℕ} {seen : Seen} {net place r : ℕ} → net ≡ place → OpenIs kind seen (getD values net 0) r
-    → OpenIs kind seen (getD values place 0) r
-open-at values {kind} {seen} {net} {place} {r} e o = subst (λ n. OpenIs kind seen (getD values n 0) r) e o

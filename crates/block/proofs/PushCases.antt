@@ -14,9 +14,8 @@ use lib.Seq.{getD-set-same, getD-set-other}
 use Rattle.model.specs.Base.{bit, numbersFrom}
 use Rattle.model.proofs.BoolLaws.{le-or-lt}
 use Rattle.packed_pins.specs.Packed.{oneWhere}
-use Rattle.block.specs.Words.{wordsAt, Marked}
-use Rattle.block.specs.Lists.{entries, pushIf, someActive, entryOf, ListRoom, Pushed}
-use Rattle.block.specs.declared.inner.gates.Active.{Active}
+use Rattle.block.specs.Words.{wordsAt}
+use Rattle.block.specs.Lists.{entries, pushIf, ListRoom, Pushed}
 use Rattle.block.proofs.WordBitLaws.{zero-bit}
 use Rattle.block.proofs.WordLaws.{same-place}
 use Rattle.block.proofs.TruthLaws.{keeps, none-yet}
@@ -188,16 +187,3 @@ module _ (list₀ lens₀ : List ℕ) (word : ℕ) (f : ℕ → ℕ) where
     where
       all-pushed : (t : ℕ) → (bit word t && not (bit left t)) ≡ bit word t
       all-pushed t = ap (λ b. bit word t && not b) (ap (λ w. bit w t) e ∙ zero-bit t) ∙ keeps (bit word t)
-
--- no record passes the test: nothing is pushed
-pub push-none : {list lens : List ℕ} {b : ℕ → Bool} {f : ℕ → ℕ} → ((t : ℕ) → b t ≡ false) → Pushed list lens list lens b f
-push-none {list} {lens} {b} {f} dead = record {
-  sameLength = refl;
-  sameRecords = refl;
-  lists = λ t h. ap (λ v. pushIf v (f t) (entries list lens t)) (sym (dead t));
-  counts = λ t h. let z : getD lens t 0 ≡ getD lens t 0 + 0 = omega arith in z ∙ ap (λ v. getD lens t 0 + oneWhere v) (sym (dead t));
-}
-
-pub push-dead : {list lens rows : List ℕ} {pins : ℕ} {active : Active} (net : ℕ) → Marked rows pins active → active .some ≡ 0
-    → Pushed list lens list lens (someActive rows pins) (entryOf net rows pins)
-push-dead net m e = push-none (λ t. sym (m .some t) ∙ ap (λ w. bit w t) e ∙ zero-bit t)

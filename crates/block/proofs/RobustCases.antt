@@ -1,4 +1,4 @@
--- The robustly open words of a gate's pins, kind by kind.
+-- The robustly open words of a gate's pins, kind by kind, and the open words in a class.
 -- Assumes nothing.
 use mathlib.Core.Path.{_≡_, refl, ap, ap₂, sym, _∙_, subst}
 use mathlib.Core.Bool.{Bool, true, false, _&&_, _||_, not, Bool·beq}
@@ -10,13 +10,15 @@ use lib.Bits.{bitAnd, bitOr, bitXor}
 use lib.Dec.{T}
 use lib.ListN.{length, getD}
 use Rattle.model.specs.Base.{allOf, bit}
-use Rattle.model.specs.Detect.{robust, Evaluation, noEvaluation, others, robustSides, differs, isOpen}
-use Rattle.model.specs.Read.{kindOf, pinsFit}
+use Rattle.model.specs.Detect.{nonRobust, robust, Evaluation, noEvaluation, others, robustSides, differs, isOpen}
+use Rattle.model.specs.Read.{kindOf, classOf, pinsFit}
 use Rattle.packed_pins.proofs.KindCases.{others-map}
 use Rattle.records.proofs.BitLaws.{and-bit, or-bit, xor-bit}
-use Rattle.block.specs.Words.{unequal, flipWord, SeenAt, AloneIs}
+use Rattle.block.specs.Words.{unequal, flipWord, SeenAt, AloneIs, OpenIs}
 use Rattle.block.specs.Robust.{evaluationAt, RobustIs}
+use Rattle.block.specs.NetStates.{PinOpenIs}
 use Rattle.block.specs.declared.inner.gates.Seen.{Seen}
+use Rattle.block.specs.declared.inner.gates.Looks.{Looks}
 use Rattle.block.proofs.TruthLaws.{keeps, and-turn}
 use Rattle.block.proofs.WordBitLaws.{not-bit, zero-bit}
 use Rattle.block.proofs.OpenWordCases.{ones-at, one-pin, fact-length, fact-at}
@@ -186,9 +188,18 @@ module _ (last loose : Seen) (flip v1 v2 steady calm clear : ℕ) (small₂ : v2
         and-bit (bitXor v1 v2) calm t ∙ ap₂ (λ x y. x && y) (moves ns p t h l e) (calm-sides ns p t h l e s₂) ∙ rest-open kind ns p n3 n4 n5 n6 q l b;
   }
 
--- the words of the net at a pin
-pub robust-at : (firsts lasts steadies : List ℕ) {kind : ℕ} {last loose : Seen} {net place r : ℕ} → net ≡ place
-    → RobustIs kind last loose (getD firsts net 0) (getD lasts net 0) (getD steadies net 0) r
-    → RobustIs kind last loose (getD firsts place 0) (getD lasts place 0) (getD steadies place 0) r
-robust-at firsts lasts steadies {kind} {last} {loose} {net} {place} {r} e o =
-    subst (λ n. RobustIs kind last loose (getD firsts n 0) (getD lasts n 0) (getD steadies n 0) r) e o
+-- the open word of a pin in a class
+module _ {class kind : ℕ} {looks : Looks} {v1 v2 steady r : ℕ} where
+  pub class-robust : class ≡ 2 → RobustIs kind (looks .last) (looks .loose) v1 v2 steady r → PinOpenIs (classOf class) kind looks v1 v2 steady r
+  class-robust e o = rw e (record { at = λ ns p t h l f s₁ s₂ v. o .at ns p t h l f s₁ s₂ v })
+
+  pub class-plain : (class ≡ 2 → ⊥) → OpenIs kind (looks .last) v2 r → PinOpenIs (classOf class) kind looks v1 v2 steady r
+  class-plain n o =
+      subst (λ c. PinOpenIs c kind looks v1 v2 steady r) (other class n)
+      (record { at = λ ns p t h l f s₁ s₂ v. o .at ns p t h l s₁ (ap (λ (e : Evaluation). e .underV2) v) })
+    where
+      other : (k : ℕ) → (k ≡ 2 → ⊥) → nonRobust ≡ classOf k
+      other zero n = refl
+      other (suc zero) n = refl
+      other (suc (suc zero)) n = absurd (n refl)
+      other (suc (suc (suc k))) n = refl

@@ -1,52 +1,31 @@
--- Spreading vectors over the words of their inputs.
+-- Words with a bit for each record: those of the first records, and bits flipped by a mask.
 -- Assumes nothing.
 use mathlib.Core.Path.{_≡_, refl, ap, ap₂, sym, _∙_, subst}
-use mathlib.Core.Bool.{Bool, true, false, _&&_, not}
+use mathlib.Core.Bool.{Bool, true, _&&_, not}
 use mathlib.Core.List.{List}
 use mathlib.Core.Logic.{⊎-elim}
-use Prim.Native.Nat.{ℕ, zero, suc, _+_, _-_, _*_, _%_, _^_, _≤_, _<_}
-use native.Mathlib.Nat.{mod-eq-of-lt, div-eq-of-lt, lt-of-lt-of-le, le-of-lt}
+use Prim.Native.Nat.{ℕ, zero, suc, _-_, _*_, _%_, _^_, _≤_, _<_}
+use native.Mathlib.Nat.{mod-eq-of-lt}
 use native.Mathlib.Omega.{arith}
 use lib.Bits.{bitAnd, bitXor}
 use lib.Count.{trailingZeros}
-use lib.Dec.{eqb, leb}
 use lib.ListN.{length, getD, set, length-set, replicate}
-use lib.Pow.{pow-lt, pow-pos, pow-mono}
+use lib.Pow.{pow-lt, pow-pos}
 use lib.Seq.{getD-set-same, getD-set-other}
 use Rattle.model.specs.Base.{bit}
-use Rattle.model.proofs.BoolLaws.{le-or-lt, le-true, lt-false}
 use Rattle.records.proofs.BitLaws.{xor-bit}
 use Rattle.block.specs.Words.{unequal}
-use Rattle.block.specs.Spread.{Flipped, SpreadIs}
-use Rattle.block.proofs.WordBitLaws.{not-bit, zero-bit, ones-bits}
+use Rattle.block.specs.Spread.{Flipped}
+use Rattle.block.proofs.WordBitLaws.{zero-bit, ones-bits}
 use Rattle.block.proofs.WordLaws.{same-place}
 use Rattle.block.proofs.TruthLaws.{keeps, none-yet, unequal-none}
 use Rattle.block.proofs.LowBitLaws.{low-in, low-there, less-left, others-stay, low-gone}
 
--- a number is zero from its power on
-high-bit : (k a s : ℕ) → a < 2 ^ k → k ≤ s → bit a s ≡ false
-high-bit k a s h l = ap (λ x. eqb (x % 2) 1) (div-eq-of-lt (lt-of-lt-of-le h (pow-mono l)))
-
 pub shifted : (t : ℕ) → t < 64 → (1 * 2 ^ t) % 2 ^ 64 ≡ 2 ^ t
 shifted t h = let m : 1 * 2 ^ t ≡ 2 ^ t = omega arith in rw (m, mod-eq-of-lt (pow-lt h))
 
-less-one : (w : ℕ) → 1 ≤ w → w - 1 < w
-less-one w h = omega arith
-
-pub below-power : (t : ℕ) → t < 64 → 2 ^ t - 1 < 2 ^ 64
-below-power t h = lt-of-lt-of-le (less-one (2 ^ t) (pow-pos t)) (pow-mono (le-of-lt h))
-
-pub from-bits : (t s : ℕ) → t < 64 → s < 64 → bit ((2 ^ 64 - 1) - (2 ^ t - 1)) s ≡ leb t s
-from-bits t s h l =
-    not-bit (2 ^ t - 1) s (below-power t h) l
-    ∙ ⊎-elim (λ (a : t ≤ s). ap not (high-bit t (2 ^ t - 1) s (less-one (2 ^ t) (pow-pos t)) a) ∙ sym (le-true t s a))
-    (λ (a : s < t). ap not (ones-bits t s a) ∙ sym (lt-false t s a)) (le-or-lt t s)
-
 pub shifted-some : (t : ℕ) → t < 64 → 1 ≤ (1 * 2 ^ t) % 2 ^ 64
 shifted-some t h = rw (shifted t h) (pow-pos t)
-
-pub from-word : (t : ℕ) → t < 64 → (s : ℕ) → s < 64 → bit ((2 ^ 64 - 1) - ((1 * 2 ^ t) % 2 ^ 64 - 1)) s ≡ leb t s
-from-word t h s l = ap (λ w. bit ((2 ^ 64 - 1) - (w - 1)) s) (shifted t h) ∙ from-bits t s h l
 
 pub first-all : (n : ℕ) → n ≡ 64 → (s : ℕ) → s < n → bit (2 ^ 64 - 1) s ≡ true
 first-all n e s h = ones-bits 64 s (omega arith)
@@ -130,76 +109,7 @@ module _ (words₀ : List ℕ) (changed mask : ℕ) where
         (ap (λ w. bit changed j && not (bit w j)) e ∙ ap (λ b. bit changed j && not b) (zero-bit j) ∙ keeps (bit changed j));
   }
 
--- After t records: bit s of a word is that of record s, and of the last record from t on
-abbrev pick : Bool → Bool → Bool → Bool
-pick true a b = a
-pick false a b = b
-
-pub record Spreading (vectors words : List ℕ) (first last n t : ℕ) : Type 0 where
-  pub toEnd : t ≤ n
-  pub room : length words ≡ 64
-  pub bits : (j : ℕ) → j < 64 → (s : ℕ) → s < 64 → bit (getD words j 0) s ≡ pick (leb t s) (bit last j) (bit (getD vectors (first + s) 0) j)
-
 pub zero-at : (n i : ℕ) → getD {A = ℕ} (replicate n 0) i 0 ≡ 0
 zero-at zero i = refl
 zero-at (suc n) zero = refl
 zero-at (suc n) (suc i) = zero-at n i
-
-pub spread-start : (vectors : List ℕ) (first n : ℕ) → Spreading vectors (replicate 64 0) first 0 n 0
-spread-start vectors first n = record {
-  toEnd = omega arith;
-  room = refl;
-  bits = λ j h s l.
-      ap (λ w. bit w s) (zero-at 64 j) ∙ zero-bit s
-      ∙ sym (ap (λ b. pick b (bit 0 j) (bit (getD vectors (first + s) 0) j)) (le-true 0 s (omega arith)) ∙ zero-bit j);
-}
-
-module _ {vectors words : List ℕ} {first last n t : ℕ} (x : Spreading vectors words first last n t) (few : n ≤ 64) (l : t < n) where
-  pub spread-step : (v : ℕ) → v ≡ getD vectors (first + t) 0 → (mask : ℕ) → ((s : ℕ) → s < 64 → bit mask s ≡ leb t s)
-      → (words′ : List ℕ) → Flipped words words′ (bitXor last v) mask → Spreading vectors words′ first v n (t + 1)
-  spread-step v ev mask m words′ f = record {
-    toEnd = omega arith;
-    room = f .sameLength ∙ x .room;
-    bits = λ j h s a.
-        f .bits j h s
-        ∙ ap₂ (λ p q. unequal p q) (x .bits j h s a) (ap₂ (λ p q. p && q) (xor-bit last v j) (m s a))
-        ∙ turn j s;
-  }
-    where
-      twice : (a b : Bool) → unequal a (unequal a b && true) ≡ b
-      twice true true = refl
-      twice true false = refl
-      twice false true = refl
-      twice false false = refl
-
-      none : (a b : Bool) → unequal a (b && false) ≡ a
-      none true true = refl
-      none true false = refl
-      none false true = refl
-      none false false = refl
-
-      turn : (j s : ℕ) → unequal (pick (leb t s) (bit last j) (bit (getD vectors (first + s) 0) j)) (unequal (bit last j) (bit v j) && leb t s)
-          ≡ pick (leb (t + 1) s) (bit v j) (bit (getD vectors (first + s) 0) j)
-      turn j s =
-          ⊎-elim
-          (λ (a : t + 1 ≤ s).
-          ap (λ b. unequal (pick b (bit last j) (bit (getD vectors (first + s) 0) j)) (unequal (bit last j) (bit v j) && b)) (le-true t s (omega arith))
-          ∙ twice (bit last j) (bit v j) ∙ sym (ap (λ b. pick b (bit v j) (bit (getD vectors (first + s) 0) j)) (le-true (t + 1) s a)))
-          (λ (a : s < t + 1).
-          ⊎-elim
-          (λ (b : t ≤ s).
-          let e : s ≡ t = omega arith in
-          ap (λ c. unequal (pick c (bit last j) (bit (getD vectors (first + s) 0) j)) (unequal (bit last j) (bit v j) && c)) (le-true t s b)
-          ∙ twice (bit last j) (bit v j) ∙ ap (λ w. bit w j) (ev ∙ ap (λ i. getD vectors (first + i) 0) (sym e))
-          ∙ sym (ap (λ c. pick c (bit v j) (bit (getD vectors (first + s) 0) j)) (lt-false (t + 1) s a)))
-          (λ (b : s < t).
-          ap (λ c. unequal (pick c (bit last j) (bit (getD vectors (first + s) 0) j)) (unequal (bit last j) (bit v j) && c)) (lt-false t s b)
-          ∙ none (bit (getD vectors (first + s) 0) j) (unequal (bit last j) (bit v j))
-          ∙ sym (ap (λ c. pick c (bit v j) (bit (getD vectors (first + s) 0) j)) (lt-false (t + 1) s a)))
-          (le-or-lt t s))
-          (le-or-lt (t + 1) s)
-
-pub spread-end : {vectors words : List ℕ} {first last n t : ℕ} → n ≤ 64 → n ≤ t → Spreading vectors words first last n t → SpreadIs vectors first n words
-spread-end {vectors} {words} {first} {last} {n} {t} few h x = record {
-  bits = λ j a s l. x .bits j a s (omega arith) ∙ ap (λ b. pick b (bit last j) (bit (getD vectors (first + s) 0) j)) (lt-false t s (omega arith));
-}

@@ -1,61 +1,21 @@
--- A gate's steadiness word: whether a pin is steady at the controlling value, then kind by kind.
+-- A gate's steadiness word, kind by kind.
 -- Assumes nothing.
 use mathlib.Core.Path.{_≡_, refl, ap, ap₂, sym, _∙_, subst}
 use mathlib.Core.Bool.{Bool, true, false, _&&_, _||_, not}
 use mathlib.Core.List.{List, map}
-use Prim.Native.Nat.{ℕ, zero, suc, _+_, _-_, _^_, _≤_, _<_}
-use native.Mathlib.Omega.{arith}
-use lib.Bits.{bitAnd, bitOr, bitXor}
-use lib.ListN.{getD}
+use Prim.Native.Nat.{ℕ, zero, suc, _-_, _^_, _<_}
+use lib.Bits.{bitOr}
 use Rattle.model.specs.Base.{allOf, anyOf, bit}
 use Rattle.model.specs.Detect.{Evaluation, gateSteady}
 use Rattle.model.specs.Read.{kindOf}
 use Rattle.packed_pins.proofs.KindCases.{allOf-map}
-use Rattle.records.proofs.BitLaws.{and-bit, or-bit, xor-bit}
-use Rattle.block.specs.Words.{unequal, flipWord, netsFrom}
-use Rattle.block.specs.Robust.{HeldIs, SteadyIs}
-use Rattle.block.specs.declared.inner.gates.Gate.{Gate}
+use Rattle.records.proofs.BitLaws.{or-bit}
+use Rattle.block.specs.Words.{unequal, flipWord}
+use Rattle.block.specs.Robust.{SteadyIs}
 use Rattle.block.proofs.WordBitLaws.{not-bit, zero-bit}
-use Rattle.block.proofs.WordLaws.{nets-more, nets-none, nets-all}
 use Rattle.block.proofs.SeenLaws.{not-not, any-zero}
 use Rattle.block.proofs.OpenWordCases.{ones-at}
-use Rattle.block.proofs.TruthLaws.{or-none, or-turn}
-
--- Holding: a pin from k on is steady at the controlling value
-abbrev heldBy : ℕ → List ℕ → List ℕ → ℕ → ℕ → Bool
-heldBy flip lasts steadies t net = bit (getD steadies net 0) t && unequal (bit flip t) (bit (getD lasts net 0) t)
-
-pub record Holding (table : List ℕ) (first n flip : ℕ) (lasts steadies : List ℕ) (word k : ℕ) : Type 0 where
-  pub within : k ≤ n
-  pub at : (t : ℕ)
-      → bit word t ≡ anyOf (λ net. bit (getD steadies net 0) t && unequal (bit flip t) (bit (getD lasts net 0) t)) (netsFrom table (first + k) (n - k))
-
-module _ {table : List ℕ} {first n flip : ℕ} {lasts steadies : List ℕ} where
-  pub hold-start : Holding table first n flip lasts steadies 0 n
-  hold-start = record {
-    within = omega arith;
-    at = λ t. zero-bit t ∙ ap (anyOf (heldBy flip lasts steadies t)) (sym (nets-none table first n));
-  }
-
-  pub hold-step : {word k : ℕ} → Holding table first n flip lasts steadies word k → 0 < k → (net : ℕ) → net ≡ getD table (first + (k - 1)) 0
-      → Holding table first n flip lasts steadies (bitOr word (bitAnd (getD steadies net 0) (bitXor flip (getD lasts net 0)))) (k - 1)
-  hold-step {word} {k} x l net e = record {
-    within = omega (arith, x .within);
-    at = λ t.
-        let w = bitAnd (getD steadies net 0) (bitXor flip (getD lasts net 0)) in
-        let rest = netsFrom table (first + k) (n - k) in
-        let m : bit w t ≡ heldBy flip lasts steadies t net =
-        and-bit (getD steadies net 0) (bitXor flip (getD lasts net 0)) t ∙ ap (λ b. bit (getD steadies net 0) t && b) (xor-bit flip (getD lasts net 0) t) in
-        or-bit word w t ∙ ap₂ (λ a b. a || b) (x .at t) m
-        ∙ or-turn (anyOf (heldBy flip lasts steadies t) rest) (heldBy flip lasts steadies t net)
-        ∙ ap (anyOf (heldBy flip lasts steadies t)) (sym (nets-more table first n k net l (x .within) e));
-  }
-
-pub hold-end : {table : List ℕ} {g : Gate} {lasts steadies : List ℕ} {word k : ℕ} → Holding table (g .first) (g .pins) (g .flip) lasts steadies word k → k ≤ 0
-    → HeldIs table g lasts steadies word
-hold-end {table} {g} {lasts} {steadies} {word} {k} x z = record {
-  at = λ t. x .at t ∙ ap (anyOf (heldBy (g .flip) lasts steadies t)) (nets-all table (g .first) (g .pins) k z);
-}
+use Rattle.block.proofs.TruthLaws.{or-none}
 
 -- no pin is loose: all are steady
 all-steady : (ns : List Evaluation) → not (anyOf (unequal true) (map (λ n. n .steady) ns)) ≡ allOf (λ n. n .steady) ns

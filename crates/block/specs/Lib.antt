@@ -2,7 +2,6 @@ pub mod Words
 pub mod Robust
 pub mod Table
 pub mod Block
-pub mod NetWords
 pub mod Lists
 pub mod Spread
-pub mod Whole
+pub mod NetStates

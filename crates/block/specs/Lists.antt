@@ -49,12 +49,6 @@ pub record ListRoom (list lens : List ℕ) : Type 0 where
   pub records : length lens ≡ 64
   pub oneMore : (t : ℕ) → t < 64 → getD lens t 0 < 528
 
--- and for two more
-pub record GateRoom (list lens : List ℕ) : Type 0 where
-  pub places : 33792 ≤ length list
-  pub records : length lens ≡ 64
-  pub twoMore : (t : ℕ) → t < 64 → getD lens t 0 < 527
-
 -- room for 64 lists, each empty
 pub record EmptyLists (list lens : List ℕ) : Type 0 where
   pub places : 33792 ≤ length list

@@ -1,4 +1,4 @@
--- A gate in class 2: its steadiness word and the robustly open words of its pins.
+-- A gate: its steadiness word, and in class 2 the robustly open word of a pin.
 -- Assumes nothing.
 use mathlib.Core.Path.{_≡_}
 use mathlib.Core.Bool.{true, _&&_}
@@ -9,7 +9,7 @@ use lib.ListN.{length, getD}
 use Rattle.model.specs.Base.{anyOf, bit}
 use Rattle.model.specs.Detect.{robust, Evaluation, noEvaluation, gateSteady, isOpen}
 use Rattle.model.specs.Read.{pinsFit, kindOf}
-use Rattle.block.specs.Words.{unequal, flipWord, pinNets, pinWord, SeenAt, Filled}
+use Rattle.block.specs.Words.{unequal, flipWord, pinNets, SeenAt}
 use Rattle.block.specs.declared.inner.gates.Gate.{Gate}
 use Rattle.block.specs.declared.inner.gates.Seen.{Seen}
 
@@ -32,7 +32,3 @@ pub record RobustIs (kind : ℕ) (last loose : Seen) (v1 v2 steady r : ℕ) : Ty
   pub at : (ns : List Evaluation) (p t : ℕ) → t < 64 → p < length ns → T (pinsFit kind (length ns))
       → SeenAt (map (λ n. n .underV2) ns) (bit (flipWord (kindOf kind)) t) last t → SeenAt (map (λ n. n .steady) ns) true loose t
       → evaluationAt v1 v2 steady t ≡ getD ns p noEvaluation → bit r t ≡ isOpen robust (kindOf kind) ns p
-
-abbrev pub RobustFilled : List ℕ → Gate → Seen → Seen → List ℕ → List ℕ → List ℕ → List ℕ → List ℕ → Type 0
-RobustFilled table g last loose firsts lasts steadies before after =
-    Filled (g .first) (g .pins) (λ p w. RobustIs (g .kind) last loose (pinWord table g firsts p) (pinWord table g lasts p) (pinWord table g steadies p) w) before after

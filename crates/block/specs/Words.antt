@@ -13,7 +13,6 @@ use Rattle.model.specs.Detect.{nonRobust, Evaluation, noEvaluation, odd, gateVa
 use Rattle.model.specs.Read.{pinsFit, kindOf}
 use Rattle.block.specs.declared.inner.gates.Gate.{Gate}
 use Rattle.block.specs.declared.inner.gates.Seen.{Seen}
-use Rattle.block.specs.declared.inner.gates.Active.{Active}
 
 -- bit t of the word is what `f` says of record t, for the first n records
 abbrev pub WordIs : ℕ → (ℕ → Bool) → ℕ → Type 0
@@ -104,20 +103,6 @@ pub record OpenIs (kind : ℕ) (seen : Seen) (value r : ℕ) : Type 0 where
   pub at : (ns : List Evaluation) (p t : ℕ) → t < 64 → p < length ns → SeenAt (map (λ n. n .underV2) ns) (bit (flipWord (kindOf kind)) t) seen t
       → bit value t ≡ getD ns p noEvaluation .underV2 → bit r t ≡ isOpen nonRobust (kindOf kind) ns p
 
-abbrev pub OpensFilled : List ℕ → Gate → Seen → List ℕ → List ℕ → List ℕ → Type 0
-OpensFilled table g seen values before after = Filled (g .first) (g .pins) (λ p w. OpenIs (g .kind) seen (pinWord table g values p) w) before after
-
 -- the first words of an array
 abbrev pub firstWords : List ℕ → ℕ → List ℕ
 firstWords array n = wordsAt array (numbersFrom 0 n)
-
--- where one or more of the first words have a bit, and where two or more
-pub record Marked (rows : List ℕ) (pins : ℕ) (r : Active) : Type 0 where
-  pub some : (t : ℕ) → bit (r .some) t ≡ anyOf (λ v. v) (bitsAt (firstWords rows pins) t)
-  pub more : (t : ℕ) → bit (r .more) t ≡ twoOf (λ v. v) (bitsAt (firstWords rows pins) t)
-
--- a pin is active where it is open and its net live
-pub record ActiveIs (table : List ℕ) (g : Gate) (opens live rows : List ℕ) (r : Active) : Type 0 where
-  pub room : length rows ≡ 8
-  pub each : (p : ℕ) → p < g .pins → (t : ℕ) → bit (getD rows p 0) t ≡ (bit (getD opens (g .first + p) 0) t && bit (pinWord table g live p) t)
-  pub marks : Marked rows (g .pins) r

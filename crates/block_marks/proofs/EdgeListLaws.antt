@@ -1,32 +1,30 @@
 -- One edge of a block: what the pass over the gates tells of each record.
 -- Assumes nothing.
 use mathlib.Core.Path.{_≡_, refl, ap, ap₂, sym, _∙_}
-use mathlib.Core.Bool.{false, _&&_, not}
+use mathlib.Core.Bool.{_&&_}
 use mathlib.Core.List.{List, _∷_}
 use mathlib.Core.Logic.{⊎-elim}
 use Prim.Native.Nat.{ℕ, zero, suc, _+_, _*_, _≤_, _<_}
+use native.Mathlib.Nat.{zero-add}
 use native.Mathlib.Omega.{arith}
 use lib.Dec.{leb, ltb}
 use lib.ListN.{length, getD, take, drop, replicate}
 use lib.Seq.{drop-cons}
 use Rattle.model.specs.Base.{bit, numbersFrom}
 use Rattle.model.specs.Netlist.{Netlist, outputNet}
-use Rattle.model.specs.Path.{Edge, rising, falling}
+use Rattle.model.specs.Path.{Edge}
 use Rattle.model.specs.Detect.{Test, hasEdge}
 use Rattle.model.proofs.BoolLaws.{lt-false, le-or-lt}
 use Rattle.model.proofs.NumberLaws.{output-net}
 use Rattle.block.specs.Words.{wordsAt}
-use Rattle.block.specs.Block.{InputBits, EdgeWords, LiveWords, liveNet}
-use Rattle.block.specs.Lists.{EmptyLists}
+use Rattle.block.specs.Block.{InputBits, LiveWords, liveNet}
+use Rattle.block.specs.Lists.{EmptyLists, ListsTrue}
 use Rattle.block.specs.Table.{CircuitTable}
-use Rattle.block.specs.Spread.{SpreadIs, Turned}
-use Rattle.block.specs.Whole.{LivePromise}
-use Rattle.block.proofs.TruthLaws.{and-turn}
 use Rattle.block.proofs.GateTableLaws.{well}
 use Rattle.block.proofs.SpreadCases.{zero-at}
-use Rattle.block_marks.specs.Marks.{PlaceTable, VectorsOf, liveOutput}
-use Rattle.block_marks.specs.EdgeMarks.{outAt, BatchTables, OutsAre, EdgeInputs, EdgeListed}
-use Rattle.block_marks.specs.declared.inner.Batch.{Batch}
+use Rattle.block_vectors.specs.Vectors.{SpreadIs}
+use Rattle.block_marks.specs.Marks.{PlaceTable, VectorsOf, liveOutput, ListedEdge, entriesOf}
+use Rattle.block_marks.specs.EdgeMarks.{outAt, OutsAre}
 
 -- the words at places one after the other are a part of the list
 words-part : (list : List ℕ) (at n : ℕ) → at + n ≤ length list → take n (drop at list) ≡ wordsAt list (numbersFrom at n)
@@ -39,37 +37,17 @@ pub no-entries : (list : List ℕ) → 33792 ≤ length list → EmptyLists list
 no-entries list h = record { places = h; records = refl; empty = λ t l. zero-at 64 t }
 
 -- the words of the inputs are the vectors, spread
-pub input-bits : {N : Netlist} {tests : ℕ → Test} {n : ℕ} {vectors firsts lasts : List ℕ} → N .inputs ≤ 64 → VectorsOf N tests n vectors
-    → SpreadIs vectors 0 n firsts → SpreadIs vectors 64 n lasts → InputBits tests n (N .inputs) firsts lasts
-input-bits {N} {tests} {n} {vectors} few v s₁ s₂ = record {
-  first = λ j t h l. s₁ .bits j (omega arith) t l ∙ ap (λ k. bit (getD vectors k 0) j) (from-zero t) ∙ v .first t j l h;
-  last = λ j t h l. s₂ .bits j (omega arith) t l ∙ v .second t j l h;
+pub input-bits : {N : Netlist} {tests : ℕ → Test} {n inputs : ℕ} {vectors firsts lasts : List ℕ} → inputs ≡ N .inputs → VectorsOf N tests n vectors
+    → SpreadIs vectors 0 n inputs firsts → SpreadIs vectors 64 n inputs lasts → InputBits tests n inputs firsts lasts
+input-bits {N} {tests} {n} {inputs} {vectors} e v s₁ s₂ = record {
+  first = λ j t h l. s₁ .bits j h t l ∙ ap (λ k. bit (getD vectors k 0) j) (zero-add t) ∙ v .first t j l (omega arith);
+  last = λ j t h l. s₂ .bits j h t l ∙ v .second t j l (omega arith);
 }
-  where
-    from-zero : (t : ℕ) → 0 + t ≡ t
-    from-zero t = omega arith
-
--- the edges of the inputs: with V1 before V2 those that rise, the other way round those that fall
-module _ {tests : ℕ → Test} {n inputs : ℕ} {firsts lasts : List ℕ} (b : InputBits tests n inputs firsts lasts) where
-  pub rising-inputs : EdgeInputs tests rising n inputs firsts lasts
-  unfolding hasEdge
-  rising-inputs = record { turns = λ j t h l. ap₂ (λ y z. not y && z) (b .first j t h l) (b .last j t h l) }
-
-  pub falling-inputs : EdgeInputs tests falling n inputs lasts firsts
-  unfolding hasEdge
-  falling-inputs = record {
-    turns = λ j t h l.
-        ap₂ (λ y z. not y && z) (b .last j t h l) (b .first j t h l) ∙ and-turn (not (getD (tests t .v2) j false)) (getD (tests t .v1) j false);
-  }
-
-edge-words : {tests : ℕ → Test} {e : Edge} {n inputs : ℕ} {from to live : List ℕ} → EdgeInputs tests e n inputs from to → Turned from to inputs n live
-    → EdgeWords tests e n inputs live
-edge-words i x = record { words = λ j h t l. x .turns j h t l ∙ i .turns j t h l }
 
 -- the live outputs of a record, from the live words
 module _ {N : Netlist} {table places : List ℕ} {inputs netCount outputs : ℕ} (c : CircuitTable N table inputs netCount) (p : PlaceTable N places)
-    (q : length (N .outputs) ≡ outputs) {tests : ℕ → Test} {e : Edge} {n : ℕ} {live outs : List ℕ} (x : LiveWords N tests e n netCount live)
-    (few : n ≤ 64) (a : OutsAre places inputs outputs live outs) where
+    (q : length (N .outputs) ≡ outputs) {tests : ℕ → Test} {e : Edge} {n : ℕ} (few : n ≤ 64) {live outs : List ℕ} (x : LiveWords N tests e n netCount live)
+    (a : OutsAre places inputs outputs live outs) where
   shown : (t o : ℕ) → t < n → o < outputs
       → (leb inputs (outAt places o) && bit (getD live (outAt places o) 0) t) ≡ (leb (N .inputs) (outputNet N o) && liveNet N (tests t) e (outputNet N o))
   shown t o h l =
@@ -77,7 +55,7 @@ module _ {N : Netlist} {table places : List ℕ} {inputs netCount outputs : ℕ}
       ap₂ (λ i m. leb i m && bit (getD live m 0) t) (c .inputsAre) (p .outNet o k)
       ∙ ap (λ b. leb (N .inputs) (outputNet N o) && b) (x .words (outputNet N o) (omega (arith, c .netsAre, output-net N (well c) o k)) t h)
 
-  pub outs-true : (t : ℕ) → t < n → (o : ℕ) → o < 64 → bit (getD outs t 0) o ≡ liveOutput N (tests t) e o
+  outs-true : (t : ℕ) → t < n → (o : ℕ) → o < 64 → bit (getD outs t 0) o ≡ liveOutput N (tests t) e o
   outs-true t h o l =
       let rest = leb (N .inputs) (outputNet N o) && liveNet N (tests t) e (outputNet N o) in
       let here = leb inputs (outAt places o) && bit (getD live (outAt places o) 0) t in
@@ -88,18 +66,12 @@ module _ {N : Netlist} {table places : List ℕ} {inputs netCount outputs : ℕ}
       (le-or-lt (suc o) outputs)
       ∙ ap (λ k. ltb o k && rest) (sym q)
 
--- what the steps of the pass promise together
-pub edge-listed : {table places : List ℕ} {b : Batch} → BatchTables table places b → {from to opens start live list₀ list lens outs : List ℕ} → 33792 ≤ length list₀
-    → Turned from to (b .inputs) (b .records) start → LivePromise table (b .inputs) (b .nets) opens start list₀ live list lens
-    → OutsAre places (b .inputs) (b .outputs) live outs → EdgeListed table places b from to opens list₀ list (record { lens = lens; outs = outs })
-edge-listed {table} {places} {b} s {from} {to} {opens} {start} {live} {list₀} {list} {lens} {outs} room f p a = record {
-  sameLength = p .places;
-  counts = p .counts;
-  right = λ N tests e c pl q o i t h.
-      let z = p .right N tests e (b .records) c (s .fewRecords) o (edge-words i f) in
-      let l : t < 64 = omega (arith, s .fewRecords) in
-      record {
-        list = words-part list (528 * t) (getD lens t 0) (omega (arith, p .counts t l, p .places)) ∙ z .lists .lists t h;
-        outsAre = outs-true c pl q (z .words) (s .fewRecords) a t h;
-      };
-}
+  -- a record's list and live outputs, by the numbers in its marks
+  pub listed-edge : {list lens : List ℕ} → ListsTrue N tests e n list lens → (t len : ℕ) {outputBits edges : ℕ} → t < n → len ≡ getD lens t 0
+      → 528 * t + len ≤ length list → outputBits ≡ getD outs t 0 → ((j : ℕ) → j < N .inputs → bit edges j ≡ hasEdge (tests t) e j)
+      → ListedEdge N (tests t) e (entriesOf list len t) edges outputBits
+  listed-edge {list} {lens} z t len h l room b f = record {
+    list = words-part list (528 * t) len room ∙ ap (λ k. wordsAt list (numbersFrom (528 * t) k)) l ∙ z .lists t h;
+    makesEdge = f;
+    outsAre = λ o m. ap (λ w. bit w o) b ∙ outs-true t h o m;
+  }

@@ -10,7 +10,7 @@ use lib.Bits.{bitAnd, bitXor}
 use lib.ListN.{length, getD, set, length-set}
 use lib.Seq.{getD-set-same, getD-set-other}
 use Rattle.model.specs.Base.{bit}
-use Rattle.block.proofs.BlockInputCases.{turn-bit}
+use Rattle.records.proofs.BitLaws.{rise-bit}
 use Rattle.block.proofs.WordLaws.{same-place}
 use Rattle.block_marks.specs.EdgeMarks.{EdgeWritten}
 
@@ -67,7 +67,7 @@ module _ (vectors outs lens before : List ℕ) (n first : ℕ) where
               more (λ s. bit (getD written (first + s) 0) j ≡ (not (bit (getD vectors (first + s) 0) j) && bit (getD vectors (64 - first + s) 0) j))
               (λ s m. ap (λ w. bit w j) (kept (first + s) (λ e. omega arith) (λ e. omega arith) (λ e. omega arith)) ∙ x .edges s j m)
               (ap (λ w. bit w j) (at-first after (first + t) (128 + first + t) (256 + first + t) _ _ _ (omega (arith, long)) (omega arith) (omega arith))
-              ∙ turn-bit (getD vectors (first + t) 0) (getD vectors (64 - first + t) 0) j)
+              ∙ rise-bit (getD vectors (first + t) 0) (getD vectors (64 - first + t) 0) j)
               s h;
           outsAt = more (λ s. getD written (128 + first + s) 0 ≡ getD outs s 0)
               (λ s m. kept (128 + first + s) (λ e. omega arith) (λ e. omega arith) (λ e. omega arith) ∙ x .outsAt s m)

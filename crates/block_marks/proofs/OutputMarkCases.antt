@@ -13,11 +13,13 @@ use Rattle.model.specs.Base.{bit}
 use Rattle.model.proofs.BoolLaws.{T→true, not→false, eq→eqb, le-true, lt-false, le-or-lt}
 use Rattle.block.specs.Words.{unequal}
 use Rattle.block.specs.Spread.{Flipped}
+use Rattle.block.specs.NetStates.{plane}
 use Rattle.block.proofs.WordBitLaws.{half-bit, first-bit, zero-bit}
 use Rattle.block.proofs.WordLaws.{same-place}
 use Rattle.block.proofs.TruthLaws.{keeps, none-there, unequal-none, unequal-false}
 use Rattle.block.proofs.SpreadCases.{shifted, zero-at}
 use Rattle.block_marks.specs.EdgeMarks.{outAt, OutsAre}
+use Rattle.block.proofs.PlaneLaws.{plane-at}
 
 -- a power of two has one bit
 power-bit : (o s : ℕ) → bit (2 ^ o) s ≡ eqb s o
@@ -36,12 +38,13 @@ mask-bit : (o s : ℕ) → o < 64 → bit ((1 * 2 ^ o) % 2 ^ 64) s ≡ eqb s o
 mask-bit o s h = ap (λ w. bit w s) (shifted o h) ∙ power-bit o s
 
 -- the word of a gate's net, and of an input
-module _ (live : List ℕ) (inputs net : ℕ) where
-  pub input-word : net < inputs → (t : ℕ) → bit 0 t ≡ (leb inputs net && bit (getD live net 0) t)
-  input-word h t = zero-bit t ∙ ap (λ b. b && bit (getD live net 0) t) (sym (lt-false inputs net h))
+module _ (words : List ℕ) (inputs net edge : ℕ) where
+  pub input-word : net < inputs → (t : ℕ) → bit 0 t ≡ (leb inputs net && bit (getD (plane edge words) net 0) t)
+  input-word h t = zero-bit t ∙ ap (λ b. b && bit (getD (plane edge words) net 0) t) (sym (lt-false inputs net h))
 
-  pub driven-word : inputs ≤ net → (t : ℕ) → bit (getD live net 0) t ≡ (leb inputs net && bit (getD live net 0) t)
-  driven-word h t = ap (λ b. b && bit (getD live net 0) t) (sym (le-true inputs net h))
+  pub driven-word : net < 512 → inputs ≤ net → (t : ℕ) → bit (getD words (8 * net + edge) 0) t ≡ (leb inputs net && bit (getD (plane edge words) net 0) t)
+  driven-word l h t =
+      ap (λ w. bit w t) (sym (plane-at edge net words l)) ∙ ap (λ b. b && bit (getD (plane edge words) net 0) t) (sym (le-true inputs net h))
 
 -- the outputs before o are done
 pub record Outputting (places : List ℕ) (inputs outputs : ℕ) (live outs : List ℕ) (o : ℕ) : Type 0 where

@@ -30,7 +30,8 @@ pub(crate) fn clear_sections(spans: &mut [u64; 1666])
     }
 }
 
-// Where an output's section begins: at the first held run that reaches the number before the output's first, but not before the section before it.
+// Where an output's section begins: at the first held run that reaches the number before the output's first, but not before the section before it. One step after
+// the other: all sections of an edge together pass each run once.
 fn section_begin(
     places: &[u64; 4224],
     outputs: usize,
@@ -45,7 +46,12 @@ fn section_begin(
     if outputs <= output {
         return count;
     }
-    first_reaching(held, before, count, places[4096 + output])
+    let low = places[4096 + output];
+    let mut at = before;
+    while at < count && held[2 * at + 1] < low {
+        at += 1;
+    }
+    at
 }
 
 // Finds the sections of the runs that an edge holds. What it finds is only where a search begins and ends.

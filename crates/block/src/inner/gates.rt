@@ -1,9 +1,11 @@
-// One gate in a block of records: what its pins show, its value word and, in class 1, the open words of its pins.
+// One gate in a block of records: what its pins show, its value word and, in class 1, the open word of a pin. The words of a net stand together, those of net n
+// from place 8 n on: under V1, under V2, steady, live for the rising edge, live for the falling edge.
 ghost use mathlib.Core.Path.{_≡_};
 ghost use Prim.Native.Nat.{_<_, _≤_};
 ghost use lib.ListN.{length};
 ghost use Rattle.model.specs.Read.{kindOf};
-ghost use Rattle.block.specs.Words.{flipWord, GateIs, PinsIn, SeenIs, AloneIs, ValueIs, OpenIs, OpensFilled, ActiveIs};
+ghost use Rattle.block.specs.Words.{flipWord, GateIs, PinsIn, AloneIs, ValueIs, OpenIs};
+ghost use Rattle.block.specs.NetStates.{SeesOne, LooksAre};
 use records::inner;
 
 // A gate of the table: its kind, its number of pins, the place of its first pin, and what turns values into controlling ones.
@@ -48,25 +50,58 @@ pub fn gate_at(table: &[u16; 5120], net: usize) -> Gate
     }
 }
 
-// The pins of a gate, the last one first. A pin counts as controlling where its word differs from `flip`.
-pub fn look(table: &[u16; 5120], gate: Gate, flip: u64, values: &[u64; 512]) -> Seen
-    requires { ⌜ PinsIn (now table) gate ⌝ }
-    ensures { λ r. ⌜ SeenIs (now (table .entry)) gate flip (now (values .entry)) r ⌝ }
+// What one pin more shows: it counts as controlling where its word differs from `flip`.
+fn see(seen: Seen, flip: u64, value: u64) -> Seen
+    ensures { λ r. ⌜ SeesOne seen flip value r ⌝ }
 {
-    let mut one: u64 = 0;
-    let mut two: u64 = 0;
-    let mut parity: u64 = 0;
-    let first = gate.first;
+    let controlling = flip ^ value;
+    Seen {
+        one: seen.one | controlling,
+        two: seen.two | (seen.one & controlling),
+        parity: seen.parity ^ value,
+    }
+}
+
+// What the pins of a gate show: under V1, under V2, where they are not steady, and where one is steady at the controlling value.
+pub struct Looks {
+    pub first: Seen,
+    pub last: Seen,
+    pub loose: Seen,
+    pub held: u64,
+}
+
+// The pins of a gate, the last one first.
+pub fn look(table: &[u16; 5120], gate: Gate, words: &[u64]) -> Looks
+    requires { ⌜ PinsIn (now table) gate × (4096 ≤ length (now words)) ⌝ }
+    ensures { λ r. ⌜ LooksAre (now (table .entry)) gate (now (words .entry)) r ⌝ }
+{
+    let nothing = Seen {
+        one: 0,
+        two: 0,
+        parity: 0,
+    };
+    let mut first = nothing;
+    let mut last = nothing;
+    let mut loose = nothing;
+    let mut held: u64 = 0;
+    let flip = gate.flip;
     let mut k = gate.pins;
     while 0 < k {
         k -= 1;
-        let value = values[inner::wide_word(table[first + k])];
-        let controlling = flip ^ value;
-        parity = parity ^ value;
-        two = two | (one & controlling);
-        one = one | controlling;
+        let at = 8 * inner::wide_word(table[gate.first + k]);
+        let v2 = words[at + 1];
+        let steady = words[at + 2];
+        first = see(first, flip, words[at]);
+        last = see(last, flip, v2);
+        loose = see(loose, 0xFFFFFFFFFFFFFFFF, steady);
+        held = held | (steady & (flip ^ v2));
     }
-    Seen { one, two, parity }
+    Looks {
+        first,
+        last,
+        loose,
+        held,
+    }
 }
 
 // The value word of a gate.
@@ -93,7 +128,7 @@ pub fn alone(one: u64, two: u64, mark: u64) -> u64
 }
 
 // The open word of a pin with this value word.
-fn open_word(gate: Gate, seen: Seen, value: u64) -> u64
+pub fn open_word(gate: Gate, seen: Seen, value: u64) -> u64
     requires { ⌜ gate .flip ≡ flipWord (kindOf (gate .kind)) ⌝ }
     ensures { λ r. ⌜ OpenIs (gate .kind) seen value r ⌝ }
 {
@@ -106,56 +141,4 @@ fn open_word(gate: Gate, seen: Seen, value: u64) -> u64
         6 => open,
         _ => 0xFFFFFFFFFFFFFFFF,
     }
-}
-
-// The open words of a gate's pins, at the places that they have in the table.
-pub fn open_pins(
-    table: &[u16; 5120],
-    gate: Gate,
-    seen: Seen,
-    values: &[u64; 512],
-    opens: &mut [u64],
-)
-    requires { ⌜ PinsIn (now table) gate × (gate .flip ≡ flipWord (kindOf (gate .kind))) × (4096 ≤ length (now opens)) ⌝ }
-    ensures { λ _. ⌜ OpensFilled (now (table .entry)) gate seen (now (values .entry)) (now (opens .entry)) (now (opens .exit)) ⌝ }
-{
-    let first = gate.first;
-    let mut k = gate.pins;
-    while 0 < k {
-        k -= 1;
-        let value = values[inner::wide_word(table[first + k])];
-        opens[first + k] = open_word(gate, seen, value);
-    }
-}
-
-// The records with one active pin or more of a gate for an edge, and those with two or more.
-pub struct Active {
-    pub some: u64,
-    pub more: u64,
-}
-
-// A pin is active where it is open and its net is live. The active words of the pins are the first of `rows`, which the caller lends: a fresh array
-// would be cleared and copied for each gate.
-pub fn active_words(
-    table: &[u16; 5120],
-    gate: Gate,
-    opens: &[u64],
-    live: &[u64; 512],
-    rows: &mut [u64; 8],
-) -> Active
-    requires { ⌜ PinsIn (now table) gate × (length (now rows) ≡ 8) × (4096 ≤ length (now opens)) ⌝ }
-    ensures { λ r. ⌜ ActiveIs (now (table .entry)) gate (now (opens .entry)) (now (live .entry)) (now (rows .exit)) r ⌝ }
-{
-    let mut some: u64 = 0;
-    let mut more: u64 = 0;
-    let first = gate.first;
-    let mut k = gate.pins;
-    while 0 < k {
-        k -= 1;
-        let word = opens[first + k] & live[inner::wide_word(table[first + k])];
-        rows[k] = word;
-        more = more | (some & word);
-        some = some | word;
-    }
-    Active { some, more }
 }

@@ -1,32 +1,17 @@
-// One gate in a block of records in class 2: its steadiness word and the robustly open words of its pins, from the words of V1, of V2 and of
-// steadiness.
+// One gate in a block of records: its steadiness word, the robustly open word of a pin, and the active words of its pins in a class.
 ghost use mathlib.Core.Path.{_≡_};
 ghost use Prim.Native.Nat.{_≤_};
 ghost use lib.ListN.{length};
 ghost use Rattle.model.specs.Read.{kindOf};
 ghost use Rattle.block.specs.Words.{flipWord, PinsIn};
-ghost use Rattle.block.specs.Robust.{HeldIs, SteadyIs, RobustIs, RobustFilled};
+ghost use Rattle.model.specs.Read.{classOf};
+ghost use Rattle.block.specs.Robust.{SteadyIs, RobustIs};
+ghost use Rattle.block.specs.NetStates.{PinOpenIs, ActiveBoth};
 use crate::inner::gates;
 use crate::inner::gates::Gate;
+use crate::inner::gates::Looks;
 use crate::inner::gates::Seen;
 use records::inner;
-
-// The records in which a pin is steady at the controlling value.
-pub fn held(table: &[u16; 5120], gate: Gate, lasts: &[u64; 512], steadies: &[u64; 512]) -> u64
-    requires { ⌜ PinsIn (now table) gate ⌝ }
-    ensures { λ r. ⌜ HeldIs (now (table .entry)) gate (now (lasts .entry)) (now (steadies .entry)) r ⌝ }
-{
-    let mut word: u64 = 0;
-    let first = gate.first;
-    let flip = gate.flip;
-    let mut k = gate.pins;
-    while 0 < k {
-        k -= 1;
-        let net = inner::wide_word(table[first + k]);
-        word = word | (steadies[net] & (flip ^ lasts[net]));
-    }
-    word
-}
 
 // The steadiness word of a gate: no pin is loose, or one is held.
 pub fn steady_word(kind: u16, loose: u64, held: u64) -> u64
@@ -61,27 +46,51 @@ fn robust_word(gate: Gate, last: Seen, loose: Seen, v1: u64, v2: u64, steady: u6
     }
 }
 
-// The robustly open words of a gate's pins, at the places that they have in the table.
-pub fn robust_pins(
-    table: &[u16; 5120],
-    gate: Gate,
-    last: Seen,
-    loose: Seen,
-    firsts: &[u64; 512],
-    lasts: &[u64; 512],
-    steadies: &[u64; 512],
-    opens: &mut [u64],
-)
-    requires { ⌜ PinsIn (now table) gate × (gate .flip ≡ flipWord (kindOf (gate .kind))) × (gate .kind ≤ 8) × (4096 ≤ length (now opens)) ⌝ }
-    ensures { λ _. ⌜ RobustFilled (now (table .entry)) gate last loose (now (firsts .entry)) (now (lasts .entry)) (now (steadies .entry)) (now (opens .entry)) (now (opens .exit)) ⌝ }
+// The open word of a pin in a class.
+fn pin_word(class: u32, gate: Gate, looks: Looks, v1: u64, v2: u64, steady: u64) -> u64
+    requires { ⌜ (gate .flip ≡ flipWord (kindOf (gate .kind))) × (gate .kind ≤ 8) ⌝ }
+    ensures { λ r. ⌜ PinOpenIs (classOf class) (gate .kind) looks v1 v2 steady r ⌝ }
 {
-    let first = gate.first;
+    if class == 2 {
+        return robust_word(gate, looks.last, looks.loose, v1, v2, steady);
+    }
+    gates::open_word(gate, looks.last, v2)
+}
+
+// The records in which a gate is live for the rising and for the falling edge.
+pub struct Live {
+    pub up: u64,
+    pub down: u64,
+}
+
+// A pin is active for an edge where it is open and its net is live. The active words of the pins are the first of `ups` and of `downs`, which the caller lends: fresh
+// arrays would be cleared and copied for each gate.
+pub fn active_words(
+    table: &[u16; 5120],
+    class: u32,
+    gate: Gate,
+    looks: Looks,
+    words: &[u64],
+    ups: &mut [u64; 8],
+    downs: &mut [u64; 8],
+) -> Live
+    requires { ⌜ PinsIn (now table) gate × (gate .flip ≡ flipWord (kindOf (gate .kind))) × (gate .kind ≤ 8) × (4096 ≤ length (now words))
+        × (length (now ups) ≡ 8) × (length (now downs) ≡ 8) ⌝ }
+    ensures { λ r. ⌜ ActiveBoth (classOf class) (now (table .entry)) gate looks (now (words .entry)) (now (ups .exit)) (now (downs .exit)) r ⌝ }
+{
+    let mut up: u64 = 0;
+    let mut down: u64 = 0;
     let mut k = gate.pins;
     while 0 < k {
         k -= 1;
-        let net = inner::wide_word(table[first + k]);
-        let v1 = firsts[net];
-        let v2 = lasts[net];
-        opens[first + k] = robust_word(gate, last, loose, v1, v2, steadies[net]);
+        let at = 8 * inner::wide_word(table[gate.first + k]);
+        let open = pin_word(class, gate, looks, words[at], words[at + 1], words[at + 2]);
+        let rises = open & words[at + 3];
+        let falls = open & words[at + 4];
+        ups[k] = rises;
+        downs[k] = falls;
+        up = up | rises;
+        down = down | falls;
     }
+    Live { up, down }
 }

@@ -10,71 +10,48 @@ ghost use Rattle.model.specs.Detect.{Test};
 ghost use Rattle.model.specs.Read.{classOf};
 ghost use Rattle.model.specs.Calls.{workWords};
 ghost use Rattle.block.specs.Block.{BlockOf};
+ghost use Rattle.block.specs.NetStates.{plane};
 ghost use Rattle.block.specs.Table.{CircuitTable};
 ghost use Rattle.block_marks.specs.Marks.{PlaceTable, MarksTrue, VectorsOf};
-ghost use Rattle.block_marks.specs.EdgeMarks.{outAt, BatchTables, OutsAre, EdgeListed, EdgeWritten, WorkKept};
+ghost use Rattle.block_marks.specs.EdgeMarks.{outAt, BatchTables, OutsAre, EdgeWritten, WorkKept};
 use crate::inner::Batch;
-use block::inner::lists;
-use block::inner::spread;
+use block::inner::spread::flip;
 use block::inner::words;
-
-// What a pass over the gates tells of each record for an edge: the length of its list, and a bit for each output at a live gate's net.
-pub struct Listed {
-    pub lens: [u16; 64],
-    pub outs: [u64; 64],
-}
+use block::inner::words::FALLS;
+use block::inner::words::RISES;
+use block_vectors::inner::spread;
+use netlist::inner::Shape;
 
 // The live word of a net that a gate drives; 0 for an input.
-fn gate_word(live: &[u64; 512], inputs: usize, net: usize) -> u64
-    requires { ⌜ net < 512 ⌝ }
-    ensures { λ r. ⌜ ((t : ℕ) → bit r t ≡ (leb inputs net && bit (getD (now (live .entry)) net 0) t)) ⌝ }
+fn gate_word(words: &[u64], inputs: usize, net: usize, edge: usize) -> u64
+    requires { ⌜ (net < 512) × (edge ≤ 7) × (4096 ≤ length (now words)) ⌝ }
+    ensures { λ r. ⌜ ((t : ℕ) → bit r t ≡ (leb inputs net && bit (getD (plane edge (now (words .entry))) net 0) t)) ⌝ }
 {
     if net < inputs {
         return 0;
     }
-    live[net]
+    words[8 * net + edge]
 }
 
-// The live outputs of each record.
-fn live_outputs(places: &[u64; 4224], inputs: usize, outputs: usize, live: &[u64; 512]) -> [u64; 64]
-    requires { ⌜ (outputs ≤ 64) × ((o : ℕ) → o < outputs → outAt (now places) o < 512) ⌝ }
-    ensures { λ r. ⌜ OutsAre (now (places .entry)) inputs outputs (now (live .entry)) r ⌝ }
+// The live outputs of each record, for the edge whose live word is the one at place `edge` of a net's words.
+fn live_outputs(
+    places: &[u64; 4224],
+    inputs: usize,
+    outputs: usize,
+    words: &[u64],
+    edge: usize,
+) -> [u64; 64]
+    requires { ⌜ (outputs ≤ 64) × ((o : ℕ) → o < outputs → outAt (now places) o < 512) × (edge ≤ 7) × (4096 ≤ length (now words)) ⌝ }
+    ensures { λ r. ⌜ OutsAre (now (places .entry)) inputs outputs (plane edge (now (words .entry))) r ⌝ }
 {
     let mut outs = [0u64; 64];
     let mut o = 0;
     while o < outputs {
-        let word = gate_word(live, inputs, places[4160 + o] as usize);
-        spread::flip(&mut outs, word, 1u64 << (o as u64));
+        let word = gate_word(words, inputs, places[4160 + o] as usize, edge);
+        flip(&mut outs, word, 1u64 << (o as u64));
         o += 1;
     }
     outs
-}
-
-// The lists of live gates for an edge: `from` and `to` are the words of V1 and V2 for the rising edge, of V2 and V1 for the falling one.
-fn edge_lists(
-    table: &[u16; 5120],
-    places: &[u64; 4224],
-    batch: Batch,
-    from: &[u64; 64],
-    to: &[u64; 64],
-    opens: &[u64],
-    list: &mut [u32],
-) -> Listed
-    requires { ⌜ BatchTables (now table) (now places) batch × (33792 ≤ length (now list)) × (4096 ≤ length (now opens)) ⌝ }
-    ensures { λ r. ⌜
-        EdgeListed (now (table .entry)) (now (places .entry)) batch (now (from .entry)) (now (to .entry)) (now (opens .entry)) (now (list .entry)) (now (list .exit)) r
-        ⌝ }
-{
-    let inputs = batch.inputs;
-    let mut live = [0u64; 512];
-    spread::edge_words(from, to, inputs, batch.records, &mut live);
-    let mut lens = [0u16; 64];
-    lists::live_lists(table, inputs, batch.nets, opens, &mut live, list, &mut lens);
-    let outs = live_outputs(places, inputs, batch.outputs, &live);
-    Listed {
-        lens: lens,
-        outs: outs,
-    }
 }
 
 // Writes the marks of an edge: `first` is 0 for the rising edge, where V1 stands before V2, and 64 for the falling one.
@@ -82,14 +59,13 @@ fn write_marks(
     vectors: &[u64; 128],
     records: usize,
     first: usize,
-    listed: Listed,
+    lens: &[u16; 64],
+    outs: &[u64; 64],
     marks: &mut [u64; 384],
 )
-    requires { ⌜ (records ≤ 64) × (first ≤ 64) × (length (now marks) ≡ 384) ⌝ }
-    ensures { λ _. ⌜ EdgeWritten (now (vectors .entry)) records first (listed .outs) (listed .lens) (now (marks .entry)) (now (marks .exit)) ⌝ }
+    requires { ⌜ (records ≤ 64) × (first ≤ 64) × (length (now marks) ≡ 384) × ((t : ℕ) → t < 64 → getD (now lens) t 0 ≤ 512) ⌝ }
+    ensures { λ _. ⌜ EdgeWritten (now (vectors .entry)) records first (now (outs .entry)) (now (lens .entry)) (now (marks .entry)) (now (marks .exit)) ⌝ }
 {
-    let lens = listed.lens;
-    let outs = listed.outs;
     let mut t = 0;
     while t < records {
         let to = vectors[64 - first + t];
@@ -100,8 +76,8 @@ fn write_marks(
     }
 }
 
-// The marks of a block's records, and their lists of live gates, from their vectors. The open words are made in the working memory, which is free
-// until the first record is applied: 32 KB that need not be cleared for each block.
+// The marks of a block's records, and their lists of live gates, from their vectors. The words of the nets are made in the working memory, which is
+// free until the first record is applied: 32 KB that need not be cleared for each block.
 pub fn fill_block(
     table: &[u16; 5120],
     places: &[u64; 4224],
@@ -122,20 +98,31 @@ pub fn fill_block(
         × WorkKept (now (work .entry)) (now (work .exit))
         ⌝ }
 {
+    let inputs = batch.inputs;
+    let outputs = batch.outputs;
     let records = batch.records;
-    let firsts = spread::spread(vectors, 0, records);
-    let lasts = spread::spread(vectors, 64, records);
-    words::open_words(
+    let shape = Shape {
+        inputs,
+        nets: batch.nets,
+        outputs,
+    };
+    let firsts = spread(vectors, 0, records, inputs);
+    let lasts = spread(vectors, 64, records, inputs);
+    words::input_words(&firsts, &lasts, inputs, records, work);
+    let mut up_lens = [0u16; 64];
+    let mut down_lens = [0u16; 64];
+    words::gate_lists(
         table,
-        batch.inputs,
-        batch.nets,
+        shape,
         batch.class,
-        &firsts,
-        &lasts,
         work,
+        ups,
+        downs,
+        &mut up_lens,
+        &mut down_lens,
     );
-    let rises = edge_lists(table, places, batch, &firsts, &lasts, work, ups);
-    write_marks(vectors, records, 0, rises, marks);
-    let falls = edge_lists(table, places, batch, &lasts, &firsts, work, downs);
-    write_marks(vectors, records, 64, falls, marks);
+    let rises = live_outputs(places, inputs, outputs, work, RISES);
+    write_marks(vectors, records, 0, &up_lens, &rises, marks);
+    let falls = live_outputs(places, inputs, outputs, work, FALLS);
+    write_marks(vectors, records, 64, &down_lens, &falls, marks);
 }

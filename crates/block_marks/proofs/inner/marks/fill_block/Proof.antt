@@ -3,59 +3,89 @@
 use mathlib.Core.Path.{_∙_}
 use native.Mathlib.Omega.{arith}
 use borrow.Author.Needs.{needs}
+use Rattle.block.proofs.GateTableLaws.{few-inputs}
+use Rattle.block_marks.proofs.EdgeListLaws.{no-entries}
 use Rattle.block_marks.proofs.LentWorkLaws.{work-kept}
 use Rattle.block_marks.proofs.RecordMarkLaws.{marks-true}
 use Rattle.block_marks.proofs.inner.marks.fill_block.Statement.{statement}
 use Rattle.block_marks.proofs.inner.marks.fill_block.Tie as tie
 
 spread-requires : tie.Need-spread-requires
-spread-requires c κs = search needs
+spread-requires c κs =
+    let given = c .before .before .before .pre in
+    (omega arith, given .0 .fewRecords, few-inputs (given .0 .circuit))
 
 spread-requires-2 : tie.Need-spread-requires-2
-spread-requires-2 c κs = search needs
+spread-requires-2 c κs =
+    let given = c .before .before .before .before .pre in
+    (omega arith, given .0 .fewRecords, few-inputs (given .0 .circuit))
 
-open-words-requires : tie.Need-open-words-requires
-open-words-requires c κs =
-    let at-second-spread = c .before .before .before in
-    let begin = at-second-spread .before .before .before .before .before in
-    (begin .pre .0 .circuit, omega (arith, begin .pre .4))
+input-words-requires : tie.Need-input-words-requires
+input-words-requires c κs =
+    let at-firsts = c .before .before .before .before in
+    let given = at-firsts .before .before .before .before .pre in
+    (few-inputs (given .0 .circuit), given .0 .fewRecords, omega (arith, given .4))
 
-edge-lists-requires : tie.Need-edge-lists-requires
-edge-lists-requires c κs =
-    let at-open-words = c .before .before .before .before .before .before in
-    let at-second-spread = at-open-words .before .before .before .before in
-    let begin = at-second-spread .before .before .before .before .before in
-    (begin .pre .0, begin .pre .1, omega (arith, at-open-words .open-words .ensures .openKept .sameLength, begin .pre .4))
+gate-lists-requires : tie.Need-gate-lists-requires
+gate-lists-requires c κs =
+    let lent = c .before .before .before in
+    let at-inputs = lent .before .before .before .before in
+    let at-firsts = at-inputs .before .before .before .before .before in
+    let given = at-firsts .before .before .before .before .pre in
+    (given .0 .circuit, omega (arith, at-inputs .input-words .ensures .kept .sameLength, given .4), no-entries _ (given .1), no-entries _ (given .2))
+
+live-outputs-requires : tie.Need-live-outputs-requires
+live-outputs-requires c κs =
+    let back = c .before .before .before in
+    let at-lists = back .before .before .before .before in
+    let lent = at-lists .before .before .before .before in
+    let at-inputs = lent .before .before .before .before in
+    let at-firsts = at-inputs .before .before .before .before .before in
+    let given = at-firsts .before .before .before .before .pre in (
+      given .0 .fewOutputs,
+      given .0 .outNets,
+      omega arith,
+      omega (arith, at-lists .gate-lists .ensures .kept .sameLength, at-inputs .input-words .ensures .kept .sameLength, given .4),
+    )
 
 write-marks-requires : tie.Need-write-marks-requires
 write-marks-requires c κs =
-    let at-first-lists = c .before .before .before in
-    let lent = at-first-lists .before .before .before .before .before in
-    let at-open-words = lent .before .before in
-    let at-second-spread = at-open-words .before .before .before .before in
-    let begin = at-second-spread .before .before .before .before .before in
-    (begin .pre .0 .fewRecords, omega arith, begin .pre .3)
+    let at-rises = c .before .before .before in
+    let back = at-rises .before .before .before .before in
+    let at-lists = back .before .before .before .before in
+    let lent = at-lists .before .before .before .before in
+    let at-inputs = lent .before .before .before .before in
+    let at-firsts = at-inputs .before .before .before .before .before in
+    let given = at-firsts .before .before .before .before .pre in
+    (given .0 .fewRecords, omega arith, given .3, at-lists .gate-lists .ensures .upCounts)
 
-edge-lists-requires-2 : tie.Need-edge-lists-requires-2
-edge-lists-requires-2 c κs =
-    let at-first-write = c .before .before .before .before in
-    let at-first-lists = at-first-write .before .before .before .before in
-    let lent = at-first-lists .before .before .before .before .before in
-    let at-open-words = lent .before .before in
-    let at-second-spread = at-open-words .before .before .before .before in
-    let begin = at-second-spread .before .before .before .before .before in
-    (begin .pre .0, begin .pre .2, omega (arith, at-open-words .open-words .ensures .openKept .sameLength, begin .pre .4))
+live-outputs-requires-2 : tie.Need-live-outputs-requires-2
+live-outputs-requires-2 c κs =
+    let at-first-write = c .before in
+    let at-rises = at-first-write .before .before .before .before in
+    let back = at-rises .before .before .before .before in
+    let at-lists = back .before .before .before .before in
+    let lent = at-lists .before .before .before .before in
+    let at-inputs = lent .before .before .before .before in
+    let at-firsts = at-inputs .before .before .before .before .before in
+    let given = at-firsts .before .before .before .before .pre in (
+      given .0 .fewOutputs,
+      given .0 .outNets,
+      omega arith,
+      omega (arith, at-lists .gate-lists .ensures .kept .sameLength, at-inputs .input-words .ensures .kept .sameLength, given .4),
+    )
 
 write-marks-requires-2 : tie.Need-write-marks-requires-2
 write-marks-requires-2 c κs =
-    let at-second-lists = c .before .before .before in
-    let at-first-write = at-second-lists .before .before .before .before .before in
-    let at-first-lists = at-first-write .before .before .before .before in
-    let lent = at-first-lists .before .before .before .before .before in
-    let at-open-words = lent .before .before in
-    let at-second-spread = at-open-words .before .before .before .before in
-    let begin = at-second-spread .before .before .before .before .before in
-    (begin .pre .0 .fewRecords, omega arith, at-first-write .write-marks .ensures .sameLength ∙ begin .pre .3)
+    let at-first-write = c .before .before .before .before .before in
+    let at-rises = at-first-write .before .before .before .before in
+    let back = at-rises .before .before .before .before in
+    let at-lists = back .before .before .before .before in
+    let lent = at-lists .before .before .before .before in
+    let at-inputs = lent .before .before .before .before in
+    let at-firsts = at-inputs .before .before .before .before .before in
+    let given = at-firsts .before .before .before .before .pre in
+    (given .0 .fewRecords, omega arith, at-first-write .write-marks .ensures .sameLength ∙ given .3, at-lists .gate-lists .ensures .downCounts)
 
 same-length : tie.Need-same-length
 same-length c = search needs
@@ -65,34 +95,37 @@ same-length-2 c = search needs
 
 same-length-3 : tie.Need-same-length-3
 same-length-3 c =
-    let at-second-lists = c .before .before .before .before in
-    let at-first-write = at-second-lists .before .before .before .before .before in
-    let at-first-lists = at-first-write .before .before .before .before in
-    let lent = at-first-lists .before .before .before .before .before in
-    let at-open-words = lent .before .before in
-    at-open-words .open-words .ensures .openKept .sameLength
+    let at-falls = c .before .before .before .before in
+    let at-first-write = at-falls .before .before in
+    let at-rises = at-first-write .before .before .before .before in
+    let back = at-rises .before .before .before .before in
+    let at-lists = back .before .before .before .before in
+    let lent = at-lists .before .before .before .before in
+    let at-inputs = lent .before .before .before .before in
+    at-lists .gate-lists .ensures .kept .sameLength ∙ at-inputs .input-words .ensures .kept .sameLength
 
 returns : tie.Need-returns
 returns c =
-    let at-second-lists = c .before .before .before .before in
-    let at-first-write = at-second-lists .before .before .before .before .before in
-    let at-first-lists = at-first-write .before .before .before .before in
-    let lent = at-first-lists .before .before .before .before .before in
-    let at-open-words = lent .before .before in
-    let at-second-spread = at-open-words .before .before .before .before in
-    let begin = at-second-spread .before .before .before .before .before in
-    let given = begin .pre in
-    let opened = at-open-words .open-words .ensures in
-    let lists₁ = at-first-lists .edge-lists .ensures in
-    let lists₂ = at-second-lists .edge-lists2 .ensures in
+    let at-falls = c .before .before .before .before in
+    let at-first-write = at-falls .before .before in
+    let at-rises = at-first-write .before .before .before .before in
+    let back = at-rises .before .before .before .before in
+    let at-lists = back .before .before .before .before in
+    let lent = at-lists .before .before .before .before in
+    let at-inputs = lent .before .before .before .before in
+    let at-lasts = at-inputs .before .before .before .before in
+    let at-firsts = at-lasts .before in
+    let given = at-firsts .before .before .before .before .pre in
+    let inputs = at-inputs .input-words .ensures in
+    let listed = at-lists .gate-lists .ensures in
     let written₁ = at-first-write .write-marks .ensures in
     let written₂ = c .write-marks2 .ensures in (
-      lists₁ .sameLength,
-      lists₂ .sameLength,
+      listed .upPlaces,
+      listed .downPlaces,
       written₂ .sameLength ∙ written₁ .sameLength ∙ given .3,
-      marks-true (given .0) (at-second-spread .before .spread .ensures) (at-second-spread .spread2 .ensures) opened
-          (given .1) lists₁ written₁ (given .2) lists₂ written₂,
-      work-kept (opened .openKept),
+      marks-true (given .0) (at-firsts .spread .ensures) (at-lasts .spread2 .ensures) inputs listed (given .1) (given .2)
+          (at-rises .live-outputs .ensures) written₁ (at-falls .live-outputs2 .ensures) written₂,
+      work-kept (inputs .kept) (listed .kept),
     )
 
 pub fill-block-spec : {M : Type 1} → statement M
@@ -101,10 +134,11 @@ fill-block-spec =
     (tie.spec
     spread-requires
     spread-requires-2
-    open-words-requires
-    edge-lists-requires
+    input-words-requires
+    gate-lists-requires
+    live-outputs-requires
     write-marks-requires
-    edge-lists-requires-2
+    live-outputs-requires-2
     write-marks-requires-2
     same-length
     same-length-2

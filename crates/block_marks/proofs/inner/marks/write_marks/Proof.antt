@@ -9,13 +9,13 @@ use Rattle.block_marks.proofs.inner.marks.write_marks.Statement.{statem
 use Rattle.block_marks.proofs.inner.marks.write_marks.Tie as tie
 
 abbrev Inv-loop : tie.InvT-loop
-Inv-loop vectors records first marks₀ lens outs t₀ marks t = (t ≤ records) × EdgeWritten vectors t first outs lens marks₀ marks
+Inv-loop vectors records first lens outs marks₀ t₀ marks t = (t ≤ records) × EdgeWritten vectors t first outs lens marks₀ marks
 
 abbrev μ-loop : tie.MeasureT-loop
-μ-loop vectors records first marks₀ lens outs t₀ marks t = records - t
+μ-loop vectors records first lens outs marks₀ t₀ marks t = records - t
 
 loop-holds : tie.Need-loop-holds Inv-loop μ-loop
-loop-holds c = (omega arith, write-start _ _ _ _ (c .before .before .args .records) _)
+loop-holds c = (omega arith, write-start _ _ _ _ (c .args .records) _)
 
 sub-to : tie.Need-sub-to Inv-loop μ-loop
 sub-to c = search needs
@@ -50,8 +50,8 @@ element-write-marks c = search needs
 mul-marks-3 : tie.Need-mul-marks-3 Inv-loop μ-loop
 mul-marks-3 c = search needs
 
-array-read-marks : tie.Need-array-read-marks Inv-loop μ-loop
-array-read-marks c = search needs
+element-copy-out-marks-2 : tie.Need-element-copy-out-marks-2 Inv-loop μ-loop
+element-copy-out-marks-2 c = search needs
 
 add-marks-3 : tie.Need-add-marks-3 Inv-loop μ-loop
 add-marks-3 c = search needs
@@ -68,11 +68,14 @@ element-write-marks-2 c = search needs
 mul-marks-5 : tie.Need-mul-marks-5 Inv-loop μ-loop
 mul-marks-5 c = search needs
 
-array-read-marks-2 : tie.Need-array-read-marks-2 Inv-loop μ-loop
-array-read-marks-2 c = search needs
+element-copy-out-marks-3 : tie.Need-element-copy-out-marks-3 Inv-loop μ-loop
+element-copy-out-marks-3 c = search needs
 
 cast-marks : tie.Need-cast-marks Inv-loop μ-loop
-cast-marks c = search needs
+cast-marks c =
+    let test = c .before .before .before .before in
+    let given = test .before .before .pre in
+    omega (arith, given .0, given .3 (test .before .loop .t) (omega (arith, test .loop-test .taken, given .0)))
 
 add-marks-5 : tie.Need-add-marks-5 Inv-loop μ-loop
 add-marks-5 c = search needs
@@ -90,12 +93,12 @@ add-t : tie.Need-add-t Inv-loop μ-loop
 add-t c = search needs
 
 loop-less : tie.Need-loop-less Inv-loop μ-loop
-loop-less c = omega (arith, c .before .before .loop-test .taken)
+loop-less c = omega (arith, c .before .before .before .before .loop-test .taken)
 
 loop-again : tie.Need-loop-again Inv-loop μ-loop
 loop-again c =
-    let test = c .before .before in
-    let begin = test .before .before .before .before in (
+    let test = c .before .before .before .before in
+    let begin = test .before .before in (
       omega (arith, test .loop-test .taken),
       write-step _ _ _ _ (begin .args .records) _ (test .before .loop .inv .1) (begin .pre .2) (begin .pre .1) (begin .pre .0) (test .loop-test .taken),
     )
@@ -121,13 +124,13 @@ write-marks-spec =
     mul-marks-2
     element-write-marks
     mul-marks-3
-    array-read-marks
+    element-copy-out-marks-2
     add-marks-3
     add-marks-4
     mul-marks-4
     element-write-marks-2
     mul-marks-5
-    array-read-marks-2
+    element-copy-out-marks-3
     cast-marks
     add-marks-5
     add-marks-6
