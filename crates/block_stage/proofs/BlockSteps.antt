@@ -53,6 +53,42 @@ block-in b m = record {
   memory = m;
 }
 
+-- one record of a block: its lists lie in the block's, and with spans and memory at hand they are what its place Work is handed
+abbrev pub listOf : List ℕ → List ℕ → ℕ → ℕ → List ℕ
+listOf entries marks lengths t = take (528 * t + getD marks (lengths + t) 0 - 528 * t) (drop (528 * t) entries)
+
+module _ {N : Netlist} {tests : ℕ → Test} {table places ups downs marks : List ℕ} {inputs records : ℕ} {ws₀ work₀ : List ℕ}
+    (b : BlockIn N tests table places ups downs marks inputs records ws₀ work₀) where
+  pub block-inputs : inputs ≤ 64
+  block-inputs = omega (arith, b .circuit .inputsAre, limits (b .circuit .file) N (b .circuit .legal) .fewInputs)
+
+  module _ {t : ℕ} (h : t < records) where
+    pub up-inside : 528 * t + getD marks (256 + t) 0 ≤ length ups
+    up-inside = b .marked .each t h .upRoom
+
+    pub down-inside : 528 * t + getD marks (320 + t) 0 ≤ length downs
+    down-inside = b .marked .each t h .downRoom
+
+    pub listed-here : {edges : RecordEdges} {outputs : ℕ} → edges ≡ edgesAt marks t inputs outputs → {ws spans work : List ℕ} → InputSpans spans inputs → MemoryReady N ws work
+        → ListedBoth N (tests t) table places (listOf ups marks 256 t) (listOf downs marks 320 t) edges ws spans work
+    listed-here {outputs = outputs} ee {ws = ws} {spans = spans} {work = work} i m =
+        let r = b .marked .each t h in
+        let part : (n : ℕ) → n ≡ 528 * t + n - 528 * t = λ n. omega arith in
+        let both : ListedBoth N (tests t) table places (entriesOf ups (getD marks (256 + t) 0) t) (entriesOf downs (getD marks (320 + t) 0) t) (edgesAt marks t inputs outputs) ws spans work =
+        record {
+          circuit = b .circuit;
+          placed = b .placed;
+          rises = r .rises;
+          falls = r .falls;
+          inputSpans = i;
+          memory = m;
+        } in
+        subst (λ (e : RecordEdges). ListedBoth N (tests t) table places (listOf ups marks 256 t) (listOf downs marks 320 t) e ws spans work) (sym ee)
+        (subst (λ (n : ℕ). ListedBoth N (tests t) table places (listOf ups marks 256 t) (take n (drop (528 * t) downs)) (edgesAt marks t inputs outputs) ws spans work)
+        (part (getD marks (320 + t) 0))
+        (subst (λ (n : ℕ). ListedBoth N (tests t) table places (take n (drop (528 * t) ups)) (entriesOf downs (getD marks (320 + t) 0) t) (edgesAt marks t inputs outputs) ws spans work)
+        (part (getD marks (256 + t) 0)) both))
+
 -- one test more of those that are left
 module _ (N : Netlist) (tests : ℕ → Test) (t records : ℕ) (h : t < records) (ws : List ℕ) where
   one-less : records - t ≡ suc (records - (t + 1))
@@ -107,47 +143,15 @@ module _ {table places ups downs marks ws₀ work₀ : List ℕ} {inputs records
         record { answer = ap (λ (n : ℕ). workAll N tests t n ws) (sym z) ∙ s .rest; taken = omega (arith, none) }
 
     module _ (h : t < records) where
-      abbrev upPart : List ℕ
-      upPart = take (528 * t + getD marks (256 + t) 0 - 528 * t) (drop (528 * t) ups)
-
-      abbrev downPart : List ℕ
-      downPart = take (528 * t + getD marks (320 + t) 0 - 528 * t) (drop (528 * t) downs)
-
-      pub up-inside : 528 * t + getD marks (256 + t) 0 ≤ length ups
-      up-inside = g .block .marked .each t h .upRoom
-
-      pub down-inside : 528 * t + getD marks (320 + t) 0 ≤ length downs
-      down-inside = g .block .marked .each t h .downRoom
-
       module _ {edges : RecordEdges} {outputs : ℕ} (ee : edges ≡ edgesAt marks t inputs outputs) where
-        -- what the record's place Work is handed
-        listed-here : (N : Netlist) (tests : ℕ → Test) → BlockIn N tests table places ups downs marks inputs records ws₀ work₀
-            → ListedBoth N (tests t) table places upPart downPart edges ws spans work
-        listed-here N tests b =
-            let r = b .marked .each t h in
-            let part : (n : ℕ) → n ≡ 528 * t + n - 528 * t = λ n. omega arith in
-            let both : ListedBoth N (tests t) table places (entriesOf ups (getD marks (256 + t) 0) t) (entriesOf downs (getD marks (320 + t) 0) t) (edgesAt marks t inputs outputs) ws spans work =
-            record {
-              circuit = b .circuit;
-              placed = b .placed;
-              rises = r .rises;
-              falls = r .falls;
-              inputSpans = g .inputSpans;
-              memory = g .soFar N tests b .memory;
-            } in
-            subst (λ (e : RecordEdges). ListedBoth N (tests t) table places upPart downPart e ws spans work) (sym ee)
-            (subst (λ (n : ℕ). ListedBoth N (tests t) table places upPart (take n (drop (528 * t) downs)) (edgesAt marks t inputs outputs) ws spans work)
-            (part (getD marks (320 + t) 0))
-            (subst (λ (n : ℕ). ListedBoth N (tests t) table places (take n (drop (528 * t) ups)) (entriesOf downs (getD marks (320 + t) 0) t) (edgesAt marks t inputs outputs) ws spans work)
-            (part (getD marks (256 + t) 0)) both))
-
-        pub some-listed : SomeListedBoth table places upPart downPart edges ws spans work
-        some-listed = record { circuit = g .circuit; test = g .tests t; listed = listed-here (g .circuit) (g .tests) (g .block) }
+        pub some-listed : SomeListedBoth table places (listOf ups marks 256 t) (listOf downs marks 320 t) edges ws spans work
+        some-listed = record { circuit = g .circuit; test = g .tests t; listed = listed-here (g .block) h ee (g .inputSpans) (here .memory) }
 
         module _ {ws′ work′ : List ℕ} {r : StageAnswer}
-            (a : (N : Netlist) (test : Test) → ListedBoth N test table places upPart downPart edges ws spans work → StageIs (workStage N test ws) ws ws′ work work′ r) where
+            (a : (N : Netlist) (test : Test) → ListedBoth N test table places (listOf ups marks 256 t) (listOf downs marks 320 t) edges ws spans work
+            → StageIs (workStage N test ws) ws ws′ work work′ r) where
           now-is : (N : Netlist) (tests : ℕ → Test) → BlockIn N tests table places ups downs marks inputs records ws₀ work₀ → StageIs (workStage N (tests t) ws) ws ws′ work work′ r
-          now-is N tests b = a N (tests t) (listed-here N tests b)
+          now-is N tests b = a N (tests t) (listed-here b h ee (g .inputSpans) (g .soFar N tests b .memory))
 
           this : StageIs (workStage (g .circuit) (g .tests t) ws) ws ws′ work work′ r
           this = now-is (g .circuit) (g .tests) (g .block)
@@ -208,8 +212,8 @@ module _ {table places ups downs marks ws₀ work₀ : List ℕ} {inputs records
 
 -- a block as it is handed over, and as it is answered for
 module _ {table places ups downs marks : List ℕ} {batch : Batch} {ws₀ work₀ : List ℕ} (h : BlockReady table places ups downs marks batch ws₀ work₀) where
-  pub block-inputs : batch .inputs ≤ 64
-  block-inputs = let c = h .block .circuit in omega (arith, c .inputsAre, limits (c .file) (h .netlist) (c .legal) .fewInputs)
+  pub block-begun : BlockIn (h .netlist) (h .tests) table places ups downs marks (batch .inputs) (batch .records) ws₀ work₀
+  block-begun = block-in (h .block) (h .memory)
 
   pub block-few : FewRuns ws₀
   block-few = memory-few (h .memory)
@@ -220,7 +224,7 @@ module _ {table places ups downs marks : List ℕ} {batch : Batch} {ws₀ work�
     few = h .block .few;
     circuit = h .netlist;
     tests = h .tests;
-    block = block-in (h .block) (h .memory);
+    block = block-begun;
     inputSpans = i;
     soFar = λ N tests b. (let z : batch .records - 0 ≡ batch .records = omega arith in
         record {
@@ -233,4 +237,4 @@ module _ {table places ups downs marks : List ℕ} {batch : Batch} {ws₀ work�
     pastWork = refl;
   }
 
-pub ruleset block-cases = (up-inside, down-inside, block-start, needs)
+pub ruleset block-cases = (block-start, needs)

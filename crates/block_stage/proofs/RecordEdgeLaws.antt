@@ -1,34 +1,28 @@
 -- One record of a block as the code goes through its edges: what each step is handed, and what was made of a store's runs.
 -- Assumes nothing.
-use mathlib.Core.Path.{_≡_, refl, ap, sym, _∙_, subst}
+use mathlib.Core.Path.{_≡_, refl, sym, subst}
 use mathlib.Core.Logic.{_⊎_, inl, inr}
 use mathlib.Core.List.{List}
-use Prim.Native.Nat.{ℕ, _+_, _*_, _^_, _≤_}
+use Prim.Native.Nat.{ℕ, _+_, _*_, _≤_}
 use native.Mathlib.Omega.{arith}
 use lib.ListN.{length}
-use Rattle.model.specs.Base.{Answer, refused, value, after}
 use Rattle.model.specs.Netlist.{Netlist, nets, pathTotal}
 use Rattle.model.specs.Path.{Edge, rising, falling}
 use Rattle.model.specs.Detect.{Test}
 use Rattle.model.specs.Store.{maxRuns}
-use Rattle.model.specs.Calls.{Tested, storeLeft}
 use Rattle.model.proofs.ReadLaws.{limits}
 use Rattle.model.specs.Runs.{Run}
 use Rattle.runs.specs.RunLists.{Sound}
-use Rattle.store_words.specs.Sound.{FewRuns, SoundWords, edgeWords}
-use Rattle.store_words.specs.WordAnswers.{totalsIn, totalsBoth}
-use Rattle.store_words.specs.declared.inner.StoreTotals.{StoreTotals}
-use Rattle.store_words.proofs.SoundLaws.{sound-more, edge-sound, edge-few}
+use Rattle.store_words.specs.Sound.{FewRuns, edgeWords}
+use Rattle.store_words.proofs.SoundLaws.{edge-sound, edge-few}
 use Rattle.intervals.specs.Edges.{Case}
 use Rattle.coverage.specs.Covers.{heldRuns, Covers}
 use Rattle.coverage.specs.Both.{caseOf, joined, CoversBoth}
-use Rattle.coverage.specs.Stage.{MemoryReady, BothMade, SomeBothMade, workStage, storeAfter, StageIs}
-use Rattle.coverage.specs.TestCall.{TestedIs, Counting, SomeCounting}
-use Rattle.coverage.specs.declared.TestAnswer.{TestAnswer}
+use Rattle.coverage.specs.Stage.{MemoryReady, BothMade, SomeBothMade, workStage, StageIs}
 use Rattle.coverage.specs.declared.edges.EdgeAnswer.{EdgeAnswer}
 use Rattle.coverage.specs.declared.edges.BothAnswer.{BothAnswer}
 use Rattle.coverage.specs.declared.inner.StageAnswer.{StageAnswer}
-use Rattle.coverage.proofs.WorkMemory.{work-memory}
+use Rattle.coverage.proofs.WorkMemory.{stage-memory}
 use Rattle.coverage.proofs.BothLaws.{covers-both}
 use Rattle.coverage.proofs.EdgesLaws.{held-half, held-are, memory-sound, memory-few}
 use Rattle.block_runs.specs.Spans.{InputSpans}
@@ -38,16 +32,6 @@ use Rattle.block_stage.specs.Covering.{EdgeReady, SomeEdgeReady}
 use Rattle.block_stage.specs.declared.covering.EdgeMarks.{EdgeMarks}
 use Rattle.block_stage.specs.Listed.{ListedBoth, SomeListedBoth}
 use Rattle.block_stage.specs.declared.listed.RecordEdges.{RecordEdges}
-
--- the store after the place Work has no more runs than a store may have
-stage-few : {N : Netlist} (t : Test) {ws work : List ℕ} → MemoryReady N ws work → {ws′ work′ : List ℕ} {r : StageAnswer} → StageIs (workStage N t ws) ws ws′ work work′ r → FewRuns ws′
-unfolding storeAfter
-stage-few {N} t {ws} {work} m {ws′} {work′} s = go (workStage N t ws) refl
-  where
-    go : (x : Answer Tested) → workStage N t ws ≡ x → FewRuns ws′
-    go (refused n) e = subst FewRuns (sym (s .store ∙ ap (λ (y : Answer Tested). after y ws storeLeft) e)) (memory-few m)
-    go (value d) e =
-        subst FewRuns (sym (s .store ∙ ap (λ (y : Answer Tested). after y ws storeLeft) e)) (memory-few {work = work′} (work-memory N t ws e m (s .sameLength)))
 
 -- the marks of each edge of a record
 abbrev pub upMarks : RecordEdges → EdgeMarks
@@ -132,35 +116,6 @@ module _ {table places ups downs : List ℕ} {edges : RecordEdges} {ws spans wor
     pub listed-few : {ws′ : List ℕ} {r : StageAnswer}
         → ((N : Netlist) (t : Test) (found : List ℕ) → BothMade N t ws found work′ q → StageIs (workStage N t ws) ws ws′ found work′ r)
         → SomeListedBoth table places ups downs edges ws spans work → FewRuns ws′
-    listed-few writes h = stage-few (h .test) (h .listed .memory) (listed-written writes (h .circuit) (h .test) (h .listed))
-
-  -- the faults are counted
-  pub listed-sound : SomeListedBoth table places ups downs edges ws spans work → SoundWords (2 ^ 62) ws
-  listed-sound h = let b = h .listed in sound-more (pathTotal (h .circuit)) (2 ^ 62) ws (limits (b .circuit .file) (h .circuit) (b .circuit .legal) .totalFits) (memory-sound (b .memory))
-
-  module _ {before : StoreTotals} (eb : totalsIn before ≡ totalsBoth ws) {ws′ work′ : List ℕ} {r : StageAnswer}
-      (s : (N : Netlist) (t : Test) → ListedBoth N t table places ups downs edges ws spans work → StageIs (workStage N t ws) ws ws′ work work′ r) where
-    counting-of : {N : Netlist} {t : Test} → ListedBoth N t table places ups downs edges ws spans work → Counting N t (workStage N t ws) ws ws′ work work′ before r
-    counting-of {N = N} {t = t} h = record {
-      memory = h .memory;
-      fewPaths = limits (h .circuit .file) N (h .circuit .legal) .totalFits;
-      totals = eb;
-      stage = s N t h;
-      isWork = λ d e. e;
-    }
-
-    pub listed-counting : SomeListedBoth table places ups downs edges ws spans work → SomeCounting before r ws′
-    listed-counting h = record {
-      circuit = h .circuit;
-      test = h .test;
-      made = workStage (h .circuit) (h .test) ws;
-      held = ws;
-      work = work;
-      work′ = work′;
-      counting = counting-of (h .listed);
-    }
-
-    pub listed-counted : {a : TestAnswer}
-        → ((N : Netlist) (t : Test) (x : Answer Tested) (held old new : List ℕ) → Counting N t x held ws′ old new before r → TestedIs x held ws′ old new a)
-        → (N : Netlist) (t : Test) → ListedBoth N t table places ups downs edges ws spans work → TestedIs (workStage N t ws) ws ws′ work work′ a
-    listed-counted counts N t h = counts N t (workStage N t ws) ws work work′ (counting-of h)
+    listed-few {ws′ = ws′} writes h =
+        let s = listed-written writes (h .circuit) (h .test) (h .listed) in
+        memory-few (subst (λ (x : List ℕ). MemoryReady (h .circuit) x work′) (sym (s .store)) (stage-memory (h .test) (h .listed .memory) same))

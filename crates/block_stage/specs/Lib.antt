@@ -1,3 +1,4 @@
 pub mod Covering
 pub mod Listed
 pub mod BlockStage
+pub mod Counts

@@ -1,5 +1,6 @@
 // The records of a block, one after the other, on a sound store. Only our own crates call it.
+pub mod counting;
 mod covering;
 pub mod inner;
-pub mod listed;
-pub mod spans;
+mod listed;
+mod spans;

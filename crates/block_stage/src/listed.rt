@@ -5,7 +5,6 @@ ghost use Rattle.model.specs.Netlist.{Netlist};
 ghost use Rattle.model.specs.Detect.{Test};
 ghost use Rattle.coverage.specs.Both.{CoversBoth};
 ghost use Rattle.coverage.specs.Stage.{workStage, StageIs};
-ghost use Rattle.coverage.specs.TestCall.{TestedIs};
 ghost use Rattle.block_runs.specs.Spans.{InputSpans};
 ghost use Rattle.block_stage.specs.Listed.{edgesAt, ListedBoth, SomeListedBoth};
 use crate::covering::EdgeMarks;
@@ -13,17 +12,14 @@ use crate::covering::cover_edge;
 use crate::spans::renew_sections;
 use block_runs::sections::FALLING_SECTIONS;
 use block_runs::sections::RISING_SECTIONS;
-use coverage::TestAnswer;
 use coverage::edges::BothAnswer;
 use coverage::edges::FALLING_UNION;
 use coverage::edges::RISING_UNION;
 use coverage::edges::join_answers;
 use coverage::inner::StageAnswer;
-use coverage::inner::count_answer;
 use coverage::inner::write_both;
 use faults::Edge;
 use store_words::inner::parts::edge_runs;
-use store_words::inner::totals_of;
 
 // The marks of one record: a bit for each input that rises or falls, a bit for each live output of the rising and of the falling edge, the numbers of inputs and
 // outputs.
@@ -37,7 +33,7 @@ pub struct RecordEdges {
 }
 
 // The marks of record t of a block.
-pub fn edges_at(marks: &[u64; 384], t: usize, inputs: usize, outputs: usize) -> RecordEdges
+pub(crate) fn edges_at(marks: &[u64; 384], t: usize, inputs: usize, outputs: usize) -> RecordEdges
     requires { ⌜ t < 64 ⌝ }
     ensures { λ r. ⌜ r ≡ edgesAt (now (marks .entry)) t inputs outputs ⌝ }
 {
@@ -128,28 +124,4 @@ pub(crate) fn apply_listed(
     let stage = write_both(answer, store, work);
     renew_sections(places, edges.outputs, answer, store, spans);
     stage
-}
-
-// The same, with the faults counted that are new to the store and those then held.
-pub fn count_listed(
-    table: &[u16; 5120],
-    places: &[u64; 4224],
-    ups: &[u32],
-    downs: &[u32],
-    edges: RecordEdges,
-    store: &mut [u64],
-    spans: &mut [u64; 1666],
-    work: &mut [u64],
-) -> TestAnswer
-    requires { ⌜ SomeListedBoth (now table) (now places) (now ups) (now downs) edges (now store) (now spans) (now work) ⌝ }
-    ensures { λ r. ⌜
-        InputSpans (now (spans .exit)) (edges .inputs)
-        × ((N : Netlist) (t : Test)
-        → ListedBoth N t (now (table .entry)) (now (places .entry)) (now (ups .entry)) (now (downs .entry)) edges (now (store .entry)) (now (spans .entry)) (now (work .entry))
-        → TestedIs (workStage N t (now (store .entry))) (now (store .entry)) (now (store .exit)) (now (work .entry)) (now (work .exit)) r)
-        ⌝ }
-{
-    let before = totals_of(store);
-    let answer = apply_listed(table, places, ups, downs, edges, store, spans, work);
-    count_answer(before, answer, store)
 }

@@ -16,7 +16,7 @@ use store_words::inner::parts::edge_runs;
 use store_writing::inner::Change;
 
 // The spans of the inputs and the sections of both edges.
-pub fn begin_spans(
+pub(crate) fn begin_spans(
     places: &[u64; 4224],
     inputs: usize,
     outputs: usize,
@@ -63,7 +63,7 @@ fn renew_edge(
 }
 
 // The sections of both edges, after what was made of them is written.
-pub fn renew_sections(
+pub(crate) fn renew_sections(
     places: &[u64; 4224],
     outputs: usize,
     answer: BothAnswer,

@@ -25,11 +25,10 @@ use Rattle.netlist.specs.Tables.{CircuitTables}
 use Rattle.netlist.specs.declared.inner.LoadAnswer.{LoadAnswer}
 use Rattle.netlist.specs.declared.inner.LoadAnswer.the-variants as load
 use Rattle.netlist.specs.declared.inner.Shape.{Shape}
-use Rattle.coverage.specs.Stage.{KnownIs, CheckReady, LegalReady, placeRules, checkedOf, storeAfter}
+use Rattle.coverage.specs.Stage.{CheckReady, LegalReady, placeRules, checkedOf, storeAfter}
 use Rattle.coverage.specs.TestCall.{returnedBy, TestedIs, TestTrue}
 use Rattle.coverage.specs.declared.TestAnswer.{TestAnswer}
 use Rattle.coverage.specs.declared.TestAnswer.the-variants.{Refused}
-use Rattle.coverage.specs.declared.inner.StoreKnown.the-variants as known
 use Rattle.coverage.specs.declared.inner.Checked.{Checked}
 use Rattle.coverage.specs.declared.inner.Checked.the-variants as checked
 use Rattle.coverage.proofs.StageLaws.{stage-refused, passes-test, passes-store}
@@ -42,7 +41,7 @@ module _ (class inputs paths : ℕ) (rec ws : List ℕ) (k : Bool) (e : k ≡ wi
   class-unknown h N i p = let q : within 1 2 class ≡ false = sym e ∙ not-true k h in rw q refl
 
   pub class-known : not k ≡ false → (c : Checked)
-      → ((N : Netlist) → inputs ≡ N .inputs → KnownIs (known.Unchecked paths) (pathTotal N) ws → checkedOf c ≡ checks (placeRules N rec ws))
+      → ((N : Netlist) → inputs ≡ N .inputs → paths ≡ pathTotal N → checkedOf c ≡ checks (placeRules N rec ws))
       → (N : Netlist) → inputs ≡ N .inputs → paths ≡ pathTotal N → checkedOf c ≡ checks (classRule class ∷ placeRules N rec ws)
   class-known h c made N i p = let q : within 1 2 class ≡ true = sym e ∙ not-false k h in made N i p ∙ rw q refl
 
@@ -83,14 +82,14 @@ module _ (netlist : List ℕ) (class : ℕ) (rec ws work : List ℕ) where
           here : LegalLoad netlist counts positions shape total
           here = rw e at t
 
-          pub call-checks : CheckReady (shape .inputs) ws (known.Unchecked total)
+          pub call-checks : CheckReady (shape .inputs) ws total
           call-checks =
               let m = limits netlist (here .circuit) (here .tables .legal) in
               record {
                 someInput = omega (arith, here .tables .inputsAre, m .someInput);
                 fewInputs = omega (arith, here .tables .inputsAre, m .fewInputs);
                 long = l;
-                fewPaths = λ n d. (let q : total ≡ n = cc in omega (arith, q, here .totalIs, m .totalFits));
+                fewPaths = omega (arith, here .totalIs, m .totalFits);
               }
 
           before-is : beforeTest netlist class ws work ≡ (checks (classRule class ∷ []) >> value (here .circuit))

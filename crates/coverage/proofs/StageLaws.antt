@@ -29,20 +29,15 @@ use Rattle.test_records.specs.declared.inner.InputEdges.{InputEdges}
 use Rattle.store_words.specs.WordAnswers.{checkOf}
 use Rattle.store_words.specs.declared.inner.StoreCheck.{StoreCheck}
 use Rattle.store_words.specs.declared.inner.StoreCheck.the-variants as check
-use Rattle.coverage.specs.Stage.{PinsOf, StageReady, LegalReady, WorkReady, KnownIs, CheckReady, placeRules, checkedOf, storeAfter, workStage, StageIs, StageTrue}
-use Rattle.coverage.specs.declared.inner.StoreKnown.{StoreKnown}
-use Rattle.coverage.specs.declared.inner.StoreKnown.the-variants as known
-use Rattle.coverage.specs.declared.inner.Checked.{Checked}
-use Rattle.coverage.specs.declared.inner.Checked.the-variants as checked
+use Rattle.coverage.specs.Stage.{PinsOf, LegalReady, WorkReady, placeRules, workStage, StageIs, StageTrue}
 use Rattle.coverage.specs.declared.inner.StageAnswer.{StageAnswer}
-use Rattle.coverage.specs.declared.inner.StageAnswer.the-variants.{Refused}
 
 -- ---- the places Test and Store
 
-module _ (inputs : ℕ) (rec ws : List ℕ) (k : StoreKnown) {q : RecordAnswer} (e : RecordTrue q inputs rec) where
-  pub place-test : (w : Refusal) → q ≡ record-answer.Refused w → (N : Netlist) → inputs ≡ N .inputs → KnownIs k (pathTotal N) ws
+module _ (inputs paths : ℕ) (rec ws : List ℕ) {q : RecordAnswer} (e : RecordTrue q inputs rec) where
+  pub place-test : (w : Refusal) → q ≡ record-answer.Refused w → (N : Netlist) → inputs ≡ N .inputs → paths ≡ pathTotal N
       → refused (refusalNumber w) ≡ checks (placeRules N rec ws)
-  place-test w r N i s =
+  place-test w r N i p =
       let t : checks (testRules N rec) ≡ refused (refusalNumber w) = sym (e .answer N (sym i)) ∙ ap recordOf r in
       sym (checks-both (testRules N rec) (storeRules (pathTotal N) ws) ∙ rw t refl)
 
@@ -52,21 +47,16 @@ module _ (inputs : ℕ) (rec ws : List ℕ) (k : StoreKnown) {q : RecordAnswer} 
         let t : checks (testRules N rec) ≡ value tt = sym (e .answer N (sym i)) ∙ ap recordOf r in
         checks-both (testRules N rec) (storeRules (pathTotal N) ws) ∙ rw t refl
 
-    pub place-known : k ≡ known.Sound → (N : Netlist) → inputs ≡ N .inputs → KnownIs k (pathTotal N) ws → value tt ≡ checks (placeRules N rec ws)
-    place-known d N i s = sym (place-store N i ∙ subst (λ (x : StoreKnown). KnownIs x (pathTotal N) ws) d s)
+    module _ (a : StoreCheck) (ea : checkOf a ≡ checks (storeRules paths ws)) where
+      place-checked : (N : Netlist) → inputs ≡ N .inputs → paths ≡ pathTotal N → checkOf a ≡ checks (placeRules N rec ws)
+      place-checked N i p = ea ∙ ap (λ m. checks (storeRules m ws)) p ∙ sym (place-store N i)
 
-    module _ {n : ℕ} (d : k ≡ known.Unchecked n) (a : StoreCheck) (ea : checkOf a ≡ checks (storeRules n ws)) where
-      place-checked : (N : Netlist) → inputs ≡ N .inputs → KnownIs k (pathTotal N) ws → checkOf a ≡ checks (placeRules N rec ws)
-      place-checked N i s =
-          let p : n ≡ pathTotal N = subst (λ (x : StoreKnown). KnownIs x (pathTotal N) ws) d s in
-          ea ∙ ap (λ m. checks (storeRules m ws)) p ∙ sym (place-store N i)
-
-      pub place-refused : (w : Refusal) → a ≡ check.Refused w → (N : Netlist) → inputs ≡ N .inputs → KnownIs k (pathTotal N) ws
+      pub place-refused : (w : Refusal) → a ≡ check.Refused w → (N : Netlist) → inputs ≡ N .inputs → paths ≡ pathTotal N
           → refused (refusalNumber w) ≡ checks (placeRules N rec ws)
-      place-refused w o N i s = sym (ap checkOf o) ∙ place-checked N i s
+      place-refused w o N i p = sym (ap checkOf o) ∙ place-checked N i p
 
-      pub place-sound : a ≡ check.Sound → (N : Netlist) → inputs ≡ N .inputs → KnownIs k (pathTotal N) ws → value tt ≡ checks (placeRules N rec ws)
-      place-sound o N i s = sym (ap checkOf o) ∙ place-checked N i s
+      pub place-sound : a ≡ check.Sound → (N : Netlist) → inputs ≡ N .inputs → paths ≡ pathTotal N → value tt ≡ checks (placeRules N rec ws)
+      place-sound o N i p = sym (ap checkOf o) ∙ place-checked N i p
 
 -- ---- before the place Work
 
@@ -103,36 +93,6 @@ module _ (N : Netlist) (rec ws : List ℕ) where
       →checks (storeRules (pathTotal N) ws)
       (pass-second (testRules N rec) (storeRules (pathTotal N) ws) (checks→ (placeRules N rec ws) (record { got = tt; is = sym e })))
 
--- ---- one record on a sound store, by what its checks answer
-
-module _ {file ps cs : List ℕ} {shape : Shape} {ws work : List ℕ} (h : StageReady file ps cs shape ws work) where
-  pub stage-checks : CheckReady (shape .inputs) ws known.Sound
-  stage-checks =
-      let l = limits file (h .circuit) (h .tables .legal) in
-      record {
-        someInput = omega (arith, h .tables .inputsAre, l .someInput);
-        fewInputs = omega (arith, h .tables .inputsAre, l .fewInputs);
-        long = h .memory .storeLength;
-        fewPaths = λ n e. (let z : _≡_ {A = ℕ} 0 1 = cc in absurd (omega arith));
-      }
-
-  module _ (rec : List ℕ) (q : Checked)
-      (e : (N : Netlist) → shape .inputs ≡ N .inputs → KnownIs known.Sound (pathTotal N) ws → checkedOf q ≡ checks (placeRules N rec ws)) where
-    places-of : (N : Netlist) → CircuitTables N file ps cs shape → checkedOf q ≡ checks (placeRules N rec ws)
-    places-of N c =
-        let s = subst (λ M. checks (storeRules (pathTotal M) ws) ≡ value tt) (value-inj (sym (h .tables .legal) ∙ c .legal)) (h .memory .sound) in
-        e N (c .inputsAre) s
-
-    pub test-legal : q ≡ checked.Passed → LegalReady file ps cs shape rec ws work
-    test-legal l = record { stage = h; legalRecord = passes-test (h .circuit) rec ws (sym (ap checkedOf l) ∙ places-of (h .circuit) (h .tables)) }
-
-    pub test-refused : (class : ℕ) {w : Refusal} → q ≡ checked.Refused w → (N : Netlist) → CircuitTables N file ps cs shape
-        → StageTrue N (classOf class) rec ws ws work work (Refused w)
-    unfolding storeAfter
-    test-refused class {w = w} l N c =
-        let d : testStage N (classOf class) rec ws ≡ refused (refusalNumber w) = stage-refused N (classOf class) rec ws (refusalNumber w) (sym (ap checkedOf l) ∙ places-of N c) in
-        record { answer = rw d refl; store = rw d refl; sameLength = refl; pastWork = refl }
-
 -- ---- a record that no rule of the place Test refuses: its pins and edges
 
 vector-first : (N : Netlist) (c : Class) (rec : List ℕ) → length (testOf N c rec .v1) ≡ N .inputs
@@ -143,13 +103,13 @@ vector-last : (N : Netlist) (c : Class) (rec : List ℕ) → length (testOf N c 
 unfolding testOf
 vector-last N c rec = length-map (numbersFrom 0 (N .inputs)) (inputBit (v2Part N rec)) ∙ length-numbersFrom 0 (N .inputs)
 
-in-class : (N : Netlist) (c : Class) (rec : List ℕ) → testOf N c rec .class ≡ c
+pub in-class : (N : Netlist) (c : Class) (rec : List ℕ) → testOf N c rec .class ≡ c
 unfolding testOf
 in-class N c rec = refl
 
 module _ {file ps cs : List ℕ} {shape : Shape} {rec ws work : List ℕ} (h : LegalReady file ps cs shape rec ws work) where
   pub legal-inputs : shape .inputs ≤ 64
-  legal-inputs = stage-checks (h .stage) .fewInputs
+  legal-inputs = omega (arith, h .stage .tables .inputsAre, limits file (h .stage .circuit) (h .stage .tables .legal) .fewInputs)
 
   pub legal-length : length rec ≡ 2 + 2 * vectorBytes (shape .inputs)
   legal-length =

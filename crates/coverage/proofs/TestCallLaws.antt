@@ -25,7 +25,6 @@ use Rattle.netlist.specs.declared.inner.Shape.{Shape}
 use Rattle.store_words.specs.WordAnswers.{totalsIn, totalsBoth}
 use Rattle.store_words.specs.Sound.{SoundWords}
 use Rattle.store_words.specs.declared.inner.StoreTotals.{StoreTotals}
-use Rattle.store_words.proofs.SoundLaws.{sound-words, edge-sound, sound-more}
 use Rattle.store_words.proofs.SoundLaws.{edge-sound, sound-more}
 use Rattle.coverage.specs.Stage.{MemoryReady, LegalReady, stageOf, storeAfter, workStage, StageIs, StageTrue}
 use Rattle.coverage.specs.TestCall.{testedOf, returnedBy, TestedIs, Counting, SomeCounting}
@@ -46,7 +45,7 @@ pub taken-by : {A : Type 0} (x : Answer A) → value tt ≡ passes x → Passed 
 taken-by (refused m) e = absurd (not-refused (sym e))
 taken-by (value a) e = record { got = a; is = refl }
 
-pub as-tested : {x : Answer Tested} {ws ws′ work work′ : List ℕ} {w : Refusal} → StageIs x ws ws′ work work′ (stage.Refused w) → TestedIs x ws ws′ work work′ (Refused w)
+as-tested : {x : Answer Tested} {ws ws′ work work′ : List ℕ} {w : Refusal} → StageIs x ws ws′ work work′ (stage.Refused w) → TestedIs x ws ws′ work work′ (Refused w)
 unfolding returnedBy
 as-tested {x = x} {w = w} s =
     let e : x ≡ refused (refusalNumber w) = refused-by x (refusalNumber w) (s .answer) in
@@ -60,7 +59,7 @@ module _ (N : Netlist) (t : Test) (ws : List ℕ) (e : Edge) (a : Separated (pat
       ∙ sym (runs-size (λ k. inRuns (storeRuns ws e) k) (pathTotal N))
       ∙ ap size (runs-of-runs (pathTotal N) (storeRuns ws e) a)
 
-  then-size : size (runsThen N (runsByEdge ws) t e) ≡ howMany (heldThen N (runsByEdge ws) t e) (pathTotal N)
+  pub then-size : size (runsThen N (runsByEdge ws) t e) ≡ howMany (heldThen N (runsByEdge ws) t e) (pathTotal N)
   then-size = runs-size (heldThen N (runsByEdge ws) t e) (pathTotal N)
 
   more-size : size (runsThen N (runsByEdge ws) t e) ≡ size (storeRuns ws e) + howMany (newThen N (runsByEdge ws) t e) (pathTotal N)
@@ -93,7 +92,7 @@ module _ {N : Netlist} {t : Test} {x : Answer Tested} {ws ws′ work work′ : L
     few-then : (e : Edge) → length (ofEdge (byEdge (runsThen N (runsByEdge ws) t)) e) ≤ maxRuns
     few-then e = subst (λ (rs : List Run). length rs ≤ maxRuns) (sym (ofEdge-byEdge (runsThen N (runsByEdge ws) t) e)) (then-few N t ws work-is e)
 
-    size-after : (e : Edge) → size (storeRuns ws′ e) ≡ size (runsThen N (runsByEdge ws) t e)
+    pub size-after : (e : Edge) → size (storeRuns ws′ e) ≡ size (runsThen N (runsByEdge ws) t e)
     unfolding tested
     size-after e =
         ap (λ (y : List ℕ). size (storeRuns y e)) (left-is ∙ ap storeLeft (sym (work-result N t ws work-is)))

@@ -1,12 +1,12 @@
 -- The place Work, once its rules pass: what it comes to, and that it leaves a store that no rule refuses.
 -- Assumes nothing.
-use mathlib.Core.Path.{_≡_, ap, sym, _∙_, subst}
+use mathlib.Core.Path.{_≡_, refl, ap, sym, _∙_, subst}
 use mathlib.Core.List.{List}
 use Prim.Native.Nat.{ℕ, _≤_}
 use native.Mathlib.Omega.{arith}
 use lib.Dec.{leb, leb→le}
 use lib.ListN.{length}
-use Rattle.model.specs.Base.{value, checks}
+use Rattle.model.specs.Base.{Answer, refused, value, checks, after}
 use Rattle.model.specs.Netlist.{Netlist, pathTotal}
 use Rattle.model.specs.Path.{Edge, rising, falling}
 use Rattle.model.specs.Detect.{Test}
@@ -15,7 +15,7 @@ use Rattle.model.specs.Store.{maxRuns, storeOf, storeRuns, storeRules, runsByEd
 use Rattle.model.specs.Calls.{workRules, Tested, storeLeft, tested, runsThen}
 use Rattle.model.proofs.AnswerLaws.{AllPass, checks→, →checks, then-first, then-second, value-inj}
 use Rattle.model.proofs.HoldingLaws.{Sets, Holding, withTest, at-edge, runs-then, holding-own, holding-length, holding-passes}
-use Rattle.coverage.specs.Stage.{MemoryReady, workStage}
+use Rattle.coverage.specs.Stage.{MemoryReady, storeAfter, workStage}
 
 -- the numbers in a store's runs
 abbrev ownSets : List ℕ → Sets
@@ -52,3 +52,13 @@ module _ (N : Netlist) (t : Test) (ws : List ℕ) {d : Tested} (q : workStage N 
       sound = →checks (storeRules (pathTotal N) (storeLeft d)) (holding-passes N (storeLeft d) (withTest N t (ownSets ws)) holds-then);
       workLength = omega (arith, m .workLength);
     }
+
+-- refused or taken, the place Work leaves the memory ready for the next record
+pub stage-memory : {N : Netlist} (t : Test) {ws work work′ : List ℕ} → MemoryReady N ws work → length work′ ≡ length work
+    → MemoryReady N (storeAfter (workStage N t ws) ws) work′
+unfolding storeAfter
+stage-memory {N = N} t {ws = ws} {work′ = work′} m l = go (workStage N t ws) refl
+  where
+    go : (x : Answer Tested) → workStage N t ws ≡ x → MemoryReady N (after x ws storeLeft) work′
+    go (refused n) e = record { storeLength = m .storeLength; sound = m .sound; workLength = omega (arith, m .workLength) }
+    go (value d) e = work-memory N t ws e m l

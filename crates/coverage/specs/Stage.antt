@@ -18,8 +18,6 @@ use Rattle.simulation.specs.Simulated.{OpenMasks}
 use Rattle.test_records.specs.declared.inner.InputEdges.{InputEdges}
 use Rattle.coverage.specs.Both.{CoversBoth}
 use Rattle.coverage.specs.declared.edges.BothAnswer.{BothAnswer}
-use Rattle.coverage.specs.declared.inner.StoreKnown.{StoreKnown}
-use Rattle.coverage.specs.declared.inner.StoreKnown.the-variants as known
 use Rattle.coverage.specs.declared.inner.Checked.{Checked}
 use Rattle.coverage.specs.declared.inner.Checked.the-variants as checked
 use Rattle.coverage.specs.declared.inner.StageAnswer.{StageAnswer}
@@ -66,17 +64,12 @@ pub record SomeBothMade (b : BothAnswer) (ws work : List ℕ) : Type 0 where
   pub found : List ℕ
   pub made : BothMade circuit test ws found work b
 
--- what is known of a store before its place: that it is sound, or the number of paths to check it for
-abbrev pub KnownIs : StoreKnown → ℕ → List ℕ → Type 0
-KnownIs known.Sound paths ws = checks (storeRules paths ws) ≡ value tt
-KnownIs (known.Unchecked n) paths ws = n ≡ paths
-
 -- numbers and a store of the right length that the places Test and Store are handed
-pub record CheckReady (inputs : ℕ) (ws : List ℕ) (state : StoreKnown) : Type 0 where
+pub record CheckReady (inputs : ℕ) (ws : List ℕ) (paths : ℕ) : Type 0 where
   pub someInput : 1 ≤ inputs
   pub fewInputs : inputs ≤ 64
   pub long : length ws ≡ storeWords
-  pub fewPaths : (n : ℕ) → state ≡ known.Unchecked n → n ≤ 2 ^ 62
+  pub fewPaths : paths ≤ 2 ^ 62
 
 -- the rules of the places Test and Store
 abbrev pub placeRules : Netlist → List ℕ → List ℕ → List Rule

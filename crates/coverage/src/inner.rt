@@ -6,12 +6,11 @@ ghost use Rattle.model.specs.Base.{Answer, checks};
 ghost use Rattle.model.specs.Netlist.{Netlist, pathTotal};
 ghost use Rattle.model.specs.Detect.{Test};
 ghost use Rattle.model.specs.Read.{classOf};
-ghost use Rattle.model.specs.Calls.{Tested, testStage};
+ghost use Rattle.model.specs.Calls.{Tested};
 ghost use Rattle.netlist.specs.Tables.{CircuitTables};
-ghost use Rattle.coverage.specs.Stage.{PinsOf, StageReady, LegalReady, WorkReady, BothMade, SomeBothMade, KnownIs, CheckReady, placeRules, checkedOf, workStage, StageIs, StageTrue};
+ghost use Rattle.coverage.specs.Stage.{PinsOf, LegalReady, WorkReady, BothMade, SomeBothMade, CheckReady, placeRules, checkedOf, workStage, StageIs, StageTrue};
 ghost use Rattle.coverage.specs.TestCall.{TestedIs, Counting, SomeCounting};
 use crate::TestAnswer;
-use crate::count_new;
 use crate::edges::BothAnswer;
 use crate::edges::FALLING_UNION;
 use crate::edges::RISING_UNION;
@@ -37,32 +36,23 @@ pub enum StageAnswer {
     Refused(Refusal),
 }
 
-// What is known of a store before its place: that it is sound, or the number of paths to check it for.
-pub enum StoreKnown {
-    Sound,
-    Unchecked(u64),
-}
-
 // What the places Test and Store answer.
 pub enum Checked {
     Passed,
     Refused(Refusal),
 }
 
-// The places Test and Store for one record, in this order. A store that is known to be sound is not checked again.
-pub(crate) fn check_places(test: &[u8], inputs: usize, store: &[u64], known: StoreKnown) -> Checked
-    requires { ⌜ CheckReady inputs (now store) known ⌝ }
-    ensures { λ r. ⌜ ((N : Netlist) → inputs ≡ N .inputs → KnownIs known (pathTotal N) (now (store .entry))
+// The places Test and Store for one record, in this order.
+pub(crate) fn check_places(test: &[u8], inputs: usize, store: &[u64], paths: u64) -> Checked
+    requires { ⌜ CheckReady inputs (now store) paths ⌝ }
+    ensures { λ r. ⌜ ((N : Netlist) → inputs ≡ N .inputs → paths ≡ pathTotal N
         → checkedOf r ≡ checks (placeRules N (now (test .entry)) (now (store .entry)))) ⌝ }
 {
     match check_record(test, inputs) {
         RecordAnswer::Refused(why) => Checked::Refused(why),
-        RecordAnswer::Legal => match known {
-            StoreKnown::Sound => Checked::Passed,
-            StoreKnown::Unchecked(paths) => match check_words(store, paths) {
-                StoreCheck::Refused(why) => Checked::Refused(why),
-                StoreCheck::Sound => Checked::Passed,
-            },
+        RecordAnswer::Legal => match check_words(store, paths) {
+            StoreCheck::Refused(why) => Checked::Refused(why),
+            StoreCheck::Sound => Checked::Passed,
         },
     }
 }
@@ -152,28 +142,5 @@ pub fn count_answer(before: StoreTotals, answer: StageAnswer, store: &[u64]) -> 
                 held_falling: after.falling,
             }
         }
-    }
-}
-
-// One record, judged in a class: the places Test and Work, with the faults counted that are new to the store and those then held. The store is sound, so the
-// place Store refuses nothing.
-pub fn count_record(
-    netlist: &[u8],
-    positions: &[u16; 512],
-    counts: &[u64; 512],
-    shape: Shape,
-    test: &[u8],
-    class: u32,
-    store: &mut [u64],
-    work: &mut [u64],
-) -> TestAnswer
-    requires { ⌜ StageReady (now netlist) (now positions) (now counts) shape (now store) (now work) ⌝ }
-    ensures { λ r. ⌜ ((N : Netlist) → CircuitTables N (now (netlist .entry)) (now (positions .entry)) (now (counts .entry)) shape
-        → TestedIs (testStage N (classOf class) (now (test .entry)) (now (store .entry)))
-        (now (store .entry)) (now (store .exit)) (now (work .entry)) (now (work .exit)) r) ⌝ }
-{
-    match check_places(test, shape.inputs, store, StoreKnown::Sound) {
-        Checked::Refused(why) => TestAnswer::Refused(why),
-        Checked::Passed => count_new(netlist, positions, counts, shape, test, class, store, work),
     }
 }

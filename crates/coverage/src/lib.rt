@@ -13,10 +13,8 @@ ghost use Rattle.model.specs.Store.{storeWords};
 ghost use Rattle.model.specs.Calls.{testStage, workWords};
 ghost use Rattle.netlist.specs.Tables.{CircuitTables};
 ghost use Rattle.coverage.specs.Stage.{LegalReady, CheckReady, placeRules, checkedOf};
-ghost use Rattle.coverage.specs.declared.inner.StoreKnown.the-variants.{Unchecked};
 ghost use Rattle.coverage.specs.TestCall.{TestedIs, TestTrue};
 use crate::inner::Checked;
-use crate::inner::StoreKnown;
 use crate::inner::apply_legal;
 use crate::inner::check_places;
 use crate::inner::count_answer;
@@ -41,7 +39,7 @@ pub enum TestAnswer {
 }
 
 // A legal record on a sound store: the stage, with the faults that the store holds counted before and after it.
-pub(crate) fn count_new(
+fn count_new(
     netlist: &[u8],
     positions: &[u16; 512],
     counts: &[u64; 512],
@@ -63,14 +61,14 @@ pub(crate) fn count_new(
 
 // The class, then the places Test and Store for one record, on a store that is not checked yet.
 fn check_call(test: &[u8], class: u32, inputs: usize, store: &[u64], paths: u64) -> Checked
-    requires { ⌜ CheckReady inputs (now store) (Unchecked paths) ⌝ }
+    requires { ⌜ CheckReady inputs (now store) paths ⌝ }
     ensures { λ r. ⌜ ((N : Netlist) → inputs ≡ N .inputs → paths ≡ pathTotal N
         → checkedOf r ≡ checks (classRule class ∷ placeRules N (now (test .entry)) (now (store .entry)))) ⌝ }
 {
     if !known_class(class) {
         return Checked::Refused(Refusal::UnknownClass);
     }
-    check_places(test, inputs, store, StoreKnown::Unchecked(paths))
+    check_places(test, inputs, store, paths)
 }
 
 // The test call on a store and working memory of the right lengths.

@@ -13,7 +13,6 @@ use console::print;
 use libc::STDERR_FILENO;
 use libc::STDOUT_FILENO;
 use listing_text::inner::OUT_BYTES;
-use listing_text::inner::PIECE_BYTES;
 use listing_text::inner::put_paths;
 use listing_text::inner::put_refusal;
 use listing_walk::inner::Descriptors;
@@ -32,7 +31,7 @@ ghost use lib.ListN.{length};
 ghost use Rattle.model.specs.Store.{storeWords};
 ghost use Rattle.model.specs.Calls.{workWords};
 ghost use Rattle.netlist.specs.Tables.{SomeTables};
-ghost use Rattle.listing_text.specs.Answers.{pieceBytes, outBytes};
+ghost use Rattle.listing_text.specs.Answers.{outBytes};
 
 fn print_usage(fd: i32) {
     print(fd, b"usage: listing [CIRCUIT [TESTS [CLASS]]]\n");
@@ -42,13 +41,7 @@ fn print_usage(fd: i32) {
     );
 }
 
-// Zeros for a piece of the test file, for text, for a store and for working memory.
-fn piece_bytes() -> [u8; PIECE_BYTES]
-    ensures { λ r. ⌜ pieceBytes ≡ length r ⌝ }
-{
-    [0; PIECE_BYTES]
-}
-
+// Zeros for text, for a store and for working memory.
 fn text_bytes() -> [u8; OUT_BYTES]
     ensures { λ r. ⌜ outBytes ≡ length r ⌝ }
 {
@@ -81,7 +74,7 @@ fn list_tests(
 {
     let mut name = io::buffer();
     let n = file_name(2, b"tests.tp", &mut name);
-    let mut space = piece_bytes();
+    let mut space = io::large_buffer();
     clear(store);
     let opened = open_file(&name[..n]);
     let files = Descriptors {

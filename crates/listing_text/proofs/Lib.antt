@@ -2,6 +2,8 @@
 pub mod PutLaws
 pub mod RunSteps
 pub mod CutLaws
+pub mod BlockLineLaws
+pub mod PartCases
 pub mod PieceSteps
 pub mod ListedPiecesHold
 pub mod ExamplesHold

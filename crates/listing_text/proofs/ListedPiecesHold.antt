@@ -69,6 +69,14 @@ module _ (N : Netlist) (c : Class) (before piece : List ℕ) (k : ℕ) (h : leng
       sym (store-append N c (listedRecords N before) (listedRecords N piece) ws)
       ∙ ap (λ (x : List (List ℕ)). storeAfterAll N c x ws) (sym (listed-append N k before piece h))
 
+  pub lines-more : (place : ℕ) (ws : List ℕ)
+      → recordLines N c place (listedRecords N before) ws
+      ++ recordLines N c (place + length (listedRecords N before)) (listedRecords N piece) (storeAfterAll N c (listedRecords N before) ws)
+      ≡ recordLines N c place (listedRecords N (before ++ piece)) ws
+  lines-more place ws =
+      sym (lines-append N c place (listedRecords N before) (listedRecords N piece) ws)
+      ∙ ap (λ (x : List (List ℕ)). recordLines N c place x ws) (sym (listed-append N k before piece h))
+
   pub count-more : length (listedRecords N (before ++ piece)) ≡ length (listedRecords N before) + length (listedRecords N piece)
   count-more = ap (length {A = List ℕ}) (listed-append N k before piece h) ∙ length-append (listedRecords N before) (listedRecords N piece)
 

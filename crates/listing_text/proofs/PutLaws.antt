@@ -2,10 +2,10 @@
 -- Assumes nothing.
 use mathlib.Core.Path.{_≡_, refl, ap, ap₂, sym, _∙_, subst}
 use mathlib.Core.List.{List, [], _∷_, _++_, append-assoc}
-use Prim.Native.Nat.{ℕ, _+_, _≤_}
+use Prim.Native.Nat.{ℕ, zero, suc, _+_, _≤_}
 use native.Mathlib.Omega.{arith}
-use lib.ListN.{length, length-append}
-use lib.Seq.{sets, length-sets, append-snoc}
+use lib.ListN.{length, take, drop, length-append}
+use lib.Seq.{sets, sets-eq, length-sets, append-snoc, take-at, drop-at, length-take-le}
 use Rattle.model.specs.Base.{Answer, refused, value}
 use Rattle.model.specs.Calls.{FaultCounts}
 use Rattle.model.specs.Path.{rising, falling}
@@ -16,13 +16,11 @@ use Rattle.model.specs.declared.Refusal.{Refusal}
 use Rattle.records.proofs.ByteLaws.{sets-append}
 use Rattle.store_words.specs.WordAnswers.{totalsIn, totalsBoth}
 use Rattle.store_words.specs.declared.inner.StoreTotals.{StoreTotals}
-use Rattle.coverage.specs.TestCall.{testedOf}
-use Rattle.coverage.specs.declared.TestAnswer.{TestAnswer}
-use Rattle.coverage.specs.declared.TestAnswer.the-variants.{Taken, Refused}
 use Rattle.text.specs.Decimal.{decimalText, refusedWord, refusedText}
 use Rattle.text.proofs.DecimalLaws.{at-most-20}
 use Rattle.listing_text.specs.Listing.{numbered, refusedLine, recordLine, risingWord, fallingWord, risingLetter, fallingLetter, runLines, totalsLines, storeLines}
 use Rattle.listing_text.specs.Answers.{Put}
+use Rattle.listing_text.specs.BlockLines.{answerIn}
 
 -- from what `text::inner` promises
 pub put-made : (out out′ : List ℕ) (at : ℕ) (t : List ℕ) (r : ℕ) → at + length t ≤ length out → (out′ ≡ sets out at t) × (r ≡ at + length t) → Put out out′ at t r
@@ -43,6 +41,20 @@ put-as {out} {out′} {at} {r} e p = subst (λ (x : List ℕ). Put out out′ at
 
 pub put-length : {out out′ : List ℕ} {at r : ℕ} {t : List ℕ} → Put out out′ at t r → length out′ ≡ length out
 put-length {out} {out′} {at} {r} {t} p = ap (length {A = ℕ}) (p .bytes) ∙ length-sets out at t
+
+-- the buffer up to a text's end, and past it
+module _ {out out′ : List ℕ} {at r : ℕ} {t : List ℕ} (p : Put out out′ at t r) where
+  put-split : out′ ≡ take at out ++ t ++ drop (at + length t) out
+  put-split = p .bytes ∙ sets-eq t out at (omega (arith, p .place, p .inside, put-length p))
+
+  put-end : length (take at out ++ t) ≡ r
+  put-end = omega (arith, length-append (take at out) t, length-take-le at out (omega (arith, p .place, p .inside, put-length p)), p .place)
+
+  pub put-taken : take r out′ ≡ take at out ++ t
+  put-taken = ap (take r) put-split ∙ take-at (take at out ++ t) (drop (at + length t) out) r put-end
+
+  pub put-past : drop r out′ ≡ drop r out
+  put-past = ap (drop r) put-split ∙ drop-at (take at out ++ t) (drop (at + length t) out) r put-end ∙ ap (λ (k : ℕ). drop k out) (sym (p .place))
 
 -- Two numbers and the end of their line
 abbrev pub pairText : ℕ → ℕ → List ℕ
@@ -110,18 +122,16 @@ refused-text a b = simp append-assoc
 
 module _ (out o1 o2 o3 : List ℕ) (at s n r place : ℕ) (h : at + 63 ≤ length out)
     (e1 : (o1 ≡ sets out at (decimalText place)) × (s ≡ at + length (decimalText place)))
-    (e2 : (o2 ≡ sets o1 s (32 ∷ [])) × (n ≡ s + length {A = ℕ} (32 ∷ []))) (answer : TestAnswer) where
-  pub record-taken : (x y u v : ℕ) → answer ≡ Taken x y u v → Put o2 o3 n (pairText x y) r → Put out o3 at (recordLine place (testedOf answer)) r
+    (e2 : (o2 ≡ sets o1 s (32 ∷ [])) × (n ≡ s + length {A = ℕ} (32 ∷ []))) (x y : ℕ) where
+  pub line-taken : (k : ℕ) → k ≡ 0 → Put o2 o3 n (pairText x y) r → Put out o3 at (recordLine place (answerIn x y k)) r
   unfolding recordLine
-  record-taken x y u v e p =
-      subst (λ (k : TestAnswer). Put out o3 at (recordLine place (testedOf k)) r) (sym e)
-      (put-as (taken-text (decimalText place) (decimalText x) (decimalText y)) (put-then (place-put out o1 o2 at s n place h e1 e2) p))
+  line-taken zero e p = put-as (taken-text (decimalText place) (decimalText x) (decimalText y)) (put-then (place-put out o1 o2 at s n place h e1 e2) p)
+  line-taken (suc k) e p = absurd (omega (arith, e))
 
-  pub record-refused : (w : Refusal) → answer ≡ Refused w → Put o2 o3 n (refusedLine (refusalNumber w)) r → Put out o3 at (recordLine place (testedOf answer)) r
-  unfolding recordLine refusedLine
-  record-refused w e p =
-      subst (λ (k : TestAnswer). Put out o3 at (recordLine place (testedOf k)) r) (sym e)
-      (put-as (refused-text (decimalText place) (refusedText (refusalNumber w))) (put-then (place-put out o1 o2 at s n place h e1 e2) p))
+  pub line-refused : (k : ℕ) → (k ≡ 0 → ⊥) → Put o2 o3 n (numbered refusedWord k) r → Put out o3 at (recordLine place (answerIn x y k)) r
+  unfolding recordLine refusedText
+  line-refused zero e p = absurd (e refl)
+  line-refused (suc k) e p = put-as (refused-text (decimalText place) (refusedText (suc k))) (put-then (place-put out o1 o2 at s n place h e1 e2) p)
 
 -- no line of a record is over 63 bytes
 pub record-length-is : (place : ℕ) (a : Answer FaultCounts) → length (recordLine place a) ≤ 63

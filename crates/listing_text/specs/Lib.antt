@@ -1,4 +1,5 @@
 pub mod Listing
 pub mod Answers
+pub mod BlockLines
 pub mod Pieces
 pub mod Example

@@ -8,31 +8,33 @@ ghost use Rattle.model.specs.Path as path;
 ghost use Rattle.model.specs.Refusals.{refusalNumber};
 ghost use Rattle.model.specs.Store.{storeRuns};
 ghost use Rattle.store_words.specs.Sound.{SoundWords};
-ghost use Rattle.coverage.specs.TestCall.{testedOf};
 ghost use Rattle.text.specs.Decimal.{decimalText};
 ghost use Rattle.listing_text.specs.Listing.{numbered, pathsLine, refusedLine, recordLine, runLines, risingLetter, fallingLetter, totalsLines, storeLines};
 ghost use Rattle.listing_text.specs.Answers.{outBytes, edgeBytes, runsIn, Put, PieceReady, PieceLines};
-use coverage::TestAnswer;
-use coverage::inner::count_record;
+ghost use Rattle.listing_text.specs.BlockLines.{answerIn, answerLines};
+use crate::blocks::PieceNumbers;
+use crate::blocks::list_blocks;
+use block::inner::table::fill_table;
+use block_marks::inner::places::fill_places;
 use faults::Edge;
 use model::Refusal;
 use model::refusal_number;
 use netlist::inner::Loaded;
 use store_words::inner::parts::edge_runs;
 use store_words::inner::totals_of;
-use test_records::inner::record_length;
 use text::inner::put_number;
 use text::inner::put_text;
 
-// The most bytes of a piece of the test file. A record has at least 4 bytes and a line at most 63, so that the lines fit in OUT_BYTES.
-pub const PIECE_BYTES: usize = 8192;
-
-// The least bytes of the buffer that the text is written into: room for a piece's lines, and for all lines after those of the records.
+// The bytes of the buffer that the text is written into: room for many lines of records, and for all lines after those.
 pub const OUT_BYTES: usize = 131072;
 
-// Of a piece's records: the place after the last, and the bytes of their lines.
+// The most bytes of the lines of a block: it has at most 64 records, and a line at most 63 bytes.
+pub const BLOCK_BYTES: usize = 4032;
+
+// How far a piece is listed: the place of the next record, the bytes of the piece before it, and the bytes of the lines in the buffer.
 pub struct Listed {
     pub place: u64,
+    pub used: usize,
     pub bytes: usize,
 }
 
@@ -73,25 +75,57 @@ pub fn put_paths(out: &mut [u8], paths: u64) -> usize
     put_numbered(out, 0, b"paths ", paths)
 }
 
-// The line of a test record: its place with what it added, or with its refusal.
-fn put_record(out: &mut [u8], at: usize, place: u64, answer: TestAnswer) -> usize
+// The line of a test record: its place with what it added, or with the number of its refusal, which is else 0.
+fn put_line(
+    out: &mut [u8],
+    at: usize,
+    place: u64,
+    new_rising: u64,
+    new_falling: u64,
+    refusal: u64,
+) -> usize
     requires { ⌜ at + 63 ≤ length (now out) ⌝ }
-    ensures { λ r. ⌜ Put (now (out .entry)) (now (out .exit)) at (recordLine place (testedOf answer)) r ⌝ }
+    ensures { λ r. ⌜ Put (now (out .entry)) (now (out .exit)) at (recordLine place (answerIn «new_rising» «new_falling» refusal)) r ⌝ }
 {
     let space = put_number(out, at, place);
     let rest = put_text(out, space, b" ");
-    match answer {
-        TestAnswer::Taken {
-            new_rising,
-            new_falling,
-            ..
-        } => put_pair(out, rest, new_rising, new_falling),
-        TestAnswer::Refused(why) => put_refusal(out, rest, why),
+    if refusal == 0 {
+        return put_pair(out, rest, new_rising, new_falling);
     }
+    put_numbered(out, rest, b"refused ", refusal)
+}
+
+// The lines of so many answers, the first of which has the place given.
+pub(crate) fn put_lines(
+    out: &mut [u8],
+    start: usize,
+    first: u64,
+    answers: &[u64; 192],
+    lines: usize,
+) -> usize
+    requires { ⌜ (lines ≤ 64) × (start + 63 * lines ≤ length (now out)) × (first + lines < 2 ^ 64) ⌝ }
+    ensures { λ r. ⌜ Put (now (out .entry)) (now (out .exit)) start (answerLines first (now (answers .entry)) lines) r ⌝ }
+{
+    let mut at = start;
+    let mut place = first;
+    let mut t = 0;
+    while t < lines {
+        at = put_line(
+            out,
+            at,
+            place,
+            answers[t],
+            answers[64 + t],
+            answers[128 + t],
+        );
+        place += 1;
+        t += 1;
+    }
+    at
 }
 
 // Where the record that begins at a place of a file ends: the last may be short.
-fn record_end(at: usize, bytes: usize, length: usize) -> usize
+pub(crate) fn record_end(at: usize, bytes: usize, length: usize) -> usize
     requires { ⌜ at ≤ length ⌝ }
     ensures { λ r. ⌜ r ≡ min (at + bytes) length ⌝ }
 {
@@ -101,38 +135,36 @@ fn record_end(at: usize, bytes: usize, length: usize) -> usize
     at + bytes
 }
 
-// The lines of a piece's records, judged in a class, the first of which has the place given, on a sound store; the store is left as they leave it.
+// The lines of a piece's records, judged in a class, from where it is listed to and as far as the buffer has room, on a sound store; the store is left as
+// they leave it.
 pub fn list_piece(
     netlist: &[u8],
     tables: Loaded,
-    first: u64,
+    from: Listed,
     piece: &[u8],
     class: u32,
     store: &mut [u64],
     work: &mut [u64],
     out: &mut [u8],
 ) -> Listed
-    requires { ⌜ PieceReady (now netlist) tables first (now piece) (now store) (now work) (now out) ⌝ }
-    ensures { λ r. ⌜ PieceLines r (now (netlist .entry)) tables class first (now (piece .entry)) (now (store .entry)) (now (store .exit))
+    requires { ⌜ PieceReady (now netlist) tables from (now piece) (now store) (now work) (now out) ⌝ }
+    ensures { λ r. ⌜ PieceLines from r (now (netlist .entry)) tables class (now (piece .entry)) (now (store .entry)) (now (store .exit))
         (now (work .entry)) (now (work .exit)) (now (out .entry)) (now (out .exit)) ⌝ }
 {
-    let places = tables.positions;
-    let positions = &places;
-    let counts = &tables.counts;
+    let positions = tables.positions;
+    let counts = tables.counts;
     let shape = tables.shape;
-    let bytes = record_length(shape.inputs);
-    let mut place = first;
-    let mut at = 0;
-    let mut end = 0;
-    while at < piece.len() {
-        let next = record_end(at, bytes, piece.len());
-        let test = &piece[at..next];
-        let answer = count_record(netlist, positions, counts, shape, test, class, store, work);
-        end = put_record(out, end, place, answer);
-        place += 1;
-        at = next;
-    }
-    Listed { place, bytes: end }
+    let mut table = [0u16; 5120];
+    fill_table(netlist, &positions, shape, &mut table);
+    let mut places = [0u64; 4224];
+    fill_places(netlist, &counts, shape, &table, &mut places);
+    let numbers = PieceNumbers {
+        inputs: shape.inputs,
+        nets: shape.nets,
+        outputs: shape.outputs,
+        class,
+    };
+    list_blocks(&table, &places, numbers, from, piece, store, work, out)
 }
 
 // A line for one run, with the letter of its edge and a space in front.

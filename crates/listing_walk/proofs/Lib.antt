@@ -1,2 +1,3 @@
--- The listing's walk piece by piece, then the lines after those of the records.
+-- The listing's walk: the records of one piece, then piece by piece, then the lines after those of the records.
+pub mod ReadSteps
 pub mod ListingCases

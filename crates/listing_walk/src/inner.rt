@@ -3,8 +3,8 @@ ghost use mathlib.Core.Path.{_≡_};
 ghost use Prim.Native.Nat.{_≤_};
 ghost use lib.ListN.{length};
 ghost use Rattle.model.specs.Store.{emptyStore};
-ghost use Rattle.listing_text.specs.Answers.{pieceBytes, ListReady};
-ghost use Rattle.listing_walk.specs.ListingWalk.{PiecesListed, FileListed};
+ghost use Rattle.listing_text.specs.Answers.{blockBytes, ListReady};
+ghost use Rattle.listing_walk.specs.ListingWalk.{pieceBytes, WrittenFull, ReadReady, ReadListed, LinesWaiting, FileListed};
 use command::at_end;
 use command::end_progress;
 use command::file_size;
@@ -12,6 +12,9 @@ use command::show_progress;
 use file_reading::inner::full_piece;
 use file_reading::inner::read_part;
 use file_reading::inner::whole_part;
+use libc::STDERR_FILENO;
+use listing_text::inner::BLOCK_BYTES;
+use listing_text::inner::Listed;
 use listing_text::inner::list_piece;
 use listing_text::inner::put_store;
 use netlist::inner::Loaded;
@@ -26,14 +29,22 @@ pub struct Descriptors {
     pub to: i32,
 }
 
-// A test file whose records were listed: its bytes, the place after its last record, and whether it was read whole.
+// The lines of a listing: where they go, the place of the next record, and how many bytes of lines wait in the buffer.
+pub struct Lines {
+    pub to: i32,
+    pub place: u64,
+    pub bytes: usize,
+}
+
+// A test file whose records were listed: its bytes, the place after its last record, the bytes of the lines that wait, and whether it was read whole.
 pub struct ListedPieces {
     pub bytes: u64,
     pub place: u64,
+    pub waiting: usize,
     pub whole: bool,
 }
 
-// The same, and where the lines after those of the records end in the buffer.
+// The same with all of its lines written, and where those after them end in the buffer.
 pub struct ListedFile {
     pub bytes: u64,
     pub place: u64,
@@ -41,18 +52,69 @@ pub struct ListedFile {
     pub whole: bool,
 }
 
-// Shows how many records are listed, unless their lines go to a terminal and show it.
-fn show_listed(to: i32, place: u64) {
-    if libc::isatty(to) != 0 {
-        return;
-    }
-    if 0 < place {
+// Whether the number of records is shown while they are listed: on a terminal, unless their lines go to one and show it.
+fn shows_progress(to: i32) -> bool {
+    libc::isatty(to) == 0 && libc::isatty(STDERR_FILENO) != 0
+}
+
+// Shows how many records are listed.
+fn show_listed(shown: bool, place: u64) {
+    if shown && 0 < place {
         show_progress(place - 1);
     }
 }
 
-// The lines of the records of a file, all in one class, piece by piece, each piece's in one write. A piece that is not full is the last; the file was then read
-// whole, unless a read failed, more bytes came or its size is another.
+// Writes the lines in the buffer where those of another block might not fit after them.
+fn write_full(to: i32, listed: Listed, out: &[u8]) -> Listed
+    requires { ⌜ (listed .bytes ≤ length (now out)) × (blockBytes ≤ length (now out)) ⌝ }
+    ensures { λ r. ⌜ WrittenFull listed r (now (out .entry)) ⌝ }
+{
+    let Listed { place, used, bytes } = listed;
+    if out.len() - bytes < BLOCK_BYTES {
+        io::write_all(to, &out[..bytes]);
+        return Listed {
+            place,
+            used,
+            bytes: 0,
+        };
+    }
+    listed
+}
+
+// The lines of the records of a piece, all in one class, after those that wait in the buffer, which is written whenever it is full.
+fn list_read(
+    lines: Lines,
+    netlist: &[u8],
+    loaded: Loaded,
+    class: u32,
+    piece: &[u8],
+    store: &mut [u64],
+    work: &mut [u64],
+    out: &mut [u8],
+) -> Lines
+    requires { ⌜ ReadReady (lines .place) (lines .bytes) (now netlist) loaded (now piece) (now store) (now work) (now out) ⌝ }
+    ensures { λ r. ⌜ ReadListed (lines .place) (lines .bytes) (r .place) (r .bytes) (now (netlist .entry)) loaded class (now (piece .entry))
+        (now (store .entry)) (now (store .exit)) (now (work .entry)) (now (work .exit)) (now (out .entry)) (now (out .exit)) ⌝ }
+{
+    let to = lines.to;
+    let mut at = Listed {
+        place: lines.place,
+        used: 0,
+        bytes: lines.bytes,
+    };
+    while at.used < piece.len() {
+        let more = list_piece(netlist, loaded, at, piece, class, store, work, out);
+        at = write_full(to, more, out);
+    }
+    Lines {
+        to,
+        place: at.place,
+        bytes: at.bytes,
+    }
+}
+
+// The lines of the records of a file, all in one class, piece by piece. A piece that is not full is the last; the file was then read whole, unless a read
+// failed, more bytes came or its size is another.
 fn list_pieces(
     files: Descriptors,
     netlist: &[u8],
@@ -64,32 +126,37 @@ fn list_pieces(
     out: &mut [u8],
 ) -> ListedPieces
     requires { ⌜ ListReady (now netlist) loaded (now store) (now work) (now out) × (now store ≡ emptyStore) × (length (now space) ≤ pieceBytes) ⌝ }
-    ensures { λ r. ⌜ PiecesListed (r .bytes) (r .place) (now (netlist .entry)) loaded class (now (space .exit)) (now (store .exit)) (now (work .entry)) (now (work .exit)) (now (out .exit)) ⌝ }
+    ensures { λ r. ⌜ LinesWaiting (r .bytes) (r .place) (r .waiting) (now (netlist .entry)) loaded class (now (space .exit)) (now (store .exit))
+        (now (work .entry)) (now (work .exit)) (now (out .exit)) ⌝ }
 {
     let Descriptors { from, to } = files;
     let full = whole_part(space.len(), record_length(loaded.shape.inputs));
     let size = file_size(from);
-    let mut place: u64 = 1;
+    let shown = shows_progress(to);
+    let mut lines = Lines {
+        to,
+        place: 1,
+        bytes: 0,
+    };
     let mut so_far: u64 = 0;
     while so_far <= MOST_BYTES {
         let n = read_part(from, full, space);
-        let listed = list_piece(netlist, loaded, place, &space[..n], class, store, work, out);
-        let end = listed.bytes;
-        io::write_all(to, &out[..end]);
-        place = listed.place;
+        lines = list_read(lines, netlist, loaded, class, &space[..n], store, work, out);
         so_far += n as u64;
         if n < full_piece(full) {
             return ListedPieces {
                 bytes: so_far,
-                place,
+                place: lines.place,
+                waiting: lines.bytes,
                 whole: at_end(from, size),
             };
         }
-        show_listed(to, place);
+        show_listed(shown, lines.place);
     }
     ListedPieces {
         bytes: so_far,
-        place,
+        place: lines.place,
+        waiting: lines.bytes,
         whole: false,
     }
 }
@@ -110,6 +177,8 @@ pub fn list_file(
 {
     let listed = list_pieces(files, netlist, loaded, class, space, store, work, out);
     end_progress();
+    let waiting = listed.waiting;
+    io::write_all(files.to, &out[..waiting]);
     let end = put_store(out, store);
     ListedFile {
         bytes: listed.bytes,

@@ -17,8 +17,8 @@ slice-aggregate-file-name-2 c = search needs
 file-name-requires : tie.Need-file-name-requires
 file-name-requires c κs = search needs
 
-piece-bytes-requires : tie.Need-piece-bytes-requires
-piece-bytes-requires c κs = search needs
+large-buffer-requires : tie.Need-large-buffer-requires
+large-buffer-requires c κs = search needs
 
 clear-requires : tie.Need-clear-requires
 clear-requires c κs = search needs
@@ -88,7 +88,7 @@ list-tests-spec =
     slice-aggregate-file-name
     slice-aggregate-file-name-2
     file-name-requires
-    piece-bytes-requires
+    large-buffer-requires
     clear-requires
     array-share-prefix-name
     slice-aggregate-open-file

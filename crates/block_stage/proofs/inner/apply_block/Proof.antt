@@ -4,8 +4,8 @@ use mathlib.Core.Path.{refl}
 use Prim.Native.Nat.{_-_}
 use native.Mathlib.Omega.{arith}
 use borrow.Author.Needs.{needs}
-use Rattle.block_stage.proofs.BlockSteps.{Applying, block-in, ended-kept, ended, up-inside, down-inside, some-listed}
-use Rattle.block_stage.proofs.BlockSteps.{refused-kept, refused-here, record-taken, block-inputs, block-few, block-cases}
+use Rattle.block_stage.proofs.BlockSteps.{Applying, block-in, block-begun, block-inputs, ended-kept, ended, up-inside, down-inside, some-listed}
+use Rattle.block_stage.proofs.BlockSteps.{refused-kept, refused-here, record-taken, block-few, block-cases}
 use Rattle.block_stage.proofs.inner.apply_block.Statement.{statement}
 use Rattle.block_stage.proofs.inner.apply_block.Tie as tie
 
@@ -17,7 +17,7 @@ abbrev μ-loop : tie.MeasureT-loop
 μ-loop table places ups downs marks store₀ work₀ inputs outputs records spans₀ t₀ store work spans t = records - t
 
 begin-spans-requires : tie.Need-begin-spans-requires Inv-loop μ-loop
-begin-spans-requires c κs = let start = c .before .before .before .before .before .before in (block-inputs (start .pre), block-few (start .pre), refl)
+begin-spans-requires c κs = let start = c .before .before .before .before .before .before in (block-inputs (block-begun (start .pre)), block-few (start .pre), refl)
 
 loop-holds : tie.Need-loop-holds Inv-loop μ-loop
 loop-holds c = search block-cases
@@ -39,7 +39,7 @@ add-up-2 c =
     let at-loop = c .before .before in
     let at-spans = at-loop .before .before in
     let start = at-spans .before .before .before .before .before .before in
-    omega (arith, up-inside (at-loop .loop .inv) (c .before .loop-test .taken), start .good .1 .1 .0 .0)
+    omega (arith, up-inside (at-loop .loop .inv .block) (c .before .loop-test .taken), start .good .1 .1 .0 .0)
 
 mul-up-2 : tie.Need-mul-up-2 Inv-loop μ-loop
 mul-up-2 c = search needs
@@ -51,7 +51,7 @@ part-up-start : tie.Need-part-up-start Inv-loop μ-loop
 part-up-start c = search needs
 
 part-up-end : tie.Need-part-up-end Inv-loop μ-loop
-part-up-end c = search block-cases
+part-up-end c = up-inside (c .before .before .loop .inv .block) (c .before .loop-test .taken)
 
 add-down : tie.Need-add-down Inv-loop μ-loop
 add-down c = search needs
@@ -68,7 +68,7 @@ add-down-2 c =
     let at-loop = at-test .before in
     let at-spans = at-loop .before .before in
     let start = at-spans .before .before .before .before .before .before in
-    omega (arith, down-inside (at-loop .loop .inv) (at-test .loop-test .taken), start .good .1 .1 .1 .0 .0)
+    omega (arith, down-inside (at-loop .loop .inv .block) (at-test .loop-test .taken), start .good .1 .1 .1 .0 .0)
 
 mul-down-2 : tie.Need-mul-down-2 Inv-loop μ-loop
 mul-down-2 c = search needs
@@ -80,7 +80,9 @@ part-down-start : tie.Need-part-down-start Inv-loop μ-loop
 part-down-start c = search needs
 
 part-down-end : tie.Need-part-down-end Inv-loop μ-loop
-part-down-end c = search block-cases
+part-down-end c =
+    let at-test = c .before .before .before in
+    down-inside (at-test .before .loop .inv .block) (at-test .loop-test .taken)
 
 edges-at-requires : tie.Need-edges-at-requires Inv-loop μ-loop
 edges-at-requires c κs = search needs
@@ -102,8 +104,9 @@ same-length-2 c = search needs
 
 returns : tie.Need-returns Inv-loop μ-loop
 returns c =
-    let why = c .before .stage .given .1 in
-    let at-stage = c .before .before .before .before .before .before .before in
+    let at-told = c .before in
+    let why = at-told .stage .given .1 in
+    let at-stage = at-told .before .before .before .before .before .before in
     let stage = at-stage .apply-listed in
     let at-edges = at-stage .before .before .before .before in
     let edges = at-edges .edges-at .ensures in

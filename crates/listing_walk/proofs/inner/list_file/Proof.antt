@@ -1,7 +1,8 @@
--- `listing_walk::inner::list_file` meets its contract: the store that the records leave is sound, and the lines after theirs are its lines.
+-- `listing_walk::inner::list_file` meets its contract: the lines that wait lie in the buffer, the store that the records leave is sound, and the lines after
+-- theirs are its lines.
 -- Assumes nothing.
-use Rattle.listing_walk.proofs.ListingCases.{lines-cases}
 use borrow.Author.Needs.{needs}
+use Rattle.listing_walk.proofs.ListingCases.{lines-cases}
 use Rattle.listing_walk.proofs.inner.list_file.Statement.{statement}
 use Rattle.listing_walk.proofs.inner.list_file.Tie as tie
 
@@ -10,6 +11,15 @@ list-pieces-requires c κs = search needs
 
 end-progress-requires : tie.Need-end-progress-requires
 end-progress-requires c κs = search needs
+
+slice-reshare-prefix-write-all : tie.Need-slice-reshare-prefix-write-all
+slice-reshare-prefix-write-all c = search needs
+
+slice-aggregate-write-all : tie.Need-slice-aggregate-write-all
+slice-aggregate-write-all c = search lines-cases
+
+write-all-requires : tie.Need-write-all-requires
+write-all-requires c κs = search needs
 
 put-store-requires : tie.Need-put-store-requires
 put-store-requires c κs = (search lines-cases, search lines-cases)
@@ -32,4 +42,15 @@ returns c = search lines-cases
 pub list-file-spec : {M : Type 1} → statement M
 list-file-spec =
     tie.close
-    (tie.spec list-pieces-requires end-progress-requires put-store-requires same-length same-length-2 same-length-3 same-length-4 returns)
+    (tie.spec
+    list-pieces-requires
+    end-progress-requires
+    slice-reshare-prefix-write-all
+    slice-aggregate-write-all
+    write-all-requires
+    put-store-requires
+    same-length
+    same-length-2
+    same-length-3
+    same-length-4
+    returns)

@@ -1,25 +1,27 @@
 -- `listing_walk::inner::list_pieces` meets its contract. The invariant, `ListedSoFar`: what was read so far is whole records, and they were listed.
 -- Assumes nothing.
-use borrow.Author.Needs.{needs}
 use mathlib.Core.Path.{_≡_}
 use Prim.Native.Nat.{_-_}
 use native.Mathlib.Omega.{arith}
+use borrow.Author.Needs.{needs}
 use lib.ListN.{length}
-use Rattle.listing_walk.proofs.ListingCases.{ListedSoFar, listing-cases}
+use Rattle.listing_walk.proofs.ListingCases.{ListedSoFar, list-inputs, listing-cases}
 use Rattle.listing_walk.proofs.inner.list_pieces.Statement.{statement}
 use Rattle.listing_walk.proofs.inner.list_pieces.Tie as tie
 
 abbrev Inv-loop : tie.InvT-loop
-Inv-loop netlist loaded class space₀ store₀ work₀ out₀ from to full size place₀ so-far₀ space store work out place so-far =
-    ListedSoFar netlist loaded class full (length space₀) work₀ place so-far space store work out
+Inv-loop netlist loaded class space₀ store₀ work₀ out₀ from to full size shown lines₀ so-far₀ space store work out lines so-far =
+    ListedSoFar netlist loaded class full (length space₀) work₀ (lines .place) (lines .bytes) so-far space store work out
     × (length space ≡ length space₀) × (length store ≡ length store₀) × (length work ≡ length work₀) × (length out ≡ length out₀)
 
 abbrev μ-loop : tie.MeasureT-loop
-μ-loop netlist loaded class space₀ store₀ work₀ out₀ from to full size place₀ so-far₀ space store work out place so-far =
+μ-loop netlist loaded class space₀ store₀ work₀ out₀ from to full size shown lines₀ so-far₀ space store work out lines so-far =
     9223372036854775808 - so-far
 
 record-length-requires : tie.Need-record-length-requires Inv-loop μ-loop
-record-length-requires c κs = search listing-cases
+record-length-requires c κs =
+    let at-slices = c .before .before .before in
+    list-inputs (at-slices .before .before .before .before .pre .0)
 
 whole-part-requires : tie.Need-whole-part-requires Inv-loop μ-loop
 whole-part-requires c κs = search needs
@@ -27,36 +29,34 @@ whole-part-requires c κs = search needs
 file-size-requires : tie.Need-file-size-requires Inv-loop μ-loop
 file-size-requires c κs = search needs
 
+shows-progress-requires : tie.Need-shows-progress-requires Inv-loop μ-loop
+shows-progress-requires c κs = search needs
+
 loop-holds : tie.Need-loop-holds Inv-loop μ-loop
 loop-holds c = (search listing-cases, search needs, search needs, search needs, search needs)
 
 read-part-requires : tie.Need-read-part-requires Inv-loop μ-loop
 read-part-requires c κs = search listing-cases
 
-slice-reshare-prefix-list-piece : tie.Need-slice-reshare-prefix-list-piece Inv-loop μ-loop
-slice-reshare-prefix-list-piece c = search needs
+slice-reshare-prefix-list-read : tie.Need-slice-reshare-prefix-list-read Inv-loop μ-loop
+slice-reshare-prefix-list-read c = search needs
 
-slice-aggregate-list-piece : tie.Need-slice-aggregate-list-piece Inv-loop μ-loop
-slice-aggregate-list-piece c = search needs
+slice-aggregate-list-read : tie.Need-slice-aggregate-list-read Inv-loop μ-loop
+slice-aggregate-list-read c = search needs
 
-list-piece-requires : tie.Need-list-piece-requires Inv-loop μ-loop
-list-piece-requires c κs = search listing-cases
-
-slice-reshare-prefix-write-all : tie.Need-slice-reshare-prefix-write-all Inv-loop μ-loop
-slice-reshare-prefix-write-all c = search listing-cases
-
-slice-aggregate-write-all : tie.Need-slice-aggregate-write-all Inv-loop μ-loop
-slice-aggregate-write-all c = search listing-cases
-
-write-all-requires : tie.Need-write-all-requires Inv-loop μ-loop
-write-all-requires c κs = search needs
+list-read-requires : tie.Need-list-read-requires Inv-loop μ-loop
+list-read-requires c κs = search listing-cases
 
 add-so-far : tie.Need-add-so-far Inv-loop μ-loop
 add-so-far c =
-    let here = c .before .before .before .before .before .before .before .before .before .before .before .before .before .before .before in
-    let before = here .before .before .before .before .before in
-    let start = before .before .before .before .before .before .before .before .before .before in
-    omega (arith, here .read-part .ensures .1, here .before .before .loop-test .taken, before .whole-part .ensures .0, start .pre .2)
+    let at-listed = c .before .before .before .before .before .before in
+    let at-space = at-listed .before .before .before .before .before .before in
+    let at-read = at-space .before in
+    let at-test = at-read .before .before in
+    let at-full = at-test .before .before .before .before in
+    let at-slices = at-full .before .before .before .before in
+    let start = at-slices .before .before .before .before .before in
+    omega (arith, at-read .read-part .ensures .1, at-test .loop-test .taken, at-full .whole-part .ensures .0, start .pre .2)
 
 full-piece-requires : tie.Need-full-piece-requires Inv-loop μ-loop
 full-piece-requires c κs = search needs
@@ -112,14 +112,12 @@ list-pieces-spec =
     record-length-requires
     whole-part-requires
     file-size-requires
+    shows-progress-requires
     loop-holds
     read-part-requires
-    slice-reshare-prefix-list-piece
-    slice-aggregate-list-piece
-    list-piece-requires
-    slice-reshare-prefix-write-all
-    slice-aggregate-write-all
-    write-all-requires
+    slice-reshare-prefix-list-read
+    slice-aggregate-list-read
+    list-read-requires
     add-so-far
     full-piece-requires
     at-end-requires
