@@ -1,4 +1,5 @@
-/* Genduwal for C and C++: netlists, also from .bench text, path numbers, tests, stores of tested faults, reports and their audit.
+/* Genduwal for C and C++: netlists, also from .bench text, path numbers, tests, stores of tested faults, coverage by length, reports and their
+ * audit.
  *
  * Link target/staticlib/libexports.a (rt staticlib exports), on Linux x86-64; it needs memcpy and memset of the C library alone.
  *
@@ -31,6 +32,7 @@
  *  32  spare bit set
  *  40  store: number of runs over 1,024         41  a run out of range or not after the one before
  *  42  word past the last run not zero
+ *  84  coverage by length: a path to an output has more than 63 gates
  *  50  over 1,024 working runs of an edge       51  the store would have over 1,024 runs of an edge
  *  60  no such path or fault number             61  words are not a path of the netlist
  *  70  report under 34 bytes or its mark        71  report's length
@@ -63,6 +65,10 @@ extern "C" {
 #define GENDUWAL_NETLIST_BYTES 10484
 #define GENDUWAL_SURVEY_WORDS 516
 
+/* Lengths that coverage by length counts, 0 to 63 gates, and the words of its answer. */
+#define GENDUWAL_LENGTHS 64
+#define GENDUWAL_LENGTHS_WORDS 256
+
 /* Least bytes of a buffer for one vector's records of a load. */
 #define GENDUWAL_LOAD_BYTES 2304
 
@@ -89,6 +95,13 @@ uint32_t genduwal_test(const uint8_t *netlist, size_t netlist_len, const uint8_t
 /* The faults that a store of 4,098 words holds. answer: rising faults, falling faults.
  * Refusals: 1, 10 to 15, 17 to 21, 40 to 42. */
 uint32_t genduwal_totals(const uint8_t *netlist, size_t netlist_len, const uint64_t *store, size_t store_len, uint64_t answer[2]);
+
+/* Coverage by length: how many paths of each number of gates there are, and how many of their faults a store of 4,098 words holds. answer: for
+ * rising 64 numbers of paths, of 0 to 63 gates, then 64 of faults held; the same for falling. A path has the same length for both edges, so
+ * words 128 to 191 are words 0 to 63; no path has 0 gates. The paths add up to those of the survey, the faults to those of genduwal_totals.
+ * A net that leads to no output has no path, however deep it lies.
+ * Refusals: 1, 10 to 15, 17 to 21, 40 to 42, 84. */
+uint32_t genduwal_lengths(const uint8_t *netlist, size_t netlist_len, const uint64_t *store, size_t store_len, uint64_t answer[256]);
 
 /* Whether a store of 4,098 words holds a fault: path i has faults 2i - 1 (rising) and 2i (falling). answer: 1 if it does, else 0.
  * Refusals: 1, 10 to 15, 17 to 21, 40 to 42, 60. */

@@ -2,9 +2,11 @@
 -- Assumes nothing.
 use mathlib.Core.Path.{_≡_, ap}
 use mathlib.Core.Bool.{true, false}
-use mathlib.Core.List.{List, [], _∷_}
-use Prim.Native.Nat.{ℕ}
+use mathlib.Core.List.{List, [], _∷_, _++_}
+use Prim.Native.Nat.{ℕ, _+_}
+use native.Mathlib.Omega.{arith}
 use borrow.Author.Needs.{needs}
+use lib.ListN.{length, length-append}
 use lib.Seq.{sets}
 use Rattle.model.specs.Refusals.{refusalNumber}
 use Rattle.model.specs.declared.Refusal.{Refusal}
@@ -45,8 +47,12 @@ use Rattle.bench_text.specs.declared.BenchAnswer.the-variants as bench
 use Rattle.load.specs.Answers.{loadedOf}
 use Rattle.load.specs.declared.LoadAnswer.{LoadAnswer}
 use Rattle.load.specs.declared.LoadAnswer.the-variants as load
+use Rattle.lengths.specs.declared.LengthRows.{LengthRows}
+use Rattle.lengths.specs.declared.LengthsAnswer.the-variants as lengths
 use Rattle.answers.specs.Codes.{codeAnswer, Answered, surveyIn, surveyedOf, allTaken, surveyWords, edgeWords, countWords, numberWord, boolWord, loadWords}
+use Rattle.answers.specs.Codes.{rowsIn, lengthsIn, lengthsOf, rowWords, lengthWords}
 use Rattle.answers.proofs.CodeLaws.{code-refused, code-zero, answered-refused, answered-value}
+use Rattle.answers.proofs.StoredLaws.{sets-behind}
 
 -- ---- Answers that are a code alone
 
@@ -110,6 +116,9 @@ module _ (code : ℕ) (w : Refusal) (q : code ≡ refusalNumber w) (found : List
   pub load-refused : (r : LoadAnswer) → r ≡ load.Refused w → Answered (loadedOf r) loadWords code found found
   load-refused r p = answered-refused (loadedOf r) loadWords found w code q (ap loadedOf p)
 
+  pub lengths-refused : (r : LengthRows) → r .answer ≡ lengths.Refused w → Answered (lengthsOf r) lengthWords code found found
+  lengths-refused r p = answered-refused (lengthsOf r) lengthWords found w code q (ap (λ a. lengthsIn a (r .rising) (r .falling)) p)
+
 -- ---- and one that was taken writes them
 
 module _ (found : List ℕ) where
@@ -128,6 +137,16 @@ module _ (found : List ℕ) where
 
   pub load-taken : (r : LoadAnswer) (s n : ℕ) → r ≡ load.Written s n → Answered (loadedOf r) loadWords 0 found (sets found 0 (s ∷ n ∷ []))
   load-taken r s n p = answered-value (loadedOf r) loadWords found _ (ap loadedOf p)
+
+  pub lengths-taken : (r : LengthRows) (first left : List ℕ) → r .answer ≡ lengths.Counted → length (r .rising .paths) ≡ 64 → length (r .rising .held) ≡ 64
+      → first ≡ sets found 0 (r .rising .paths ++ r .rising .held) → left ≡ sets first 128 (r .falling .paths ++ r .falling .held)
+      → Answered (lengthsOf r) lengthWords 0 found left
+  lengths-taken r first left p n m e f =
+      let up : List ℕ = rowWords (rowsIn (r .rising)) in
+      let down : List ℕ = rowWords (rowsIn (r .falling)) in
+      let behind : 128 ≡ length up + 0 = omega (arith, length-append (r .rising .paths) (r .rising .held)) in
+      rw (f, e, sets-behind found 0 up down 128 behind)
+      (answered-value (lengthsOf r) lengthWords found _ (ap (λ a. lengthsIn a (r .rising) (r .falling)) p))
 
 module _ (code : ℕ) (q : code ≡ 0) (found left : List ℕ) where
   pub held-yes : (r : HeldAnswer) → r ≡ held.Held → left ≡ sets found 0 (numberWord 1) → Answered (heldOf r) boolWord code found left
@@ -166,3 +185,5 @@ pub ruleset piece-cases = (piece-refused, record-refused, piece-taken, needs)
 pub ruleset bench-cases = (bench-refused, bench-taken, needs)
 
 pub ruleset load-cases = (load-refused, load-taken, needs)
+
+pub ruleset lengths-cases = (lengths-refused, lengths-taken, needs)

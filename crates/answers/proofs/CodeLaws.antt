@@ -47,6 +47,7 @@ code-refused why.BenchLine = refl
 code-refused why.BenchName = refl
 code-refused why.BenchCount = refl
 code-refused why.UnknownClass = refl
+code-refused why.PathTooLong = refl
 
 pub code-zero : codeAnswer 0 ≡ value tt
 unfolding codeAnswer

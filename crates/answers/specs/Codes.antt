@@ -3,7 +3,7 @@
 -- Assumes nothing.
 use mathlib.Core.Path.{_≡_}
 use mathlib.Core.Bool.{Bool, true, false, cond}
-use mathlib.Core.List.{List, [], _∷_}
+use mathlib.Core.List.{List, [], _∷_, _++_}
 use Prim.Native.Nat.{ℕ}
 use lib.Dec.{eqb}
 use lib.Seq.{sets}
@@ -17,6 +17,11 @@ use Rattle.netlist.specs.declared.NetlistSurvey.{NetlistSurvey}
 use Rattle.netlist.specs.declared.Surveyed.{Surveyed}
 use Rattle.pieces.specs.Calls.{RecordsSaid}
 use Rattle.load.specs.Calls.{Handed}
+use Rattle.length_rows.specs.Lengths.{Rows}
+use Rattle.lengths.specs.declared.LengthsAnswer.{LengthsAnswer}
+use Rattle.lengths.specs.declared.LengthsAnswer.the-variants as lengths
+use Rattle.lengths.specs.declared.EdgeRows.{EdgeRows}
+use Rattle.lengths.specs.declared.LengthRows.{LengthRows}
 
 -- A C function's code: 0 says that the call was taken, any other number that it was refused with this number.
 -- A promise `codeAnswer code ≡ call` also says that no refusal has the number 0: no code stands for `refused 0`
@@ -45,6 +50,17 @@ surveyedOf r = surveyIn (r .answer) (r .survey)
 abbrev pub allTaken : Answer RecordsSaid → Answer ℕ
 allTaken x = x >>= λ r. r .said >> value (r .taken)
 
+-- coverage by length: the number of a refusal, or the rows of each edge
+abbrev pub rowsIn : EdgeRows → Rows
+rowsIn r = record { paths = r .paths; held = r .held }
+
+abbrev pub lengthsIn : LengthsAnswer → EdgeRows → EdgeRows → Answer (ByEdge Rows)
+lengthsIn (lengths.Refused w) rising falling = refused (refusalNumber w)
+lengthsIn lengths.Counted rising falling = value (record { onRising = rowsIn rising; onFalling = rowsIn falling })
+
+abbrev pub lengthsOf : LengthRows → Answer (ByEdge Rows)
+lengthsOf r = lengthsIn (r .answer) (r .rising) (r .falling)
+
 -- I, G, U, T, then a count for each of 512 nets
 abbrev pub surveyWords : Survey → List ℕ
 surveyWords s = s .inputs ∷ s .gates ∷ s .outputs ∷ s .paths ∷ s .netCounts
@@ -67,3 +83,11 @@ boolWord b = cond b 1 0 ∷ []
 -- the state afterwards, then the bytes written
 abbrev pub loadWords : Handed → List ℕ
 loadWords h = h .state ∷ h .length ∷ []
+
+-- the numbers of paths by length, then those of faults held, 64 each
+abbrev pub rowWords : Rows → List ℕ
+rowWords r = r .paths ++ r .held
+
+-- rising, then falling
+abbrev pub lengthWords : ByEdge Rows → List ℕ
+lengthWords r = rowWords (r .onRising) ++ rowWords (r .onFalling)

@@ -1,9 +1,11 @@
 // Answer words that are written by a call that was taken.
 ghost use mathlib.Core.Path.{_≡_};
-ghost use mathlib.Core.List.{_∷_};
+ghost use mathlib.Core.List.{_∷_, _++_};
+ghost use Prim.Native.Nat.{_≤_};
 ghost use lib.ListN.{length};
 ghost use lib.Seq.{sets};
 ghost use Rattle.answers.specs.Codes.{numberWord};
+use lengths::EdgeRows;
 use netlist::NetlistSurvey;
 
 // An answer of one word: writes it, and returns the code of a call that was taken.
@@ -36,5 +38,28 @@ fn put_counts(counts: &[u64; 512], answer: &mut [u64; 516])
     while net < 512 {
         answer[net + 4] = counts[net];
         net += 1;
+    }
+}
+
+// Writes the rows of an edge from an answer word on: the paths, then the faults held.
+pub(crate) fn put_rows(rows: EdgeRows, at: usize, answer: &mut [u64; 256])
+    requires { ⌜ at ≤ 128 ⌝ }
+    ensures { λ _. ⌜ now (answer .exit) ≡ sets (now (answer .entry)) at (rows .paths ++ rows .held) ⌝ }
+{
+    let paths = rows.paths;
+    let held = rows.held;
+    put_row(&paths, at, answer);
+    put_row(&held, at + 64, answer);
+}
+
+// Writes a row from an answer word on.
+fn put_row(row: &[u64; 64], at: usize, answer: &mut [u64; 256])
+    requires { ⌜ (length (now row) ≡ 64) × (at ≤ 192) ⌝ }
+    ensures { λ _. ⌜ now (answer .exit) ≡ sets (now (answer .entry)) at (now (row .entry)) ⌝ }
+{
+    let mut gates = 0;
+    while gates < 64 {
+        answer[gates + at] = row[gates];
+        gates += 1;
     }
 }

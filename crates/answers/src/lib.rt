@@ -13,11 +13,15 @@ ghost use Rattle.pieces.specs.Calls.{pieceOf};
 ghost use Rattle.bench_text.specs.Calls.{benchOf};
 ghost use Rattle.load.specs.Answers.{loadedOf};
 ghost use Rattle.answers.specs.Codes.{codeAnswer, Answered, surveyedOf, allTaken, surveyWords, edgeWords, countWords, numberWord, boolWord, loadWords};
+ghost use Rattle.answers.specs.Codes.{lengthsOf, lengthWords};
 use crate::answer_words::put_number;
+use crate::answer_words::put_rows;
 use crate::answer_words::put_survey;
 use bench_text::BenchAnswer;
 use coverage::TestAnswer;
 use file_judging::AuditAnswer;
+use lengths::LengthRows;
+use lengths::LengthsAnswer;
 use load::LoadAnswer;
 use model::refusal_number;
 use netlist::SurveyAnswer;
@@ -85,6 +89,21 @@ pub fn totals_code(totals: TotalsAnswer, answer: &mut [u64; 2]) -> u32
         TotalsAnswer::Totals { rising, falling } => {
             answer[0] = rising;
             answer[1] = falling;
+            0
+        }
+    }
+}
+
+// Coverage by length: for rising the paths of each length, then the faults held; the same for falling.
+pub fn lengths_code(rows: LengthRows, answer: &mut [u64; 256]) -> u32
+    ensures { λ r. ⌜ Answered (lengthsOf rows) lengthWords r (now (answer .entry)) (now (answer .exit)) ⌝ }
+{
+    let found = rows.answer;
+    match found {
+        LengthsAnswer::Refused(why) => refusal_number(why),
+        LengthsAnswer::Counted => {
+            put_rows(rows.rising, 0, answer);
+            put_rows(rows.falling, 128, answer);
             0
         }
     }

@@ -33,3 +33,9 @@ pub(crate) const BENCH: u64 = 0x62656e6368;
 pub(crate) const LOAD: u64 = 0x6c6f6164;
 
 pub(crate) const CLASS: u64 = 0x636c617373;
+
+pub(crate) const LENGTHS: u64 = 0x6c656e67746873;
+
+pub(crate) const PATHS: u64 = 0x7061746873;
+
+pub(crate) const HELD: u64 = 0x68656c64;

@@ -1,10 +1,12 @@
 // The calls that only read, by their verbs.
 use crate::buffers::path_buffer;
+use crate::by_length;
 use crate::calls;
 use crate::names::COUNTS;
 use crate::names::FALLING;
 use crate::names::FAULT;
 use crate::names::HOLDS;
+use crate::names::LENGTHS;
 use crate::names::NUMBER;
 use crate::names::RISING;
 use crate::names::SURVEY;
@@ -79,6 +81,7 @@ pub(crate) fn ask_reading(line: &[u8], netlist: &[u8], store: &[u64], path: &[u6
         SURVEY | COUNTS => ask_survey(key, arguments, netlist),
         RISING | FALLING | FAULT => ask_faults(key, numbers_in(arguments)),
         TOTALS | HOLDS => ask_store(key, numbers_in(arguments), netlist, store),
+        LENGTHS => by_length::ask_lengths(arguments, netlist, store),
         NUMBER => ask_number(numbers_in(arguments), netlist, path),
         _ => unknown(),
     }

@@ -32,6 +32,7 @@ pub fn print_condition(fd: i32, why: Refusal) {
         Refusal::ReportMark | Refusal::ReportLength | Refusal::ReportBytes => print_report(fd, why),
         Refusal::BenchLine | Refusal::BenchName | Refusal::BenchCount => print_bench(fd, why),
         Refusal::UnknownClass => print(fd, b"The class of the tests is neither 1 nor 2.\n"),
+        Refusal::PathTooLong => print(fd, b"A path to an output has more than 63 gates.\n"),
     }
 }
 

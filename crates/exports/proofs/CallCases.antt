@@ -5,6 +5,7 @@ use mathlib.Core.List.{List}
 use Prim.Native.Nat.{ℕ}
 use Rattle.model.specs.Base.{Answer, refused, value, passes}
 use Rattle.model.specs.Calls.{Survey, surveyCall}
+use Rattle.model.specs.Store.{ByEdge}
 use Rattle.model.specs.Refusals.{refusalNumber}
 use Rattle.model.proofs.AnswerLaws.{not-refused}
 use Rattle.netlist.specs.Answers.{SurveyTrue, answerOf, surveyData}
@@ -16,7 +17,14 @@ use Rattle.file_judging.specs.FileJudging.{endedOf}
 use Rattle.pieces.specs.Calls.{endAnswer, EndTrue}
 use Rattle.file_judging.specs.declared.EndAnswer.{EndAnswer}
 use Rattle.file_judging.specs.declared.EndAnswer.the-variants as ending
-use Rattle.answers.specs.Codes.{codeAnswer, Answered, surveyIn, surveyedOf}
+use Rattle.length_rows.specs.Lengths.{Rows}
+use Rattle.lengths.specs.LengthAnswers.{RowsAre, risingRows, fallingRows}
+use Rattle.lengths.specs.LengthAnswers as rows
+use Rattle.lengths.specs.declared.EdgeRows.{EdgeRows}
+use Rattle.lengths.specs.declared.LengthRows.{LengthRows}
+use Rattle.lengths.specs.declared.LengthsAnswer.{LengthsAnswer}
+use Rattle.lengths.specs.declared.LengthsAnswer.the-variants as lengths
+use Rattle.answers.specs.Codes.{codeAnswer, Answered, surveyIn, surveyedOf, lengthsIn, lengthsOf}
 use Rattle.answers.proofs.CodeLaws.{code-zero}
 use Rattle.exports.proofs.NumberedLaws.{code-numbered, end-numbered}
 
@@ -34,6 +42,17 @@ survey-in survey.Legal s (value x) e d = rw d refl
 
 pub survey-is : {r : Surveyed} {netlist : List ℕ} → SurveyTrue r netlist → surveyedOf r ≡ surveyCall netlist
 survey-is {r = r} {netlist = netlist} t = survey-in (r .answer) (r .survey) (surveyCall netlist) (t .answer) (t .survey)
+
+-- coverage by length: the rows stand beside the answer
+lengths-in : (r : LengthsAnswer) (up down : EdgeRows) (x : Answer (ByEdge Rows))
+    → rows.answerOf r ≡ passes x → up ≡ risingRows x → down ≡ fallingRows x → lengthsIn r up down ≡ x
+lengths-in (lengths.Refused w) up down (refused n) e u d = let z : refusalNumber w ≡ n = cc in ap (λ k. refused k) z
+lengths-in (lengths.Refused w) up down (value x) e u d = absurd (not-refused e)
+lengths-in lengths.Counted up down (refused n) e u d = absurd (not-refused (sym e))
+lengths-in lengths.Counted up down (value x) e u d = rw (u, d) refl
+
+pub lengths-is : {r : LengthRows} {x : Answer (ByEdge Rows)} → RowsAre r x → lengthsOf r ≡ x
+lengths-is {r = r} {x = x} t = lengths-in (r .answer) (r .rising) (r .falling) x (t .answer) (t .rising) (t .falling)
 
 -- the end of an audit in pieces answers a number, which is its code: by its promise it is never 0
 module _ {r : EndAnswer} {netlist : List ℕ} {total first : ℕ} {report ws ws′ : List ℕ} (t : EndTrue r netlist total first report ws ws′) where

@@ -4,9 +4,11 @@ ghost use Rattle.model.specs.Calls.{surveyCall, emptyCall, emptiedStore, totals
 ghost use Rattle.model.specs.Report.{writerAnswer, writerBuffer, auditAnswer, auditStore};
 ghost use Rattle.piece_steps.specs.Steps.{beginAnswer, beginStore};
 ghost use Rattle.load.specs.Calls.{loadAnswer, loadBuffer};
+ghost use Rattle.length_rows.specs.Lengths.{lengthsCall};
 ghost use Rattle.pieces.specs.Calls.{pieceAnswer, pieceLeft, PieceWork, endAnswer, endStore};
 ghost use Rattle.bench_text.specs.Calls.{convertAnswer, convertBuffer};
-ghost use Rattle.answers.specs.Codes.{codeAnswer, Answered, allTaken, surveyWords, edgeWords, countWords, numberWord, boolWord, loadWords};
+ghost use Rattle.answers.specs.Codes.{codeAnswer, Answered, allTaken, surveyWords, edgeWords, countWords, numberWord, boolWord};
+ghost use Rattle.answers.specs.Codes.{loadWords, lengthWords};
 use faults::FaultNo;
 use faults::PathNo;
 use file_judging::EndAnswer;
@@ -55,6 +57,15 @@ pub extern "C" fn genduwal_totals(netlist: &[u8], store: &[u64], answer: &mut [u
 {
     let totals = store::totals(netlist, store);
     answers::totals_code(totals, answer)
+}
+
+// Coverage by length: for rising the number of paths of each length of 0 to 63 gates, then of their faults that a store holds; the same for falling.
+#[no_mangle]
+pub extern "C" fn genduwal_lengths(netlist: &[u8], store: &[u64], answer: &mut [u64; 256]) -> u32
+    ensures { λ r. ⌜ Answered (lengthsCall (now (netlist .entry)) (now (store .entry))) lengthWords r (now (answer .entry)) (now (answer .exit)) ⌝ }
+{
+    let rows = lengths::coverage_by_length(netlist, store);
+    answers::lengths_code(rows, answer)
 }
 
 // Whether a store holds a fault: 1 if it does, else 0.

@@ -39,3 +39,4 @@ refusalNumber why.BenchLine = 80
 refusalNumber why.BenchName = 81
 refusalNumber why.BenchCount = 82
 refusalNumber why.UnknownClass = 83
+refusalNumber why.PathTooLong = 84

@@ -66,6 +66,7 @@ pub enum Refusal {
     BenchName,
     BenchCount,
     UnknownClass,
+    PathTooLong,
 }
 
 // Class 1 or 2.
@@ -114,5 +115,6 @@ pub fn refusal_number(why: Refusal) -> u32
         Refusal::BenchName => 81,
         Refusal::BenchCount => 82,
         Refusal::UnknownClass => 83,
+        Refusal::PathTooLong => 84,
     }
 }

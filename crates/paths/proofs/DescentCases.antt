@@ -53,24 +53,24 @@ module _ (file ps cs : List ℕ) (shape : Shape) (net number : ℕ) (high : net 
     counts-are : pinCountsIn part cs ≡ pinCounts N net
     counts-are = ap (λ (x : List ℕ). pinCountsIn x cs) ep ∙ pin-counts t net low high
 
-    pin-is : p .pin ≡ split (pinCounts N net) number .0
+    pub pin-is : p .pin ≡ split (pinCounts N net) number .0
     unfolding pickPin
     pin-is = ap (λ (x : Pick). x .pin) e ∙ ap (λ (x : List ℕ). split x number .0) counts-are
 
-    number-is : p .number ≡ split (pinCounts N net) number .1
+    pub number-is : p .number ≡ split (pinCounts N net) number .1
     unfolding pickPin
     number-is = ap (λ (x : Pick). x .number) e ∙ ap (λ (x : List ℕ). split x number .1) counts-are
 
-    one : p .pin < length (Rattle.model.specs.Netlist.pinsOf N net)
+    pub one : p .pin < length (Rattle.model.specs.Netlist.pinsOf N net)
     one = omega (arith, pin-is, pin-is-one N w net number i l some b)
 
-    net-is : p .net ≡ pinNet N net (split (pinCounts N net) number .0)
+    pub net-is : p .net ≡ pinNet N net (split (pinCounts N net) number .0)
     unfolding pickPin
     net-is =
         ap (λ (x : Pick). x .net) e ∙ ap₂ (λ (x : List ℕ) k. pinIn x k) ep (sym (ap (λ (x : Pick). x .pin) e))
         ∙ gate .pinIs (p .pin) (omega (arith, one, gate .pinCount)) ∙ ap (pinNet N net) pin-is
 
-    below : p .net < net
+    pub below : p .net < net
     below = omega (arith, net-is, pin-below N w net number i l some b)
 
     number-low : 1 ≤ p .number

@@ -63,18 +63,18 @@ module _ (file ps cs : List ℕ) (shape : Shape) (k : ℕ) (r : Wanted file ps c
         unfolding pathTotal
         chosen = splits (outputCounts N) k (r .low) high
 
-        pin-is : o .pin ≡ split (outputCounts N) k .0
+        pub pin-is : o .pin ≡ split (outputCounts N) k .0
         unfolding pickOutput
         pin-is = ap (λ (x : Pick). x .pin) ep ∙ ap (λ (x : List ℕ). split x k .0) (output-counts u eo)
 
-        number-is : o .number ≡ split (outputCounts N) k .1
+        pub number-is : o .number ≡ split (outputCounts N) k .1
         unfolding pickOutput
         number-is = ap (λ (x : Pick). x .number) ep ∙ ap (λ (x : List ℕ). split x k .1) (output-counts u eo)
 
-        place : o .pin < length (N .outputs)
+        pub place : o .pin < length (N .outputs)
         place = omega (arith, pin-is, chosen .place, length-outputCounts N w)
 
-        net-is : o .net ≡ outputNet N (o .pin)
+        pub net-is : o .net ≡ outputNet N (o .pin)
         unfolding pickOutput
         net-is =
             ap (λ (x : Pick). x .net) ep ∙ ap₂ (λ (x : List ℕ) j. outputIn (drop (4 * j) x)) eo (sym (ap (λ (x : Pick). x .pin) ep))

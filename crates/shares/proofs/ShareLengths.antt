@@ -29,7 +29,7 @@ few : (k n : ℕ) → n < 10 ^ suc k → length (decimalText n) ≤ suc k
 unfolding decimalText
 few k n h = digits-few k 20 n h
 
-percent-short : (part whole : ℕ) → 0 < whole → part ≤ whole → length (percentText part whole) ≤ 7
+pub percent-short : (part whole : ℕ) → 0 < whole → part ≤ whole → length (percentText part whole) ≤ 7
 unfolding percentText
 percent-short part whole h l =
     let share : part * 1000 / whole < 1001 =

@@ -9,23 +9,16 @@ use command::load_argument;
 use command::open_file;
 use command::read_class;
 use console::NETLIST_BYTES;
-use console::empty_line;
 use console::print;
-use console::print_condition;
-use console::print_line;
-use console::with_number;
-use console::with_refusal;
-use console::with_text;
 use libc::STDERR_FILENO;
 use libc::STDOUT_FILENO;
 use model::REPORT_BYTES;
-use model::Refusal;
 use model::STORE_WORDS;
 use model::WORK_WORDS;
+use refused_tests::print_refused;
 use report::WriteAnswer;
 use test_file::Reported;
 use test_file::report_stream;
-use verdict::is_of_record;
 
 fn print_usage(fd: i32) {
     print(fd, b"usage: write_report [CIRCUIT [TESTS [CLASS]]]\n");
@@ -33,26 +26,6 @@ fn print_usage(fd: i32) {
         fd,
         b"Writes the report of the tests on a circuit. Without names: circuit.nl, tests.tp, class.txt.\n",
     );
-}
-
-// The number of a refusal and its condition, for a test record also its place.
-fn print_refused(why: Refusal, taken: usize) {
-    if is_of_record(why) {
-        let place = with_number(with_text(empty_line(), b"record "), place_after(taken));
-        print_line(STDERR_FILENO, with_refusal(with_text(place, b" "), why));
-        print_condition(STDERR_FILENO, why);
-        return;
-    }
-    print_line(STDERR_FILENO, with_refusal(empty_line(), why));
-    print_condition(STDERR_FILENO, why);
-}
-
-// The place of the record after so many. No file has so many that there is none.
-fn place_after(taken: usize) -> u64 {
-    if taken < usize::MAX {
-        return (taken + 1) as u64;
-    }
-    u64::MAX
 }
 
 // Writes the report, or the refusal.

@@ -108,6 +108,9 @@ enum-told-33 c = search needs
 enum-told-34 : tie.Need-enum-told-34
 enum-told-34 c = search needs
 
+enum-told-35 : tie.Need-enum-told-35
+enum-told-35 c = search needs
+
 returns : tie.Need-returns
 returns c = sym (ap refusalNumber (c .enum-told .given .1))
 
@@ -210,6 +213,9 @@ returns-33 c = sym (ap refusalNumber (c .enum-told33 .given .1))
 returns-34 : tie.Need-returns-34
 returns-34 c = sym (ap refusalNumber (c .enum-told34 .given .1))
 
+returns-35 : tie.Need-returns-35
+returns-35 c = sym (ap refusalNumber (c .enum-told35 .given .1))
+
 pub refusal-number-spec : {M : Type 1} → statement M
 refusal-number-spec =
     tie.close
@@ -248,6 +254,7 @@ refusal-number-spec =
     enum-told-32
     enum-told-33
     enum-told-34
+    enum-told-35
     returns
     returns-2
     returns-3
@@ -281,4 +288,5 @@ refusal-number-spec =
     returns-31
     returns-32
     returns-33
-    returns-34)
+    returns-34
+    returns-35)

@@ -3,7 +3,7 @@ use mathlib.Core.Path.{_≡_}
 use Prim.Native.Nat.{_-_, _≤_}
 use lib.ListN.{length, take}
 use lib.Seq.{sets}
-use Rattle.answers.proofs.CountLaws.{count-cases}
+use Rattle.answers.proofs.StoredLaws.{stored-cases}
 use Rattle.answers.proofs.answer_words.put_counts.Statement.{statement}
 use Rattle.answers.proofs.answer_words.put_counts.Tie as tie
 
@@ -14,34 +14,34 @@ abbrev μ-loop : tie.MeasureT-loop
 μ-loop counts answer₀ net₀ answer net = 512 - net
 
 loop-holds : tie.Need-loop-holds Inv-loop μ-loop
-loop-holds c = search count-cases
+loop-holds c = search stored-cases
 
 mul-answer : tie.Need-mul-answer Inv-loop μ-loop
-mul-answer c = search count-cases
+mul-answer c = search stored-cases
 
 element-copy-out-answer : tie.Need-element-copy-out-answer Inv-loop μ-loop
-element-copy-out-answer c = search count-cases
+element-copy-out-answer c = search stored-cases
 
 add-answer : tie.Need-add-answer Inv-loop μ-loop
-add-answer c = search count-cases
+add-answer c = search stored-cases
 
 mul-answer-2 : tie.Need-mul-answer-2 Inv-loop μ-loop
-mul-answer-2 c = search count-cases
+mul-answer-2 c = search stored-cases
 
 element-write-answer : tie.Need-element-write-answer Inv-loop μ-loop
-element-write-answer c = search count-cases
+element-write-answer c = search stored-cases
 
 add-net : tie.Need-add-net Inv-loop μ-loop
-add-net c = search count-cases
+add-net c = search stored-cases
 
 loop-less : tie.Need-loop-less Inv-loop μ-loop
-loop-less c = search count-cases
+loop-less c = search stored-cases
 
 loop-again : tie.Need-loop-again Inv-loop μ-loop
-loop-again c = search count-cases
+loop-again c = search stored-cases
 
 returns : tie.Need-returns Inv-loop μ-loop
-returns c = search count-cases
+returns c = search stored-cases
 
 pub put-counts-spec : {M : Type 1} → statement M
 put-counts-spec =

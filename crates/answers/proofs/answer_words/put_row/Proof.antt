@@ -1,0 +1,62 @@
+-- `answers::answer_words::put_row` meets its contract: the numbers so far are stored. Assumes nothing.
+use mathlib.Core.Path.{_≡_}
+use Prim.Native.Nat.{_-_, _≤_}
+use lib.ListN.{length, take}
+use lib.Seq.{sets}
+use Rattle.answers.proofs.StoredLaws.{stored-cases}
+use Rattle.answers.proofs.answer_words.put_row.Statement.{statement}
+use Rattle.answers.proofs.answer_words.put_row.Tie as tie
+
+abbrev Inv-loop : tie.InvT-loop
+Inv-loop row at answer₀ gates₀ answer gates =
+    (gates ≤ 64) × (length row ≡ 64) × (at ≤ 192) × (answer ≡ sets answer₀ at (take gates row))
+
+abbrev μ-loop : tie.MeasureT-loop
+μ-loop row at answer₀ gates₀ answer gates = 64 - gates
+
+loop-holds : tie.Need-loop-holds Inv-loop μ-loop
+loop-holds c = search stored-cases
+
+mul-answer : tie.Need-mul-answer Inv-loop μ-loop
+mul-answer c = search stored-cases
+
+element-copy-out-answer : tie.Need-element-copy-out-answer Inv-loop μ-loop
+element-copy-out-answer c = search stored-cases
+
+add-answer : tie.Need-add-answer Inv-loop μ-loop
+add-answer c = search stored-cases
+
+mul-answer-2 : tie.Need-mul-answer-2 Inv-loop μ-loop
+mul-answer-2 c = search stored-cases
+
+element-write-answer : tie.Need-element-write-answer Inv-loop μ-loop
+element-write-answer c = search stored-cases
+
+add-gates : tie.Need-add-gates Inv-loop μ-loop
+add-gates c = search stored-cases
+
+loop-less : tie.Need-loop-less Inv-loop μ-loop
+loop-less c = search stored-cases
+
+loop-again : tie.Need-loop-again Inv-loop μ-loop
+loop-again c = search stored-cases
+
+returns : tie.Need-returns Inv-loop μ-loop
+returns c = search stored-cases
+
+pub put-row-spec : {M : Type 1} → statement M
+put-row-spec =
+    tie.close
+    (tie.spec
+    Inv-loop
+    μ-loop
+    loop-holds
+    mul-answer
+    element-copy-out-answer
+    add-answer
+    mul-answer-2
+    element-write-answer
+    add-gates
+    loop-less
+    loop-again
+    returns)

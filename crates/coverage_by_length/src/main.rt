@@ -1,0 +1,131 @@
+// Prints how many paths of each length in gates a circuit has, and how many of their faults the tests of a file detect, in a class: `coverage_by_length
+// [svg] [CIRCUIT [TESTS [CLASS]]]`, as a table, or with `svg` as a picture; without names the files of the current folder; a missing file counts as
+// empty, a missing class file as class 1. Where the netlist, the class, the file or a record is refused it prints nothing, and says why on standard
+// error; so where a file can't be read whole. A circuit with a path to an output of more than 63 gates is refused on standard output.
+ghost use Prim.Native.Nat.{_≤_};
+use command::close_file;
+use command::file_name;
+use command::is_argument;
+use command::load_argument;
+use command::open_file;
+use command::read_class;
+use console::NETLIST_BYTES;
+use console::empty_line;
+use console::print;
+use console::print_condition;
+use console::print_line;
+use console::with_refusal;
+use length_chart::put_chart;
+use length_text::put_table;
+use lengths::LengthRows;
+use lengths::LengthsAnswer;
+use lengths::coverage_by_length;
+use libc::STDERR_FILENO;
+use libc::STDOUT_FILENO;
+use model::REPORT_BYTES;
+use model::Refusal;
+use model::STORE_WORDS;
+use model::WORK_WORDS;
+use refused_tests::print_refused;
+use report::WriteAnswer;
+use test_file::report_stream;
+
+fn print_usage(fd: i32) {
+    print(
+        fd,
+        b"usage: coverage_by_length [svg] [CIRCUIT [TESTS [CLASS]]]\n",
+    );
+    print(
+        fd,
+        b"Prints the paths of each length and their tested faults, with svg as a picture. Without names: circuit.nl, tests.tp, class.txt.\n",
+    );
+}
+
+// The rows as a table or as a picture. The rows of paths are the same for both edges.
+fn print_rows(rows: LengthRows, picture: bool) {
+    let rising = rows.rising;
+    let falling = rows.falling;
+    let paths = rising.paths;
+    let rising_held = rising.held;
+    let falling_held = falling.held;
+    let mut text = io::large_buffer();
+    if picture {
+        let bytes = put_chart(&paths, &rising_held, &falling_held, &mut text);
+        print(STDOUT_FILENO, &text[..bytes]);
+        return;
+    }
+    let bytes = put_table(&paths, &rising_held, &falling_held, &mut text);
+    print(STDOUT_FILENO, &text[..bytes]);
+}
+
+// A refusal of the circuit or of the store.
+fn print_refusal(why: Refusal) {
+    print_line(STDOUT_FILENO, with_refusal(empty_line(), why));
+    print_condition(STDERR_FILENO, why);
+}
+
+// Coverage by length of the faults in a store.
+fn print_coverage(netlist: &[u8], store: &[u64], picture: bool) {
+    let rows = coverage_by_length(netlist, store);
+    let answer = rows.answer;
+    match answer {
+        LengthsAnswer::Counted => print_rows(rows, picture),
+        LengthsAnswer::Refused(why) => print_refusal(why),
+    }
+}
+
+// The same of the faults that the test file detects, in a class, that an argument names.
+fn cover_tests(netlist: &[u8], class: u32, place: usize, picture: bool) {
+    let mut name = io::buffer();
+    let n = file_name(place, b"tests.tp", &mut name);
+    let mut report = [0u8; REPORT_BYTES];
+    let mut space = io::large_buffer();
+    let mut store = [0u64; STORE_WORDS];
+    let mut work = [0u64; WORK_WORDS];
+    let opened = open_file(&name[..n]);
+    let reported = report_stream(
+        opened.fd,
+        netlist,
+        class,
+        &mut report,
+        &mut space,
+        &mut store,
+        &mut work,
+    );
+    if close_file(&name[..n], opened, reported.whole) {
+        let answer = reported.answer;
+        match answer {
+            WriteAnswer::Refused(why) => print_refused(why, reported.taken),
+            WriteAnswer::Written(_) => print_coverage(netlist, &store, picture),
+        }
+    }
+}
+
+// The files that the arguments from a place on name.
+fn cover_files(first: usize, picture: bool)
+    requires { ⌜ first ≤ 2 ⌝ }
+{
+    if first + 3 < os::arg_count() {
+        print_usage(STDERR_FILENO);
+        return;
+    }
+    let mut bytes = [0u8; NETLIST_BYTES];
+    let circuit = load_argument(first, b"circuit.nl", &mut bytes);
+    let length = circuit.bytes;
+    let read = read_class(first + 2);
+    if circuit.whole && read.whole {
+        cover_tests(&bytes[..length], read.class, first + 1, picture);
+    }
+}
+
+fn main() {
+    if is_argument(1, b"--help") {
+        print_usage(STDOUT_FILENO);
+        return;
+    }
+    if is_argument(1, b"svg") {
+        cover_files(2, true);
+        return;
+    }
+    cover_files(1, false);
+}

@@ -1,0 +1,2 @@
+-- Coverage by length as a picture.
+pub mod Chart

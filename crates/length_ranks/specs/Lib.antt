@@ -1,0 +1,2 @@
+-- The rows of nets in memory.
+pub mod NetRows

@@ -1,0 +1,78 @@
+-- Coverage by length: for each edge and each length of 0 to 63 gates how many paths there are, and how many of their faults the store holds.
+-- All of it is counted over path numbers one by one; the code counts by rows (specs/RowSums).
+-- Assumes nothing.
+use mathlib.Core.Path.{_≡_}
+use mathlib.Core.Bool.{Bool, _&&_}
+use mathlib.Core.List.{List, [], _∷_, _++_, map}
+use Prim.Native.Nat.{ℕ, _≤_, _<_}
+use lib.Dec.{leb, eqb}
+use lib.ListN.{length, getD}
+use Rattle.model.specs.Base.{Answer, value, _>>=_, _>>_, Rule, checks, sumOf, numbersFrom}
+use Rattle.model.specs.Netlist.{Netlist, counts, pathTotal}
+use Rattle.model.specs.Path.{Edge, pathAt, pathOf}
+use Rattle.model.specs.Runs.{inRuns, howMany}
+use Rattle.model.specs.Read.{readNetlist}
+use Rattle.model.specs.Store.{ByEdge, byEdge, ofEdge, storeRuns, storeRules}
+use Rattle.model.specs.Calls.{storeRule, totalsCall}
+
+-- the lengths that are counted: 0 to 63 gates
+abbrev pub lengths : ℕ
+lengths = 64
+
+-- A row: one number for each length
+unfoldable pub row : (ℕ → ℕ) → List ℕ
+row f = map f (numbersFrom 0 lengths)
+
+-- the number of gates on path number `k`: one for each pin
+unfoldable pub lengthOf : Netlist → ℕ → ℕ
+lengthOf N k = length (pathOf N k .pins)
+
+abbrev pub ofLength : Netlist → ℕ → ℕ → Bool
+ofLength N l k = eqb (lengthOf N k) l
+
+-- how many of the paths 1 to `k` have `l` gates
+unfoldable pub pathsUpTo : Netlist → ℕ → ℕ → ℕ
+pathsUpTo N l k = howMany (ofLength N l) k
+
+-- how many of the paths 1 to `k` have `l` gates and lie in the set `P`
+unfoldable pub heldUpTo : Netlist → (ℕ → Bool) → ℕ → ℕ → ℕ
+heldUpTo N P l k = howMany (λ j. ofLength N l j && P j) k
+
+-- The rows of an edge: for each length the number of paths, and of faults of the edge that the store holds
+pub record Rows : Type 0 where
+  pub paths : List ℕ
+  pub held : List ℕ
+
+unfoldable pub rowsOf : Netlist → List ℕ → Edge → Rows
+rowsOf N ws e = record {
+  paths = row (λ l. pathsUpTo N l (pathTotal N));
+  held = row (λ l. heldUpTo N (inRuns (storeRuns ws e)) l (pathTotal N));
+}
+
+-- no path to an output has more than 63 gates
+abbrev pub lengthRule : Netlist → Rule
+lengthRule N = (84, eqb (howMany (λ k. leb lengths (lengthOf N k)) (pathTotal N)) 0)
+
+unfoldable pub lengthsCall : List ℕ → List ℕ → Answer (ByEdge Rows)
+lengthsCall netlist ws =
+    checks (storeRule ws ∷ [])
+    >> readNetlist netlist
+    >>= λ N. checks (storeRules (pathTotal N) ws ++ (lengthRule N ∷ []))
+    >> value (byEdge (rowsOf N ws))
+
+-- Partial paths: how many of those 1 to `k` of a net have `l` gates, and how many of all of them
+unfoldable pub partialsUpTo : Netlist → ℕ → ℕ → ℕ → ℕ
+partialsUpTo N net l k = howMany (λ j. eqb (length (pathAt N net net j)) l) k
+
+unfoldable pub partials : Netlist → ℕ → ℕ → ℕ
+partials N net l = partialsUpTo N net l (getD (counts N) net 0)
+
+-- What is claimed of an answer: for each edge the rows add up to T and to the store's totals, and no number of held faults passes that of the paths
+pub record RowsTrue (netlist ws : List ℕ) (r : ByEdge Rows) : Type 0 where
+  pub circuit : Netlist
+  pub legal : readNetlist netlist ≡ value circuit
+  pub pathsAdd : (e : Edge) → sumOf (ofEdge r e .paths) ≡ pathTotal circuit
+  pub totals : ByEdge ℕ
+  pub totalsGives : totalsCall netlist ws ≡ value totals
+  pub heldAdd : (e : Edge) → sumOf (ofEdge r e .held) ≡ ofEdge totals e
+  pub heldFew : (e : Edge) (l : ℕ) → l < lengths → getD (ofEdge r e .held) l 0 ≤ getD (ofEdge r e .paths) l 0

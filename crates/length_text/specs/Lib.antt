@@ -1,0 +1,2 @@
+-- Coverage by length as text.
+pub mod LengthTable

@@ -1,0 +1,2 @@
+-- Answers and tasks.
+pub mod LengthAnswers

@@ -1,0 +1,3 @@
+-- Laws that the proofs of this crate, or of later ones, cite.
+pub mod WrittenLaws
+pub mod LineLengthLaws

@@ -1,0 +1,2 @@
+// Lines put into a lent buffer, one after the other.
+pub mod inner;
