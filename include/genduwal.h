@@ -14,7 +14,8 @@
  * they were. The library keeps nothing between calls, so calls that write unlike parts of memory may run at the same time.
  *
  * No call uses a heap. genduwal_audit and genduwal_audit_piece need some 370,000 bytes of stack (measured, both classes), of which 270,336
- * are the lists of 64 records; genduwal_number_to_path and genduwal_path_to_number up to 68,000 (a path of 511 gates), the others up to 16,000.
+ * are the lists of 64 records; genduwal_lengths some 276,000, of which 262,144 are the rows of 512 nets; genduwal_number_to_path and
+ * genduwal_path_to_number up to 68,000 (a path of 511 gates), the others up to 16,000.
  *
  * Refusals, in the order in which they are looked for:
  *   1  store not 4,098 words                     2  working memory under 8,192 words
