@@ -16,7 +16,8 @@ use Rattle.model.specs.Store.{emptyStore, storeRuns}
 use Rattle.model.specs.Calls.{FaultCounts, totalsCall}
 use Rattle.model.specs.Report.{fileRecords, reportBufferBytes}
 use Rattle.model.specs.Demand3.{Call, testIn, knownClass, CountOf, Detected, RunsOfDetected, detectedBy, NoRefusal, Returned, WhollyTaken, FileCalls, testsOf, TrueReport, NamesDetected, Acceptable}
-use Rattle.coverage.specs.TestCall.{testedOf, TestTrue}
+use Rattle.coverage.specs.TestCall.{testedOf}
+use Rattle.test_call.specs.TestPromise.{TestTrue}
 use Rattle.coverage.specs.declared.TestAnswer.{TestAnswer}
 use Rattle.store.specs.Answers.{totalsOf}
 use Rattle.store.specs.declared.TotalsAnswer.{TotalsAnswer}

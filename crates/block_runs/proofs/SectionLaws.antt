@@ -13,7 +13,8 @@ use mir.Syntax.{w64}
 use Rattle.block.proofs.WordLaws.{same-place}
 use Rattle.block_runs.specs.Spans.{Ascending, InputSpans}
 
-pub ascending-same : {base : ℕ} {spans spans′ : List ℕ} → ((k : ℕ) → base ≤ k → k ≤ base + 64 → getD spans′ k 0 ≡ getD spans k 0) → Ascending spans base → Ascending spans′ base
+pub ascending-same : {base : ℕ} {spans spans′ : List ℕ} → ((k : ℕ) → base ≤ k → k ≤ base + 64 → getD spans′ k 0 ≡ getD spans k 0)
+    → Ascending spans base → Ascending spans′ base
 ascending-same {base} same a =
     let last = same (base + 64) (omega arith) (omega arith) in
     record {

@@ -135,7 +135,8 @@ module _ {table places ups downs marks ws₀ work₀ : List ℕ} {inputs records
         module _ {ws′ : List ℕ} {answer : TestAnswer}
             (counted : (N : Netlist) (test : Test) (found : List ℕ) → BothCounted N test ws found work₁ made held → TestedIs (workStage N test ws) ws ws′ found work₁ answer)
             {a : AnswerWords} (ea : a ≡ wordsOf answer) where
-          now-is : (N : Netlist) (tests : ℕ → Test) → BlockIn N tests table places ups downs marks inputs records ws₀ work₀ → TestedIs (workStage N (tests t) ws) ws ws′ work work₁ answer
+          now-is : (N : Netlist) (tests : ℕ → Test) → BlockIn N tests table places ups downs marks inputs records ws₀ work₀
+              → TestedIs (workStage N (tests t) ws) ws ws′ work work₁ answer
           now-is N tests b = counted N (tests t) work (made-here N tests b)
 
           said : (N : Netlist) (tests : ℕ → Test) → BlockIn N tests table places ups downs marks inputs records ws₀ work₀

@@ -2,7 +2,6 @@
 use bench_text::BenchAnswer;
 use bench_text::bench_to_netlist;
 use coverage::TestAnswer;
-use coverage::apply_test;
 use faults::Edge;
 use faults::FaultAnswer;
 use faults::FaultNo;
@@ -24,6 +23,7 @@ use script::inner::cells;
 use store::EmptyAnswer;
 use store::HeldAnswer;
 use store::TotalsAnswer;
+use test_call::apply_test;
 
 // The survey: the numbers of inputs, gates and outputs, and the total.
 pub(crate) fn survey(netlist: &[u8]) -> Answer {

@@ -1,3 +1,4 @@
+-- One edge, both edges, the place Work, the faults counted.
 pub mod CoverLaws
 pub mod JoinNewCases
 pub mod BothLaws
@@ -6,4 +7,3 @@ pub mod WorkLaws
 pub mod WorkMemory
 pub mod StageLaws
 pub mod TestCallLaws
-pub mod CallLaws

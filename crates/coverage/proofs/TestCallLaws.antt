@@ -10,9 +10,8 @@ use Rattle.model.specs.Path.{Edge, rising, falling}
 use Rattle.model.specs.Detect.{Test, detectsNumber}
 use Rattle.model.specs.Runs.{Run, Separated, inRuns, size, howMany}
 use Rattle.model.specs.Netlist.{Netlist, pathTotal}
-use Rattle.model.specs.Read.{classOf, testOf}
 use Rattle.model.specs.Store.{ByEdge, byEdge, ofEdge, maxRuns, storeRuns, runsByEdge}
-use Rattle.model.specs.Calls.{Tested, storeLeft, tested, heldThen, newThen, runsThen, testStage}
+use Rattle.model.specs.Calls.{Tested, storeLeft, tested, heldThen, newThen, runsThen}
 use Rattle.model.specs.Refusals.{refusalNumber}
 use Rattle.model.specs.declared.Refusal.{Refusal}
 use Rattle.model.proofs.AnswerLaws.{Passed, not-refused}
@@ -20,21 +19,17 @@ use Rattle.model.proofs.RunSizeLaws.{runs-size, howMany-or}
 use Rattle.model.proofs.RunLaws.{runs-of-runs}
 use Rattle.model.proofs.StoreLaws.{runs-store}
 use Rattle.model.proofs.HoldingLaws.{ofEdge-byEdge}
-use Rattle.netlist.specs.Tables.{CircuitTables}
-use Rattle.netlist.specs.declared.inner.Shape.{Shape}
 use Rattle.store_words.specs.WordAnswers.{totalsIn, totalsBoth}
 use Rattle.store_words.specs.Sound.{SoundWords}
 use Rattle.store_words.specs.declared.inner.StoreTotals.{StoreTotals}
 use Rattle.store_words.proofs.SoundLaws.{edge-sound, sound-more}
-use Rattle.coverage.specs.Stage.{MemoryReady, LegalReady, stageOf, storeAfter, workStage, StageIs, StageTrue}
-use Rattle.coverage.specs.TestCall.{testedOf, returnedBy, TestedIs, Counting, SomeCounting}
-use Rattle.coverage.specs.declared.TestAnswer.{TestAnswer}
+use Rattle.coverage.specs.Stage.{MemoryReady, stageOf, storeAfter, workStage, StageIs}
+use Rattle.coverage.specs.TestCall.{testedOf, returnedBy, TestedIs, Counting}
 use Rattle.coverage.specs.declared.TestAnswer.the-variants.{Taken, Refused}
 use Rattle.coverage.specs.declared.inner.StageAnswer.{StageAnswer}
 use Rattle.coverage.specs.declared.inner.StageAnswer.the-variants as stage
-use Rattle.coverage.proofs.EdgesLaws.{same-memory, few-paths, memory-sound}
+use Rattle.coverage.proofs.EdgesLaws.{memory-sound}
 use Rattle.coverage.proofs.WorkMemory.{then-few, work-result, work-memory}
-use Rattle.coverage.proofs.StageLaws.{stage-is-work}
 
 -- what it says of an answer that it passes, or does not
 pub refused-by : {A : Type 0} (x : Answer A) (n : ℕ) → refused n ≡ passes x → x ≡ refused n
@@ -138,36 +133,3 @@ module _ {N : Netlist} {t : Test} {x : Answer Tested} {ws ws′ work work′ : L
             sameLength = k .stage .sameLength;
             pastWork = k .stage .pastWork;
           }
-
--- The test stage of a legal record, for every netlist that the tables are of
-module _ {file ps cs : List ℕ} {shape : Shape} {rec ws work : List ℕ} (h : LegalReady file ps cs shape rec ws work) where
-  pub before-sound : SoundWords (2 ^ 62) ws
-  before-sound = sound-more (pathTotal (h .stage .circuit)) (2 ^ 62) ws (few-paths (h .stage .tables)) (memory-sound (h .stage .memory))
-
-  module _ (class : ℕ) {before : StoreTotals} (eb : totalsIn before ≡ totalsBoth ws) {ws′ work′ : List ℕ} {r : StageAnswer}
-      (s : (N : Netlist) → CircuitTables N file ps cs shape → StageTrue N (classOf class) rec ws ws′ work work′ r) where
-    counting-of : (N : Netlist) → CircuitTables N file ps cs shape
-        → Counting N (testOf N (classOf class) rec) (testStage N (classOf class) rec ws) ws ws′ work work′ before r
-    counting-of N c = record {
-      memory = same-memory (h .stage) c;
-      fewPaths = few-paths c;
-      totals = eb;
-      stage = s N c;
-      isWork = stage-is-work N (classOf class) rec ws;
-    }
-
-    pub legal-counting : SomeCounting before r ws′
-    legal-counting = record {
-      circuit = h .stage .circuit;
-      test = testOf (h .stage .circuit) (classOf class) rec;
-      made = testStage (h .stage .circuit) (classOf class) rec ws;
-      held = ws;
-      work = work;
-      work′ = work′;
-      counting = counting-of (h .stage .circuit) (h .stage .tables);
-    }
-
-    pub legal-counted : {a : TestAnswer}
-        → ((N : Netlist) (t : Test) (x : Answer Tested) (held old new : List ℕ) → Counting N t x held ws′ old new before r → TestedIs x held ws′ old new a)
-        → (N : Netlist) → CircuitTables N file ps cs shape → TestedIs (testStage N (classOf class) rec ws) ws ws′ work work′ a
-    legal-counted counts N c = counts N (testOf N (classOf class) rec) (testStage N (classOf class) rec ws) ws work work′ (counting-of N c)

@@ -5,7 +5,6 @@ use mathlib.Core.List.{List}
 use Prim.Native.Nat.{ℕ, _*_, _≤_}
 use native.Mathlib.Omega.{arith}
 use borrow.Author.Needs.{needs}
-use lib.Dec.{leb, leb→le}
 use lib.ListN.{length}
 use Rattle.model.specs.Base.{refused, value, checks}
 use Rattle.model.specs.Netlist.{Netlist, pathTotal}
@@ -17,21 +16,15 @@ use Rattle.model.specs.Calls.{workWords, workRules, tested, runsThen}
 use Rattle.model.specs.Refusals.{refusalNumber}
 use Rattle.model.specs.declared.Refusal.{Refusal}
 use Rattle.model.specs.declared.Refusal.the-variants as why
-use Rattle.model.proofs.AnswerLaws.{checks→}
-use Rattle.model.proofs.HoldingLaws.{at-edge}
-use Rattle.netlist.specs.Tables.{CircuitTables}
-use Rattle.netlist.specs.declared.inner.Shape.{Shape}
-use Rattle.test_records.specs.declared.inner.InputEdges.{InputEdges}
 use Rattle.store_writing.specs.Writing.{changed, withRuns, StoreHas, Writable, Rewritten}
 use Rattle.store_writing.specs.declared.inner.Change.{Change}
 use Rattle.store_writing.proofs.EdgeWriteCases.{sound-has}
 use Rattle.coverage.specs.Both.{bothOf, CoversBoth}
-use Rattle.coverage.specs.Stage.{PinsOf, MemoryReady, WorkReady, BothMade, SomeBothMade, storeAfter, workStage, StageIs}
+use Rattle.coverage.specs.Stage.{MemoryReady, BothMade, SomeBothMade, storeAfter, workStage, StageIs}
 use Rattle.coverage.specs.declared.edges.BothAnswer.{BothAnswer}
 use Rattle.coverage.specs.declared.edges.BothAnswer.the-variants.{Fits, WorkOver, StoreOver}
-use Rattle.coverage.specs.declared.inner.StageAnswer.{StageAnswer}
 use Rattle.coverage.specs.declared.inner.StageAnswer.the-variants.{Taken, Refused}
-use Rattle.coverage.proofs.EdgesLaws.{same-memory}
+use Rattle.coverage.proofs.WorkMemory.{then-few}
 
 store-has : {N : Netlist} {ws work : List ℕ} → MemoryReady N ws work → StoreHas ws (runsByEdge ws)
 store-has {N = N} {ws = ws} m = sound-has (pathTotal N) ws (m .storeLength) (m .sound)
@@ -48,13 +41,12 @@ module _ {N : Netlist} {t : Test} {ws work work′ : List ℕ} (m : MemoryReady 
     passing : checks (workRules N (runsByEdge ws) t) ≡ value tt
     passing = sym (x .answers) ∙ ap bothOf fits
 
-    few-then : (e : Edge) → length (runsThen N (runsByEdge ws) t e) ≤ maxRuns
-    few-then e =
-        leb→le (length (runsThen N (runsByEdge ws) t e)) maxRuns
-        (at-edge (λ d. leb (length (runsThen N (runsByEdge ws) t d)) maxRuns) (checks→ (workRules N (runsByEdge ws) t) (record { got = tt; is = passing }) .1 .0) e)
+    made : workStage N t ws ≡ value (tested N (runsByEdge ws) t)
+    unfolding workStage
+    made = rw passing refl
 
     few-rising : length (changed r work′ (2 * maxRuns) (storeRuns ws rising)) ≤ maxRuns
-    few-rising = omega (arith, few-then rising, ap (length {A = Run}) (x .risingRuns r f fits))
+    few-rising = omega (arith, then-few N t ws made rising, ap (length {A = Run}) (x .risingRuns r f fits))
 
     first-writable : Writable work′ (2 * maxRuns) r rising ws
     first-writable = record { runs = runsByEdge ws; has = store-has m; within = x .risingWithin r f fits; few = few-rising; room = omega (arith, m .workLength) }
@@ -77,7 +69,7 @@ module _ {N : Netlist} {t : Test} {ws work work′ : List ℕ} (m : MemoryReady 
         runs = runs₁;
         has = has₁;
         within = x .fallingWithin r f fits;
-        few = omega (arith, few-then falling, ap (length {A = Run}) (x .fallingRuns r f fits));
+        few = omega (arith, then-few N t ws made falling, ap (length {A = Run}) (x .fallingRuns r f fits));
         room = omega (arith, m .workLength);
       }
 
@@ -85,9 +77,9 @@ module _ {N : Netlist} {t : Test} {ws work work′ : List ℕ} (m : MemoryReady 
       unfolding workStage storeAfter tested runs₁
       taken-stage {ws₂ = ws₂} w₂ =
           let c : checks (workRules N (runsByEdge ws) t) ≡ value tt = passing in
-          let made : ws₂ ≡ storeOf (byEdge (runsThen N (runsByEdge ws) t)) =
+          let left : ws₂ ≡ storeOf (byEdge (runsThen N (runsByEdge ws) t)) =
           w₂ runs₁ has₁ ∙ ap₂ (λ (u v : List Run). storeOf (record { onRising = u; onFalling = v })) (x .risingRuns r f fits) (x .fallingRuns r f fits) in
-          record { answer = rw c refl; store = made ∙ rw c refl; sameLength = same; pastWork = x .kept workWords (omega arith) }
+          record { answer = rw c refl; store = left ∙ rw c refl; sameLength = same; pastWork = x .kept workWords (omega arith) }
 
 -- The writes, by what was made of both edges, and what they leave for every test that it was made for
 module _ {b : BothAnswer} {ws work : List ℕ} where
@@ -110,25 +102,5 @@ module _ {b : BothAnswer} {ws work : List ℕ} where
       pub write-taken : {ws₂ : List ℕ} → Rewritten work (3 * maxRuns) f falling ws₁ ws₂
           → (N : Netlist) (t : Test) (found : List ℕ) → BothMade N t ws found work b → StageIs (workStage N t ws) ws ws₂ found work Taken
       write-taken w₂ N t found x = taken-stage (x .memory) (x .sameLength) (x .covers) fits w₁ w₂
-
--- The same for every netlist that the tables are of
-module _ {file ps cs masks : List ℕ} {edges : InputEdges} {shape : Shape} {ws work : List ℕ} (h : WorkReady file ps cs masks edges shape ws work)
-    {b : BothAnswer} {work′ : List ℕ} (same : length work′ ≡ length work)
-    (covers : (N : Netlist) (t : Test) → CircuitTables N file ps cs shape → PinsOf N t masks edges → CoversBoth N t ws work work′ b) where
-  both-made : (N : Netlist) (t : Test) → CircuitTables N file ps cs shape → PinsOf N t masks edges → BothMade N t ws work work′ b
-  both-made N t c p = record { memory = same-memory (h .stage) c; sameLength = same; covers = covers N t c p }
-
-  pub work-writes : SomeBothMade b ws work′
-  work-writes = record {
-    circuit = h .stage .circuit;
-    test = h .test;
-    found = work;
-    made = both-made (h .stage .circuit) (h .test) (h .stage .tables) (h .pins);
-  }
-
-  pub work-written : {ws′ : List ℕ} {r : StageAnswer}
-      → ((N : Netlist) (t : Test) (found : List ℕ) → BothMade N t ws found work′ b → StageIs (workStage N t ws) ws ws′ found work′ r)
-      → (N : Netlist) (t : Test) → CircuitTables N file ps cs shape → PinsOf N t masks edges → StageIs (workStage N t ws) ws ws′ work work′ r
-  work-written writes N t c p = writes N t work (both-made N t c p)
 
 pub ruleset write-cases = (write-over, write-full, write-first, write-next, write-taken, needs)

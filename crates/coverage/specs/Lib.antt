@@ -1,4 +1,4 @@
--- One test on a store: one edge, both edges, one record, the call.
+-- What a test adds to a store: one edge, both edges, one record, the faults counted.
 pub mod Covers
 pub mod Both
 pub mod Stage

@@ -1,33 +1,22 @@
--- The places Test, Store and Work for one record, as inner functions meet them: what they are handed, and what they answer and leave.
+-- The place Work for one record, after the rules of the places Test and Store: what is handed over, what is made, answered and left.
 -- Assumes nothing.
 use mathlib.Core.Path.{_≡_}
 use mathlib.Core.List.{List, _++_}
-use Prim.Native.Nat.{ℕ, _≤_, _<_, _^_}
+use Prim.Native.Nat.{ℕ, _≤_}
 use lib.ListN.{length, drop}
-use Rattle.model.specs.Base.{Answer, refused, value, _>>_, Rule, checks, passes, after, bit}
+use Rattle.model.specs.Base.{Answer, refused, value, _>>_, Rule, checks, passes, after}
 use Rattle.model.specs.Netlist.{Netlist, pathTotal}
-use Rattle.model.specs.Path.{rising, falling}
-use Rattle.model.specs.Detect.{Class, Test, hasEdge}
+use Rattle.model.specs.Detect.{Test}
 use Rattle.model.specs.Read.{testRules}
 use Rattle.model.specs.Store.{storeWords, storeRules, runsByEdge}
-use Rattle.model.specs.Calls.{workWords, workRules, Tested, storeLeft, tested, testStage}
+use Rattle.model.specs.Calls.{workWords, workRules, Tested, storeLeft, tested}
 use Rattle.model.specs.Refusals.{refusalNumber}
 use Rattle.netlist.specs.Tables.{CircuitTables}
 use Rattle.netlist.specs.declared.inner.Shape.{Shape}
-use Rattle.simulation.specs.Simulated.{OpenMasks}
-use Rattle.test_records.specs.declared.inner.InputEdges.{InputEdges}
 use Rattle.coverage.specs.Both.{CoversBoth}
 use Rattle.coverage.specs.declared.edges.BothAnswer.{BothAnswer}
-use Rattle.coverage.specs.declared.inner.Checked.{Checked}
-use Rattle.coverage.specs.declared.inner.Checked.the-variants as checked
 use Rattle.coverage.specs.declared.inner.StageAnswer.{StageAnswer}
 use Rattle.coverage.specs.declared.inner.StageAnswer.the-variants as stage
-
--- the open pins of each gate and the edges of the inputs, a bit for each, are those of a test
-pub record PinsOf (N : Netlist) (t : Test) (masks : List ℕ) (edges : InputEdges) : Type 0 where
-  pub openPins : OpenMasks N t masks
-  pub rise : (j : ℕ) → j < N .inputs → bit (edges .rises) j ≡ hasEdge t rising j
-  pub fall : (j : ℕ) → j < N .inputs → bit (edges .falls) j ≡ hasEdge t falling j
 
 -- a store that no rule refuses, and working memory long enough
 pub record MemoryReady (N : Netlist) (store work : List ℕ) : Type 0 where
@@ -39,17 +28,6 @@ pub record StageReady (netlist positions counts : List ℕ) (shape : Shape) (sto
   pub circuit : Netlist
   pub tables : CircuitTables circuit netlist positions counts shape
   pub memory : MemoryReady circuit store work
-
--- besides, a record that no rule of the place Test refuses
-pub record LegalReady (netlist positions counts : List ℕ) (shape : Shape) (rec store work : List ℕ) : Type 0 where
-  pub stage : StageReady netlist positions counts shape store work
-  pub legalRecord : checks (testRules (stage .circuit) rec) ≡ value tt
-
--- its open pins and edges instead of the record
-pub record WorkReady (netlist positions counts masks : List ℕ) (edges : InputEdges) (shape : Shape) (store work : List ℕ) : Type 0 where
-  pub stage : StageReady netlist positions counts shape store work
-  pub test : Test
-  pub pins : PinsOf (stage .circuit) test masks edges
 
 -- what was made in the words of both edges of a sound store, with words as they were found before
 pub record BothMade (N : Netlist) (t : Test) (ws found work : List ℕ) (b : BothAnswer) : Type 0 where
@@ -64,22 +42,11 @@ pub record SomeBothMade (b : BothAnswer) (ws work : List ℕ) : Type 0 where
   pub found : List ℕ
   pub made : BothMade circuit test ws found work b
 
--- numbers and a store of the right length that the places Test and Store are handed
-pub record CheckReady (inputs : ℕ) (ws : List ℕ) (paths : ℕ) : Type 0 where
-  pub someInput : 1 ≤ inputs
-  pub fewInputs : inputs ≤ 64
-  pub long : length ws ≡ storeWords
-  pub fewPaths : paths ≤ 2 ^ 62
-
 -- the rules of the places Test and Store
 abbrev pub placeRules : Netlist → List ℕ → List ℕ → List Rule
 placeRules N rec ws = testRules N rec ++ storeRules (pathTotal N) ws
 
 -- document 01's number for each case
-abbrev pub checkedOf : Checked → Answer (Unit {0})
-checkedOf checked.Passed = value tt
-checkedOf (checked.Refused why) = refused (refusalNumber why)
-
 abbrev pub stageOf : StageAnswer → Answer (Unit {0})
 stageOf stage.Taken = value tt
 stageOf (stage.Refused why) = refused (refusalNumber why)
@@ -98,7 +65,3 @@ pub record StageIs (x : Answer Tested) (ws ws′ work work′ : List ℕ) (r : S
   pub store : ws′ ≡ storeAfter x ws
   pub sameLength : length work′ ≡ length work
   pub pastWork : drop workWords work′ ≡ drop workWords work
-
--- the places Test, Store and Work for one record in a class
-abbrev pub StageTrue : Netlist → Class → List ℕ → List ℕ → List ℕ → List ℕ → List ℕ → StageAnswer → Type 0
-StageTrue N c rec ws ws′ work work′ r = StageIs (testStage N c rec ws) ws ws′ work work′ r

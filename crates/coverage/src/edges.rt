@@ -1,28 +1,20 @@
-// One edge of a store with what the test detects, and both edges, for our own crates. Each caller proves what a function requires.
+// One edge of a store with the runs that a test detects, and the answers of both edges, for our own crates. Each caller proves what a function requires.
 ghost use mathlib.Core.Path.{_≡_};
 ghost use mathlib.Core.List.{List};
 ghost use Prim.Native.Nat.{ℕ, _≤_};
-ghost use Rattle.model.specs.Netlist.{Netlist, pathTotal};
-ghost use Rattle.model.specs.Detect.{Test};
-ghost use Rattle.netlist.specs.Tables.{CircuitTables};
+ghost use Rattle.model.specs.Netlist.{pathTotal};
 ghost use Rattle.runs.specs.RunLists.{Sound};
 ghost use Rattle.runs.specs.declared.inner.Added.the-variants.{Count};
 ghost use Rattle.intervals.specs.Edges.{Case, Detects};
 ghost use Rattle.coverage.specs.Covers.{heldRuns, JoinReady, Covers};
-ghost use Rattle.coverage.specs.Both.{joined, CoversBoth};
-ghost use Rattle.coverage.specs.Stage.{PinsOf, WorkReady};
-use faults::Edge;
-use intervals::inner::detected_runs;
+ghost use Rattle.coverage.specs.Both.{joined};
 use model::MAX_RUNS;
-use netlist::inner::Shape;
 use run_union::inner::merging::first_apart;
 use run_union::inner::merging::first_joined;
 use run_union::inner::merging::union;
 use runs::inner::Added;
 use runs::inner::inside;
-use store_words::inner::parts::edge_runs;
 use store_writing::inner::Change;
-use test_records::inner::InputEdges;
 
 // The run places in the words where the union of each edge is made.
 pub const RISING_UNION: usize = 2048;
@@ -104,26 +96,4 @@ pub fn join_answers(rising: EdgeAnswer, falling: EdgeAnswer) -> BothAnswer
             EdgeAnswer::OverStore => BothAnswer::StoreOver,
         },
     }
-}
-
-// Covers both edges of a store: the rising runs are made in the third quarter of the words, the falling ones in the last.
-pub(crate) fn cover_both(
-    netlist: &[u8],
-    positions: &[u16; 512],
-    counts: &[u64; 512],
-    masks: &[u8; 512],
-    edges: InputEdges,
-    shape: Shape,
-    store: &[u64],
-    words: &mut [u64],
-) -> BothAnswer
-    requires { ⌜ WorkReady (now netlist) (now positions) (now counts) (now masks) edges shape (now store) (now words) ⌝ }
-    ensures { λ r. ⌜ ((N : Netlist) (t : Test) → CircuitTables N (now (netlist .entry)) (now (positions .entry)) (now (counts .entry)) shape
-        → PinsOf N t (now (masks .entry)) edges → CoversBoth N t (now (store .entry)) (now (words .entry)) (now (words .exit)) r) ⌝ }
-{
-    let up = detected_runs(netlist, positions, counts, masks, edges.rises, shape, words);
-    let rising = join_edge(up, edge_runs(store, Edge::Rising), words, RISING_UNION);
-    let down = detected_runs(netlist, positions, counts, masks, edges.falls, shape, words);
-    let falling = join_edge(down, edge_runs(store, Edge::Falling), words, FALLING_UNION);
-    join_answers(rising, falling)
 }

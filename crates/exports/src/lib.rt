@@ -42,11 +42,12 @@ pub extern "C" fn genduwal_test(
     work: &mut [u64],
     answer: &mut [u64; 4],
 ) -> u32
-    ensures { λ r. ⌜ Answered (testAnswer (now (netlist .entry)) «test_class» (now (test .entry)) (now (store .entry)) (now (work .entry))) countWords r (now (answer .entry)) (now (answer .exit)) ⌝ }
+    ensures { λ r. ⌜ Answered (testAnswer (now (netlist .entry)) «test_class» (now (test .entry)) (now (store .entry)) (now (work .entry)))
+        countWords r (now (answer .entry)) (now (answer .exit)) ⌝ }
     ensures { λ _. ⌜ now (store .exit) ≡ testStore (now (netlist .entry)) «test_class» (now (test .entry)) (now (store .entry)) (now (work .entry)) ⌝ }
     ensures { λ _. ⌜ WorkAfter (now (netlist .entry)) «test_class» (now (store .entry)) (now (work .entry)) (now (work .exit)) ⌝ }
 {
-    let tested = coverage::apply_test(netlist, test, test_class, store, work);
+    let tested = test_call::apply_test(netlist, test, test_class, store, work);
     answers::test_code(tested, answer)
 }
 

@@ -11,7 +11,7 @@ use lib.ListN.{length, getD, drop}
 use Rattle.model.specs.Base.{refused, value, _>>=_}
 use Rattle.model.specs.Netlist.{Netlist}
 use Rattle.model.specs.Detect.{Class, Test}
-use Rattle.model.specs.Read.{classOf, testOf, recordLength}
+use Rattle.model.specs.Read.{classOf, recordLength}
 use Rattle.model.specs.Refusals.{refusalNumber}
 use Rattle.model.specs.declared.Refusal.{Refusal}
 use Rattle.model.specs.Report.{fileRecords, testAll}
@@ -22,6 +22,7 @@ use Rattle.model.proofs.ReadLaws.{legal, limits}
 use Rattle.test_records.specs.declared.inner.RecordAnswer.{RecordAnswer}
 use Rattle.test_records.specs.declared.inner.RecordAnswer.the-variants as record-answer
 use Rattle.coverage.specs.Stage.{MemoryReady}
+use Rattle.coverage.proofs.StageLaws.{in-class}
 use Rattle.coverage.specs.declared.inner.StageAnswer.{StageAnswer}
 use Rattle.coverage.specs.declared.inner.StageAnswer.the-variants as stage
 use Rattle.block.specs.Block.{BlockOf}
@@ -38,10 +39,6 @@ use Rattle.file_block.specs.declared.inner.FileNumbers.{FileNumbers}
 use Rattle.file_block.proofs.MemoryLaws.{all-memory}
 use Rattle.file_block.proofs.TakenRecordLaws.{takenThen, taken-append, taken-most, taken-all}
 use Rattle.file_block.proofs.BlockFileLaws.{blockRecords, length-block, file-block, block-all, block-taken, rest-refused, rest-untaken}
-
-in-class : (N : Netlist) (c : Class) (rec : List ℕ) → testOf N c rec .class ≡ c
-unfolding testOf
-in-class N c rec = refl
 
 -- a netlist's numbers
 module _ {N : Netlist} {table places : List ℕ} {file : FileNumbers} (t : BlockTables N table places file) where

@@ -13,7 +13,8 @@ use Rattle.packed_pins.specs.Packed.{bitsIn, parityOf, PackedPins}
 use Rattle.packed_pins.proofs.PackedLaws.{all-ones, some-one, odd-ones, single, single-not}
 use Rattle.packed_pins.proofs.KindCases.{few}
 
-pub eighth : (k : ℕ) → 1 ≤ k → k ≤ 8 → (k ≡ 1 → ⊥) → (k ≡ 2 → ⊥) → (k ≡ 3 → ⊥) → (k ≡ 4 → ⊥) → (k ≡ 5 → ⊥) → (k ≡ 6 → ⊥) → (k ≡ 7 → ⊥) → k ≡ 8
+pub eighth : (k : ℕ) → 1 ≤ k → k ≤ 8 → (k ≡ 1 → ⊥) → (k ≡ 2 → ⊥) → (k ≡ 3 → ⊥) → (k ≡ 4 → ⊥)
+    → (k ≡ 5 → ⊥) → (k ≡ 6 → ⊥) → (k ≡ 7 → ⊥) → k ≡ 8
 eighth zero a b n1 n2 n3 n4 n5 n6 n7 = absurd (omega arith)
 eighth (suc zero) a b n1 n2 n3 n4 n5 n6 n7 = absurd (n1 refl)
 eighth (suc (suc zero)) a b n1 n2 n3 n4 n5 n6 n7 = absurd (n2 refl)

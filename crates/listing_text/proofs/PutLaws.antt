@@ -99,7 +99,8 @@ numbered-put out o1 o2 o3 word at d e r n h e1 e2 e3 =
     let p3 : Put o2 o3 e (10 ∷ []) r = put-made o2 o3 e (10 ∷ []) r (omega (arith, e1 .1, e2 .1)) e3 in
     put-then (put-then p1 p2) p3
 
-pub refusal-put : (out out′ : List ℕ) (at r n : ℕ) (w : Refusal) → n ≡ refusalNumber w → Put out out′ at (numbered refusedWord n) r → Put out out′ at (refusedLine (refusalNumber w)) r
+pub refusal-put : (out out′ : List ℕ) (at r n : ℕ) (w : Refusal) → n ≡ refusalNumber w
+    → Put out out′ at (numbered refusedWord n) r → Put out out′ at (refusedLine (refusalNumber w)) r
 unfolding refusedLine refusedText
 refusal-put out out′ at r n w e p = put-as (ap (λ (k : ℕ). numbered refusedWord k) e) p
 

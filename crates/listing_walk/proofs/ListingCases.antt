@@ -142,7 +142,8 @@ module _ {netlist : List ℕ} {t : Loaded} {class full most : ℕ} {work₀ : Li
               ∙ ap₂ (λ (k : ℕ) (s : List ℕ). recordLines N (classOf class) 1 (listedRecords N f) emptyStore ++ others k s) (g .placeIs N e) (g .store N e)
               ∙ lines-more N (classOf class) f piece (length f / recordLength N) whole-is 1 emptyStore
 
-        pub listed-next : {least : ℕ} → full ≤ least → least ≤ n → full % recordBytes ≡ 0 → ListedSoFar netlist t class full most work₀ place′ waiting′ (bytes + n) space′ ws′ work′ out′
+        pub listed-next : {least : ℕ} → full ≤ least → least ≤ n → full % recordBytes ≡ 0
+            → ListedSoFar netlist t class full most work₀ place′ waiting′ (bytes + n) space′ ws′ work′ out′
         listed-next fl ln w = record {
           testFile = f ++ piece;
           read = file-next netlist full most (g .ready .tables .legal) (g .ready .tables .inputsAre) eb near (g .read) n space′ cn cm l (omega (arith, fl, ln)) w;

@@ -57,7 +57,8 @@ runs-add ws i (suc j) k =
     rw (e, d) (ap {B = List Run} (λ t. runAt ws i ∷ t) (runs-add ws (i + 1) j k))
 
 -- the runs lo..hi, cut at mid
-pub runs-cut : (ws : List ℕ) (lo mid hi : ℕ) → lo ≤ mid → mid < hi → runsInWords ws lo (hi - lo) ≡ runsInWords ws lo (mid - lo) ++ runAt ws mid ∷ runsInWords ws (mid + 1) (hi - (mid + 1))
+pub runs-cut : (ws : List ℕ) (lo mid hi : ℕ) → lo ≤ mid → mid < hi
+    → runsInWords ws lo (hi - lo) ≡ runsInWords ws lo (mid - lo) ++ runAt ws mid ∷ runsInWords ws (mid + 1) (hi - (mid + 1))
 runs-cut ws lo mid hi h k =
     let e : hi - lo ≡ (mid - lo) + (hi - mid) = omega arith in
     let d : lo + (mid - lo) ≡ mid = omega arith in

@@ -56,7 +56,8 @@ end-again N c testFile report =
     (λ left. checks (reportRules report (reportRecord (length testFile / recordLength N) (pathTotal N) (runsByEdge left))) >> value left)
 
 -- A refusal at the beginning: there is no file, and nothing is read
-module _ (netlist : List ℕ) (class : ℕ) (ws ws₀ work : List ℕ) (b : Begun) (t : BeginTrue b netlist class ws ws₀ work) (w : Refusal) (q : b .answer ≡ beginning.Refused w) (truth space : List ℕ) where
+module _ (netlist : List ℕ) (class : ℕ) (ws ws₀ work : List ℕ) (b : Begun) (t : BeginTrue b netlist class ws ws₀ work)
+    (w : Refusal) (q : b .answer ≡ beginning.Refused w) (truth space : List ℕ) where
   before-refused : beforeTest netlist class ws work ≡ refused (refusalNumber w)
   unfolding beginAnswer
   before-refused = same-number (beforeTest netlist class ws work) (refusalNumber w) (sym (ap begunOf q) ∙ t .answer)

@@ -42,7 +42,8 @@ pub(crate) fn true_report(
     truth: &mut [u8],
 ) -> Written
     requires { ⌜ ((left : List ℕ) → fileOf (records .answer) (now store) ≡ value left → records .taken < 4294967296) ⌝ }
-    ensures { λ r. ⌜ Wrote r (writerAfter (now (netlist .entry)) (fileOf (records .answer) (now (store .entry))) (records .taken) (now (truth .entry))) (now (truth .entry)) (now (truth .exit)) ⌝ }
+    ensures { λ r. ⌜ Wrote r (writerAfter (now (netlist .entry)) (fileOf (records .answer) (now (store .entry))) (records .taken) (now (truth .entry)))
+        (now (truth .entry)) (now (truth .exit)) ⌝ }
     ensures { λ r. ⌜ Counts (r .length) (now (truth .exit)) ⌝ }
 {
     let answer = records.answer;

@@ -1,9 +1,9 @@
--- `coverage::inner::check_places` meets its contract: the record's rules, then the store's.
+-- `test_call::check_places` meets its contract: the record's rules, then the store's.
 -- Assumes nothing.
-use Rattle.coverage.proofs.StageLaws.{place-test, place-refused, place-sound}
+use Rattle.test_call.proofs.CallPlaceLaws.{place-test, place-refused, place-sound}
 use borrow.Author.Needs.{needs}
-use Rattle.coverage.proofs.inner.check_places.Statement.{statement}
-use Rattle.coverage.proofs.inner.check_places.Tie as tie
+use Rattle.test_call.proofs.check_places.Statement.{statement}
+use Rattle.test_call.proofs.check_places.Tie as tie
 
 check-record-requires : tie.Need-check-record-requires
 check-record-requires c κs = search needs

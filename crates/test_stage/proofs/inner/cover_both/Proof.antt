@@ -1,12 +1,12 @@
--- `coverage::edges::cover_both` meets its contract: the runs made of the rising edge stay while the falling edge is covered.
+-- `test_stage::inner::cover_both` meets its contract: the runs made of the rising edge stay while the falling edge is covered.
 -- Assumes nothing.
 use mathlib.Core.Path.{refl, _∙_}
 use native.Mathlib.Omega.{arith}
 use Rattle.model.specs.Path.{rising, falling}
-use Rattle.coverage.proofs.EdgesLaws.{work-few, some-edge, join-ready, both-covered}
+use Rattle.test_stage.proofs.BothEdgeLaws.{work-few, some-edge, join-ready, both-covered}
 use borrow.Author.Needs.{needs}
-use Rattle.coverage.proofs.edges.cover_both.Statement.{statement}
-use Rattle.coverage.proofs.edges.cover_both.Tie as tie
+use Rattle.test_stage.proofs.inner.cover_both.Statement.{statement}
+use Rattle.test_stage.proofs.inner.cover_both.Tie as tie
 
 detected-runs-requires : tie.Need-detected-runs-requires
 detected-runs-requires c κs = some-edge (c .before .before .before .before .pre) rising refl

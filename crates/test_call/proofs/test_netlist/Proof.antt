@@ -1,10 +1,10 @@
--- `coverage::test_netlist` meets its contract: the netlist, the class and the places Test and Store refuse in this order; then the stage is the call.
+-- `test_call::test_netlist` meets its contract: the netlist, the class and the places Test and Store refuse in this order; then the stage is the call.
 -- Assumes nothing.
 use Rattle.netlist.proofs.LoadCases.{zeros-are}
-use Rattle.coverage.proofs.CallLaws.{call-checks, call-legal, no-netlist, call-refused, call-true}
+use Rattle.test_call.proofs.CallLaws.{call-checks, call-legal, no-netlist, call-refused, call-true}
 use borrow.Author.Needs.{needs}
-use Rattle.coverage.proofs.test_netlist.Statement.{statement}
-use Rattle.coverage.proofs.test_netlist.Tie as tie
+use Rattle.test_call.proofs.test_netlist.Statement.{statement}
+use Rattle.test_call.proofs.test_netlist.Tie as tie
 
 load-requires : tie.Need-load-requires
 load-requires c κs = search (zeros-are, needs)

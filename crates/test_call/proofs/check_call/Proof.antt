@@ -1,9 +1,9 @@
--- `coverage::check_call` meets its contract: the class, then the places Test and Store.
+-- `test_call::check_call` meets its contract: the class, then the places Test and Store.
 -- Assumes nothing.
-use Rattle.coverage.proofs.CallLaws.{class-unknown, class-known}
+use Rattle.test_call.proofs.CallLaws.{class-unknown, class-known}
 use borrow.Author.Needs.{needs}
-use Rattle.coverage.proofs.check_call.Statement.{statement}
-use Rattle.coverage.proofs.check_call.Tie as tie
+use Rattle.test_call.proofs.check_call.Statement.{statement}
+use Rattle.test_call.proofs.check_call.Tie as tie
 
 known-class-requires : tie.Need-known-class-requires
 known-class-requires c κs = search needs

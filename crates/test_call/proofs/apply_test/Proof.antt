@@ -1,9 +1,9 @@
--- `coverage::apply_test` meets its contract: a store or working memory of a wrong length is refused before the netlist is read.
+-- `test_call::apply_test` meets its contract: a store or working memory of a wrong length is refused before the netlist is read.
 -- Assumes nothing.
-use Rattle.coverage.proofs.CallLaws.{no-store, no-work}
+use Rattle.test_call.proofs.CallLaws.{no-store, no-work}
 use borrow.Author.Needs.{needs}
-use Rattle.coverage.proofs.apply_test.Statement.{statement}
-use Rattle.coverage.proofs.apply_test.Tie as tie
+use Rattle.test_call.proofs.apply_test.Statement.{statement}
+use Rattle.test_call.proofs.apply_test.Tie as tie
 
 returns : tie.Need-returns
 returns c = search (no-store, needs)

@@ -1,9 +1,9 @@
--- `coverage::inner::apply_legal` meets its contract: the record's vectors give the open pins and the edges that the place Work takes.
+-- `test_stage::inner::apply_legal` meets its contract: the record's vectors give the open pins and the edges that the place Work takes.
 -- Assumes nothing.
-use Rattle.coverage.proofs.StageLaws.{legal-inputs, legal-length, legal-circuit, legal-work, legal-taken}
+use Rattle.test_stage.proofs.LegalStageLaws.{legal-inputs, legal-length, legal-circuit, legal-work, legal-taken}
 use borrow.Author.Needs.{needs}
-use Rattle.coverage.proofs.inner.apply_legal.Statement.{statement}
-use Rattle.coverage.proofs.inner.apply_legal.Tie as tie
+use Rattle.test_stage.proofs.inner.apply_legal.Statement.{statement}
+use Rattle.test_stage.proofs.inner.apply_legal.Tie as tie
 
 read-vectors-requires : tie.Need-read-vectors-requires
 read-vectors-requires c κs = let ready = c .before .before .before .before .pre in (legal-inputs ready, legal-length ready)

@@ -1,9 +1,9 @@
--- `coverage::inner::work_on` meets its contract: what was made of both edges is written to the store.
+-- `test_stage::inner::work_on` meets its contract: what was made of both edges is written to the store.
 -- Assumes nothing.
-use Rattle.coverage.proofs.WorkLaws.{work-writes, work-written}
+use Rattle.test_stage.proofs.BothEdgeLaws.{work-writes, work-written}
 use borrow.Author.Needs.{needs}
-use Rattle.coverage.proofs.inner.work_on.Statement.{statement}
-use Rattle.coverage.proofs.inner.work_on.Tie as tie
+use Rattle.test_stage.proofs.inner.work_on.Statement.{statement}
+use Rattle.test_stage.proofs.inner.work_on.Tie as tie
 
 cover-both-requires : tie.Need-cover-both-requires
 cover-both-requires c κs = search needs

@@ -25,13 +25,15 @@ use Rattle.netlist.specs.Tables.{CircuitTables}
 use Rattle.netlist.specs.declared.inner.LoadAnswer.{LoadAnswer}
 use Rattle.netlist.specs.declared.inner.LoadAnswer.the-variants as load
 use Rattle.netlist.specs.declared.inner.Shape.{Shape}
-use Rattle.coverage.specs.Stage.{CheckReady, LegalReady, placeRules, checkedOf, storeAfter}
-use Rattle.coverage.specs.TestCall.{returnedBy, TestedIs, TestTrue}
+use Rattle.coverage.specs.Stage.{placeRules, storeAfter}
+use Rattle.test_stage.specs.LegalStage.{LegalReady}
+use Rattle.coverage.specs.TestCall.{returnedBy, TestedIs}
+use Rattle.test_call.specs.TestPromise.{CheckReady, checkedOf, TestTrue}
 use Rattle.coverage.specs.declared.TestAnswer.{TestAnswer}
 use Rattle.coverage.specs.declared.TestAnswer.the-variants.{Refused}
-use Rattle.coverage.specs.declared.inner.Checked.{Checked}
-use Rattle.coverage.specs.declared.inner.Checked.the-variants as checked
+use Rattle.test_call.specs.declared.Checked.{Checked}
+use Rattle.test_call.specs.declared.Checked.the-variants as checked
 use Rattle.coverage.proofs.StageLaws.{stage-refused, passes-test, passes-store}
 
 -- ---- the class, before the places Test and Store
 

@@ -1,0 +1,3 @@
+-- The places Test and Store, then the call.
+pub mod CallPlaceLaws
+pub mod CallLaws

@@ -1,0 +1,2 @@
+-- The test call.
+pub mod TestPromise

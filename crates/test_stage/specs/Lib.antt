@@ -1,0 +1,2 @@
+-- One record at the place Work.
+pub mod LegalStage
