@@ -1,5 +1,5 @@
-//! The unverified twin: the library's calls in plain safe Rust, with the library's own structure. The benchmark compares every answer with it; the
-//! measure of speed is the peer. It shares no code with the proved crates. A refusal is the papers' number.
+//! The unverified twin: the library's calls in plain safe Rust. It goes record by record, as the test call does. The benchmark compares every answer
+//! with it; the measure of speed is the peer. It shares no code with the proved crates. A refusal is the papers' number.
 
 use std::ops::Range;
 

@@ -67,6 +67,27 @@ static void show_totals(void)
     printf("rising %llu falling %llu\n", (unsigned long long)answer[0], (unsigned long long)answer[1]);
 }
 
+/* Coverage by length, a line for each length that is not all zeros: paths for each edge, then faults held for each. Path 3 goes through the OR
+ * alone, and both of its faults are held; paths 1 and 2 go through the AND and the OR, and only the falling fault of path 2 is held. */
+static void show_lengths(void)
+{
+    static uint64_t answer[GENDUWAL_LENGTHS_WORDS];
+    const uint64_t *rising = answer;
+    const uint64_t *falling = answer + 2 * GENDUWAL_LENGTHS;
+    uint32_t code = genduwal_lengths(circuit, sizeof circuit, store, GENDUWAL_STORE_WORDS, answer);
+    if (code != 0) {
+        printf("lengths refused %u\n", (unsigned)code);
+        return;
+    }
+    for (size_t i = 0; i < GENDUWAL_LENGTHS; i++) {
+        const uint64_t *up = rising + GENDUWAL_LENGTHS;
+        const uint64_t *down = falling + GENDUWAL_LENGTHS;
+        if (rising[i] != 0 || falling[i] != 0 || up[i] != 0 || down[i] != 0)
+            printf("length %u paths %llu %llu held %llu %llu\n", (unsigned)i, (unsigned long long)rising[i], (unsigned long long)falling[i],
+                   (unsigned long long)up[i], (unsigned long long)down[i]);
+    }
+}
+
 /* Fault 4 is path 2, falling, which the second test detects. There is no fault 7, since there are three paths: refused 60. */
 static void show_fault(uint64_t fault)
 {
@@ -202,6 +223,7 @@ int main(void)
     for (unsigned place = 0; place < records; place++)
         show_test(place);
     show_totals();
+    show_lengths();
     show_fault(4);
     show_fault(7);
     size_t length = show_report();

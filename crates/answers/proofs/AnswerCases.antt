@@ -1,24 +1,14 @@
--- The code and the answer words of each call, by the cases of its answer.
+-- The code and the answer words of each other call, by the cases of its answer.
 -- Assumes nothing.
 use mathlib.Core.Path.{_≡_, ap}
-use mathlib.Core.Bool.{true, false}
-use mathlib.Core.List.{List, [], _∷_, _++_}
-use Prim.Native.Nat.{ℕ, _+_}
-use native.Mathlib.Omega.{arith}
+use mathlib.Core.List.{List, [], _∷_}
+use Prim.Native.Nat.{ℕ}
 use borrow.Author.Needs.{needs}
-use lib.ListN.{length, length-append}
 use lib.Seq.{sets}
 use Rattle.model.specs.Refusals.{refusalNumber}
 use Rattle.model.specs.declared.Refusal.{Refusal}
 use Rattle.netlist.specs.declared.Surveyed.{Surveyed}
 use Rattle.netlist.specs.declared.SurveyAnswer.the-variants as survey
-use Rattle.store.specs.Answers.{emptyOf, totalsOf, heldOf}
-use Rattle.store.specs.declared.EmptyAnswer.{EmptyAnswer}
-use Rattle.store.specs.declared.EmptyAnswer.the-variants as empty
-use Rattle.store.specs.declared.TotalsAnswer.{TotalsAnswer}
-use Rattle.store.specs.declared.TotalsAnswer.the-variants as totals
-use Rattle.store.specs.declared.HeldAnswer.{HeldAnswer}
-use Rattle.store.specs.declared.HeldAnswer.the-variants as held
 use Rattle.faults.specs.declared.PathNo.{PathNo}
 use Rattle.path_numbers.specs.PathNumbers.{numberAnswer}
 use Rattle.path_numbers.specs.declared.NumberAnswer.{NumberAnswer}
@@ -26,9 +16,6 @@ use Rattle.path_numbers.specs.declared.NumberAnswer.the-variants as number
 use Rattle.paths.specs.Answers.{pathAnswer}
 use Rattle.paths.specs.declared.PathAnswer.{PathAnswer}
 use Rattle.paths.specs.declared.PathAnswer.the-variants as path
-use Rattle.coverage.specs.TestCall.{testedOf}
-use Rattle.coverage.specs.declared.TestAnswer.{TestAnswer}
-use Rattle.coverage.specs.declared.TestAnswer.the-variants as test
 use Rattle.report.specs.Answers.{writtenOf}
 use Rattle.report.specs.declared.WriteAnswer.{WriteAnswer}
 use Rattle.report.specs.declared.WriteAnswer.the-variants as write
@@ -47,19 +34,13 @@ use Rattle.bench_text.specs.declared.BenchAnswer.the-variants as bench
 use Rattle.load.specs.Answers.{loadedOf}
 use Rattle.load.specs.declared.LoadAnswer.{LoadAnswer}
 use Rattle.load.specs.declared.LoadAnswer.the-variants as load
-use Rattle.lengths.specs.declared.LengthRows.{LengthRows}
-use Rattle.lengths.specs.declared.LengthsAnswer.the-variants as lengths
-use Rattle.answers.specs.Codes.{codeAnswer, Answered, surveyIn, surveyedOf, allTaken, surveyWords, edgeWords, countWords, numberWord, boolWord, loadWords}
-use Rattle.answers.specs.Codes.{rowsIn, lengthsIn, lengthsOf, rowWords, lengthWords}
-use Rattle.answers.proofs.CodeLaws.{code-refused, code-zero, answered-refused, answered-value}
-use Rattle.answers.proofs.StoredLaws.{sets-behind}
+use Rattle.answer_words.specs.Codes.{codeAnswer, Answered, surveyWords, numberWord}
+use Rattle.answer_words.proofs.CodeLaws.{code-refused, code-zero, answered-refused, answered-value}
+use Rattle.answers.specs.Answers.{surveyIn, surveyedOf, allTaken, loadWords}
 
 -- ---- Answers that are a code alone
 
 module _ (code : ℕ) (w : Refusal) (q : code ≡ refusalNumber w) where
-  pub empty-refused : (r : EmptyAnswer) → r ≡ empty.Refused w → codeAnswer code ≡ emptyOf r
-  empty-refused r p = rw (q, p) (code-refused w)
-
   pub path-refused : (r : PathAnswer) → r ≡ path.Refused w → codeAnswer code ≡ pathAnswer r
   path-refused r p = rw (q, p) (code-refused w)
 
@@ -68,9 +49,6 @@ module _ (code : ℕ) (w : Refusal) (q : code ≡ refusalNumber w) where
 
   pub begin-refused : (r : BeginAnswer) → r ≡ beginning.Refused w → codeAnswer code ≡ begunOf r
   begin-refused r p = rw (q, p) (code-refused w)
-
-pub empty-done : (r : EmptyAnswer) → r ≡ empty.Emptied → codeAnswer 0 ≡ emptyOf r
-empty-done r p = rw p code-zero
 
 pub path-done : (r : PathAnswer) → r ≡ path.Written → codeAnswer 0 ≡ pathAnswer r
 path-done r p = rw p code-zero
@@ -81,22 +59,13 @@ audit-done r p = rw p code-zero
 pub begin-done : (r : BeginAnswer) → r ≡ beginning.Ready → codeAnswer 0 ≡ begunOf r
 begin-done r p = rw p code-zero
 
-pub ruleset code-cases = (empty-refused, path-refused, audit-refused, begin-refused, empty-done, path-done, audit-done, begin-done, needs)
+pub ruleset code-cases = (path-refused, audit-refused, begin-refused, path-done, audit-done, begin-done, needs)
 
 -- ---- Answers with words: a call that was refused leaves them as they were
 
 module _ (code : ℕ) (w : Refusal) (q : code ≡ refusalNumber w) (found : List ℕ) where
   pub survey-refused : (r : Surveyed) → r .answer ≡ survey.Refused w → Answered (surveyedOf r) surveyWords code found found
   survey-refused r p = answered-refused (surveyedOf r) surveyWords found w code q (ap (λ a. surveyIn a (r .survey)) p)
-
-  pub test-refused : (r : TestAnswer) → r ≡ test.Refused w → Answered (testedOf r) countWords code found found
-  test-refused r p = answered-refused (testedOf r) countWords found w code q (ap testedOf p)
-
-  pub totals-refused : (r : TotalsAnswer) → r ≡ totals.Refused w → Answered (totalsOf r) edgeWords code found found
-  totals-refused r p = answered-refused (totalsOf r) edgeWords found w code q (ap totalsOf p)
-
-  pub held-refused : (r : HeldAnswer) → r ≡ held.Refused w → Answered (heldOf r) boolWord code found found
-  held-refused r p = answered-refused (heldOf r) boolWord found w code q (ap heldOf p)
 
   pub number-refused : (r : NumberAnswer) → r ≡ number.Refused w → Answered (numberAnswer r) numberWord code found found
   number-refused r p = answered-refused (numberAnswer r) numberWord found w code q (ap numberAnswer p)
@@ -116,9 +85,6 @@ module _ (code : ℕ) (w : Refusal) (q : code ≡ refusalNumber w) (found : List
   pub load-refused : (r : LoadAnswer) → r ≡ load.Refused w → Answered (loadedOf r) loadWords code found found
   load-refused r p = answered-refused (loadedOf r) loadWords found w code q (ap loadedOf p)
 
-  pub lengths-refused : (r : LengthRows) → r .answer ≡ lengths.Refused w → Answered (lengthsOf r) lengthWords code found found
-  lengths-refused r p = answered-refused (lengthsOf r) lengthWords found w code q (ap (λ a. lengthsIn a (r .rising) (r .falling)) p)
-
 -- ---- and one that was taken writes them
 
 module _ (found : List ℕ) where
@@ -128,33 +94,10 @@ module _ (found : List ℕ) where
   survey-taken r left p e =
       rw e (answered-value (surveyedOf r) surveyWords found _ (ap (λ a. surveyIn a (r .survey)) p))
 
-  pub test-taken : (r : TestAnswer) (a b c d : ℕ) → r ≡ test.Taken a b c d
-      → Answered (testedOf r) countWords 0 found (sets found 0 (a ∷ b ∷ c ∷ d ∷ []))
-  test-taken r a b c d p = answered-value (testedOf r) countWords found _ (ap testedOf p)
-
-  pub totals-taken : (r : TotalsAnswer) (a b : ℕ) → r ≡ totals.Totals a b → Answered (totalsOf r) edgeWords 0 found (sets found 0 (a ∷ b ∷ []))
-  totals-taken r a b p = answered-value (totalsOf r) edgeWords found _ (ap totalsOf p)
-
   pub load-taken : (r : LoadAnswer) (s n : ℕ) → r ≡ load.Written s n → Answered (loadedOf r) loadWords 0 found (sets found 0 (s ∷ n ∷ []))
   load-taken r s n p = answered-value (loadedOf r) loadWords found _ (ap loadedOf p)
 
-  pub lengths-taken : (r : LengthRows) (first left : List ℕ) → r .answer ≡ lengths.Counted → length (r .rising .paths) ≡ 64 → length (r .rising .held) ≡ 64
-      → first ≡ sets found 0 (r .rising .paths ++ r .rising .held) → left ≡ sets first 128 (r .falling .paths ++ r .falling .held)
-      → Answered (lengthsOf r) lengthWords 0 found left
-  lengths-taken r first left p n m e f =
-      let up : List ℕ = rowWords (rowsIn (r .rising)) in
-      let down : List ℕ = rowWords (rowsIn (r .falling)) in
-      let behind : 128 ≡ length up + 0 = omega (arith, length-append (r .rising .paths) (r .rising .held)) in
-      rw (f, e, sets-behind found 0 up down 128 behind)
-      (answered-value (lengthsOf r) lengthWords found _ (ap (λ a. lengthsIn a (r .rising) (r .falling)) p))
-
 module _ (code : ℕ) (q : code ≡ 0) (found left : List ℕ) where
-  pub held-yes : (r : HeldAnswer) → r ≡ held.Held → left ≡ sets found 0 (numberWord 1) → Answered (heldOf r) boolWord code found left
-  held-yes r p l = rw (q, l) (answered-value (heldOf r) boolWord found true (ap heldOf p))
-
-  pub held-no : (r : HeldAnswer) → r ≡ held.NotHeld → left ≡ sets found 0 (numberWord 0) → Answered (heldOf r) boolWord code found left
-  held-no r p l = rw (q, l) (answered-value (heldOf r) boolWord found false (ap heldOf p))
-
   pub number-taken : (r : NumberAnswer) (n : PathNo) → r ≡ number.Number n → left ≡ sets found 0 (numberWord (n .0)) → Answered (numberAnswer r) numberWord code found left
   number-taken r n p l = rw (q, l) (answered-value (numberAnswer r) numberWord found (n .0) (ap numberAnswer p))
 
@@ -170,12 +113,6 @@ module _ (code : ℕ) (q : code ≡ 0) (found left : List ℕ) where
 
 pub ruleset survey-cases = (survey-refused, survey-taken, needs)
 
-pub ruleset test-cases = (test-refused, test-taken, needs)
-
-pub ruleset totals-cases = (totals-refused, totals-taken, needs)
-
-pub ruleset held-cases = (held-refused, held-yes, held-no, needs)
-
 pub ruleset number-cases = (number-refused, number-taken, needs)
 
 pub ruleset report-cases = (report-refused, report-taken, needs)
@@ -185,5 +122,3 @@ pub ruleset piece-cases = (piece-refused, record-refused, piece-taken, needs)
 pub ruleset bench-cases = (bench-refused, bench-taken, needs)
 
 pub ruleset load-cases = (load-refused, load-taken, needs)
-
-pub ruleset lengths-cases = (lengths-refused, lengths-taken, needs)

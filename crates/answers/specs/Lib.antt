@@ -1,2 +1,2 @@
--- What a C caller finds in the code and in the answer words.
-pub mod Codes
+-- What a survey, a piece and a load answer, as a C caller finds it.
+pub mod Answers

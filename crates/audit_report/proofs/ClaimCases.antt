@@ -1,6 +1,6 @@
 -- What is wrong with claimed numbers, case by case as the code meets them.
 -- Assumes nothing.
-use mathlib.Core.Path.{_≡_, sym}
+use mathlib.Core.Path.{_≡_}
 use mathlib.Core.List.{List}
 use Prim.Native.Nat.{ℕ, _+_, _-_, _^_, _≤_, _<_}
 use native.Mathlib.Omega.{arith}
@@ -8,7 +8,7 @@ use borrow.Author.Needs.{needs}
 use mir.Syntax.{w64}
 use mir.Val.{Fits}
 use Rattle.claim_words.specs.declared.Kind.the-variants as kind
-use Rattle.differences.specs.Differences.{only, Passed, FirstPiece, PieceFrom}
+use Rattle.differences.specs.Differences.{Passed, FirstPiece, PieceFrom}
 use Rattle.differences.specs.declared.inner.walk.Piece.{Piece}
 use Rattle.differences.specs.declared.inner.walk.Piece.the-variants as piece
 use Rattle.differences.proofs.RunCases.{passed-none, passed-later}

@@ -1,6 +1,6 @@
 -- A line judged, case by case: first by the keys in lent words, then of the circuit that they hold.
 -- Assumes nothing.
-use Prim.Native.Nat.{ℕ, _+_, _-_, _*_, _≤_, _<_}
+use Prim.Native.Nat.{ℕ, _+_, _*_, _≤_, _<_}
 use mathlib.Core.Path.{_≡_, refl, ap, ap₂, sym, _∙_, subst}
 use mathlib.Core.Bool.{Bool, true, false, _&&_, not}
 use mathlib.Core.Logic.{⊎-elim}
@@ -25,7 +25,6 @@ use Rattle.bench_lines.specs.declared.inner.keys.NameKey.{NameKey}
 use Rattle.bench_lines.specs.declared.inner.statements.GateParts.{GateParts}
 use Rattle.bench_circuit.specs.declared.inner.judging.NameCounts.{NameCounts}
 use Rattle.bench_circuit.specs.declared.inner.judging.NameAnswer.the-variants as answer
-use Rattle.bench_circuit.specs.declared.inner.judging.LineAnswer.the-variants as lineAnswer
 use Rattle.bench_lines.proofs.NamePlaceLaws.{place-left, place-right}
 use Rattle.bench_lines.proofs.KeyLaws.{place-of, put-holds, named-snoc}
 use Rattle.bench_names.proofs.NameNetLaws.{net-first, net-second}

@@ -18,11 +18,8 @@ use Rattle.bench_circuit.specs.Judging.{NamesHeld, Held, WordsRoom, Held
 use Rattle.bench_circuit.specs.Judging.{LineTrue}
 use Rattle.bench_circuit.specs.Judging.{TextTaken, LineRefused}
 use Rattle.model.specs.declared.Refusal.{Refusal}
-use Rattle.model.specs.declared.Refusal.the-variants as why
 use Rattle.bench_lines.specs.declared.inner.lines.LineEnds.{LineEnds}
-use Rattle.bench_lines.specs.declared.inner.statements.LineStatement.the-variants as stated
 use Rattle.bench_circuit.specs.declared.inner.judging.NameCounts.{NameCounts}
-use Rattle.bench_circuit.specs.declared.inner.judging.NameAnswer.the-variants as answer
 use Rattle.bench_circuit.specs.declared.inner.judging.LineAnswer.{LineAnswer}
 use Rattle.bench_circuit.specs.declared.inner.judging.LineAnswer.the-variants as lineAnswer
 

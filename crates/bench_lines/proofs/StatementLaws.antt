@@ -21,7 +21,6 @@ use Rattle.bench_lines.specs.declared.inner.keys.NameKey.{NameKey}
 use Rattle.bench_lines.specs.declared.inner.tokens.NextToken.{NextToken}
 use Rattle.bench_lines.specs.declared.inner.tokens.NextToken.the-variants as token
 use Rattle.bench_lines.specs.declared.inner.statements.LineStatement.{LineStatement}
-use Rattle.bench_lines.specs.declared.inner.statements.LineStatement.the-variants as stated
 use Rattle.bench_lines.specs.declared.inner.statements.PinRead.{PinRead}
 use Rattle.bench_lines.specs.declared.inner.statements.PinRead.the-variants as pin
 use Rattle.bench_lines.proofs.KeyLaws.{place-of, named-snoc}

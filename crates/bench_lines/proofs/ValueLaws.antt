@@ -5,11 +5,12 @@ use mathlib.Core.Path.{_≡_, ap, sym, _∙_}
 use mathlib.Core.List.{List, [], _∷_}
 use native.Mathlib.Omega.{arith}
 use native.Mathlib.Nat.{pow-succ', one-le-pow}
-use lib.ListN.{length, getD, take, drop, length-drop, drop-of-length-le}
-use lib.Seq.{getD-drop, drop-drop, take-take, take-all, take-add, drop-at, length-take-le}
+use lib.ListN.{length, getD, take, drop, drop-of-length-le}
+use lib.Seq.{getD-drop, drop-drop, take-take, take-all}
 use mir.Val.{Fits}
 use mir.Syntax.{w8, w64}
 use Rattle.model.specs.Base.{fromLittleEndian}
+use Rattle.model.proofs.ListLaws.{take-bytes, drop-take}
 use Rattle.bench_lines.specs.LineReading.{part}
 use Rattle.bench_lines.specs.Keys.{keyLow, keyHigh, keyOf}
 use Rattle.bench_lines.proofs.BytePartLaws.{drop-next, length-part, part-none}
@@ -22,15 +23,9 @@ bytes-below zero (x ∷ xs) h b = absurd (omega arith)
 bytes-below (suc k) (x ∷ xs) h b =
     rw (pow-succ' 256 k) (omega (arith, b 0, bytes-below k xs (omega arith) (λ i. b (suc i))))
 
-take-bytes : (l : List ℕ) → ((j : ℕ) → getD l j 0 < 256) → (n i : ℕ) → getD (take n l) i 0 < 256
-take-bytes l b zero i = omega arith
-take-bytes [] b (suc n) i = omega arith
-take-bytes (x ∷ xs) b (suc n) zero = b 0
-take-bytes (x ∷ xs) b (suc n) (suc i) = take-bytes xs (λ j. b (suc j)) n i
-
 part-bytes : (line : List ℕ) → ((i : ℕ) → Fits w8 (getD line i 0)) → (n at i : ℕ)
     → getD (take n (drop at line)) i 0 < 256
-part-bytes line f n at i = take-bytes (drop at line) (λ j. rw (getD-drop at line j 0) (f (at + j) .fits)) n i
+part-bytes line f n at i = take-bytes n (drop at line) (λ j. rw (getD-drop at line j 0) (f (at + j) .fits)) i
 
 module _ (line : List ℕ) (from to : ℕ) where
   pub record ValueSoFar (at value : ℕ) : Type 0 where
@@ -68,9 +63,6 @@ module _ (line : List ℕ) (from to : ℕ) where
 
 -- ---- a key from its two values
 
-drop-take : (n m : ℕ) (l : List ℕ) → n ≤ length l → drop n (take (n + m) l) ≡ take m (drop n l)
-drop-take n m l h = ap (drop n) (take-add n m l) ∙ drop-at (take n l) (take m (drop n l)) n (length-take-le n l h)
-
 module _ (line : List ℕ) (from to : ℕ) (inside : to ≤ length line) where
   pub key-short : (low : ℕ) → to - from ≤ 8 → low ≡ fromLittleEndian (part from to line)
       → record { low = low; high = 0 } ≡ keyOf (part from to line)
@@ -90,7 +82,7 @@ module _ (line : List ℕ) (from to : ℕ) (inside : to ≤ length line) where
       let a : take (from + 8 - from) (drop from line) ≡ take 8 (part from to line) =
       ap (λ (n : ℕ). take n (drop from line)) m ∙ sym (take-take 8 (to - from) (drop from line) (omega arith)) in
       let b : part (from + 8) to line ≡ drop 8 (part from to line) =
-      ap (take (to - (from + 8))) (sym (drop-drop 8 from line)) ∙ sym (drop-take 8 (to - (from + 8)) (drop from line) (omega (arith, length-drop from line)))
+      ap (take (to - (from + 8))) (sym (drop-drop 8 from line)) ∙ sym (drop-take 8 (to - (from + 8)) (drop from line))
       ∙ ap (λ (n : ℕ). drop 8 (take n (drop from line))) (sym k) in
       let p : low ≡ keyLow (part from to line) = e ∙ ap fromLittleEndian a in
       let q : high ≡ keyHigh (part from to line) = f ∙ ap fromLittleEndian b in

@@ -1,17 +1,16 @@
 -- Every row of the table of texts holds, computed from the definitions.
 -- Assumes nothing.
-use mathlib.Core.Path.{_≡_, ap}
-use mathlib.Core.Bool.{Bool, false, _&&_}
-use mathlib.Core.List.{List, []}
+use mathlib.Core.Path.{_≡_}
+use mathlib.Core.Bool.{Bool, _&&_}
+use mathlib.Core.List.{[]}
 use Prim.Native.Nat.{ℕ, _<_}
 use lib.Dec.{T, eqb, eqb→eq}
 use lib.ListN.{length, getD}
-use Rattle.model.specs.Base.{Answer, refused, value, allOf}
-use Rattle.model.specs.Report.{sameBytes}
+use Rattle.model.specs.Base.{refused, allOf}
 use Rattle.model.specs.Encode.{headerBytes, netBytes, gateBytes, outputBytes}
 use Rattle.model.proofs.BoolLaws.{and-left, and-right}
 use Rattle.model.proofs.ListLaws.{allOf-at}
-use Rattle.model.proofs.AnswerLaws.{same→}
+use Rattle.model.proofs.ExamplesHold.{same, same-answer}
 use Rattle.bench_lines.specs.Text.{withoutReturn, lastLine, linesFrom, linesOf, nameByte, word, wordThen, signThen}
 use Rattle.bench_lines.specs.Text.{tokensFrom}
 use Rattle.bench_lines.specs.Text.{tokensOf, place, isIn, kindNames, ioNames, ending, pinsFrom, gateFrom, ioOf, ioFrom}
@@ -24,19 +23,6 @@ use Rattle.bench_text.specs.Examples.{Row, row, table, inputLines, c17, 
 use Rattle.bench_text.specs.Examples.{emptyBrackets, noPins, smallKind, longName, afterStatement, tab, lastComma}
 use Rattle.bench_text.specs.Examples.{loneReturn, twice, unknown, itself, outputTwice, twoPinNot, lowest}
 use Rattle.bench_text.specs.Examples.{ninePins, firstLine, neverDefined, emptyText, noOutput, manyInputs}
-
-same : Answer (List ℕ) → Answer (List ℕ) → Bool
-same (refused m) (refused n) = eqb m n
-same (refused m) (value ys) = false
-same (value xs) (refused n) = false
-same (value xs) (value ys) = sameBytes xs ys
-
-same-answer : (a b : Answer (List ℕ)) → T (same a b) → a ≡ b
-unfolding same
-same-answer (refused m) (refused n) t = ap refused (eqb→eq m n t)
-same-answer (refused m) (value ys) t = absurd t
-same-answer (value xs) (refused n) t = absurd t
-same-answer (value xs) (value ys) t = ap value (same→ xs ys t)
 
 right : Row → Bool
 right r = same (converted (r .text)) (r .answer) && eqb (refusedLine (r .text)) (r .line)

@@ -1,7 +1,7 @@
 -- The record of a gate written: its pins one after the other, then the whole.
 -- Assumes nothing.
-use Prim.Native.Nat.{ℕ, _+_, _-_, _*_, _%_, _^_, _≤_, _<_}
-use mathlib.Core.Path.{_≡_, refl, ap, ap₂, sym, _∙_, subst}
+use Prim.Native.Nat.{ℕ, _+_, _*_, _%_, _^_, _≤_, _<_}
+use mathlib.Core.Path.{_≡_, refl, ap, ap₂, sym, _∙_}
 use mathlib.Core.Bool.{Bool, true, false}
 use mathlib.Core.List.{List, [], _∷_, _++_, map}
 use native.Mathlib.Omega.{arith}
@@ -17,7 +17,6 @@ use Rattle.bench_lines.specs.Stating.{PinIs}
 use Rattle.bench_names.specs.NameNets.{keyNet}
 use Rattle.bench_text.specs.FileWriting.{PinsThere, PinsPut, GatePut}
 use Rattle.bench_lines.specs.declared.inner.statements.GateParts.{GateParts}
-use Rattle.bench_lines.specs.declared.inner.statements.LineStatement.the-variants as stated
 use Rattle.bench_lines.specs.declared.inner.statements.PinRead.{PinRead}
 use Rattle.bench_lines.specs.declared.inner.statements.PinRead.the-variants as pin
 use Rattle.bench_lines.proofs.KindLaws.{pins-say}

@@ -22,7 +22,6 @@ use Rattle.bench_text.specs.FileWriting.{linesBytes, AllFewPins}
 use Rattle.bench_outputs.specs.OutputWriting.{BytesPut, keyOutputs}
 use Rattle.bench_text.specs.Converting.{FileWritten}
 use Rattle.bench_circuit.specs.Ending.{EndSound, TextSound}
-use Rattle.bench_text.specs.declared.BenchAnswer.the-variants as bench
 use Rattle.bench_circuit.specs.declared.inner.judging.NameCounts.{NameCounts}
 use Rattle.model.proofs.AnswerLaws.{checks→}
 use Rattle.bench_circuit.proofs.CircuitLaws.{GatesFit, legal-empty, LinesLeave, lines-leave}

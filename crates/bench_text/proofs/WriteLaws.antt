@@ -1,6 +1,6 @@
 -- The record of a line's gate written, and those of the lines of a text one after the other.
 -- Assumes nothing.
-use Prim.Native.Nat.{ℕ, _+_, _-_, _*_, _^_, _≤_, _<_}
+use Prim.Native.Nat.{ℕ, _+_, _*_, _^_, _≤_, _<_}
 use mathlib.Core.Path.{_≡_, refl, ap, sym, _∙_, subst}
 use mathlib.Core.List.{List, [], _∷_, _++_, map}
 use native.Mathlib.Omega.{arith}
@@ -21,7 +21,6 @@ use Rattle.bench_lines.specs.declared.inner.lines.LineEnds.{LineEnds}
 use Rattle.bench_lines.specs.declared.inner.statements.GateParts.{GateParts}
 use Rattle.bench_lines.specs.declared.inner.statements.LineStatement.{LineStatement}
 use Rattle.bench_lines.specs.declared.inner.statements.LineStatement.the-variants as stated
-use Rattle.bench_lines.specs.declared.inner.statements.PinRead.the-variants as pin
 use Rattle.bench_lines.proofs.StatementLaws.{stated-as}
 use Rattle.bench_text.proofs.BytesLaws.{length-gate}
 

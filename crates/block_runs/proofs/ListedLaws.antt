@@ -23,7 +23,7 @@ use Rattle.runs.proofs.MemberLaws.{run-path}
 use Rattle.run_union.proofs.Adding.{answer-fits, adds-count}
 use Rattle.intervals.specs.Edges.{Case, detected, working, Detects}
 use Rattle.intervals.specs.Nets.{setRuns, inputRuns, runsBefore, Kept}
-use Rattle.intervals.proofs.AddLaws.{as-adds, adds-kept, full-count}
+use Rattle.place_runs.proofs.AddedLaws.{as-adds, adds-kept, full-count}
 use Rattle.intervals.proofs.StandLaws.{kept-then}
 use Rattle.intervals.proofs.DetectedLaws.{unmade-edge, input-set, few-detected}
 use Rattle.block_runs.specs.Spans.{InputSpans, ListedAt, SomeListedAt, SpansMade}

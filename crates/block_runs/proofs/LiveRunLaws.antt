@@ -22,7 +22,7 @@ use Rattle.runs.specs.RunLists.{onlyIf, addRuns, shiftRuns}
 use Rattle.run_union.proofs.AddRunLaws.{addRuns-append}
 use Rattle.intervals.specs.Edges.{Case}
 use Rattle.intervals.specs.Nets.{setRuns}
-use Rattle.intervals.specs.PlaceRuns.{Places, pathsBefore, placeRuns, firstRuns}
+use Rattle.place_runs.specs.RunsOfPlaces.{Places, pathsBefore, placeRuns, firstRuns}
 use Rattle.intervals.proofs.DetectedLaws.{gate-set, pins-all}
 use Rattle.block.specs.Block.{liveNet, activePin}
 use Rattle.block.specs.Lists.{packBits, gateEntry}

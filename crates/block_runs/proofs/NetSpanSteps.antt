@@ -20,7 +20,7 @@ use Rattle.model.proofs.ReadLaws.{limits}
 use Rattle.runs.specs.declared.inner.Added.the-variants.{Count, Full}
 use Rattle.intervals.specs.Edges.{Case}
 use Rattle.intervals.specs.Nets.{setRuns, runsBefore, Kept}
-use Rattle.intervals.proofs.AddLaws.{full-count}
+use Rattle.place_runs.proofs.AddedLaws.{full-count}
 use Rattle.intervals.proofs.DetectedLaws.{set-sound, working-all}
 use Rattle.intervals.proofs.StandLaws.{runs-next, runs-mono, kept-refl, kept-then}
 use Rattle.block.specs.Block.{liveNet}

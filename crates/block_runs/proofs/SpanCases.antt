@@ -22,7 +22,7 @@ use Rattle.run_union.proofs.Adding.{answer-over, adds-count}
 use Rattle.run_union.proofs.RunWriteLaws.{runs-write-before}
 use Rattle.run_union.proofs.ShiftLaws.{shiftRuns-sound, length-shift}
 use Rattle.intervals.specs.Nets.{Kept}
-use Rattle.intervals.proofs.AddLaws.{take-short}
+use Rattle.place_runs.proofs.AddedLaws.{take-short}
 use Rattle.intervals.proofs.StandLaws.{kept-refl, kept-write}
 use Rattle.block.proofs.LowBitLaws.{low-there}
 use Rattle.block_runs.specs.Spans.{firstOf, endOf, shiftOf, standing}

@@ -26,7 +26,7 @@ use Rattle.store_writing.specs.Writing.{changed, Within}
 use Rattle.store_writing.specs.declared.inner.Change.{Change}
 use Rattle.store_writing.specs.declared.inner.Change.the-variants.{Made}
 use Rattle.intervals.specs.Edges.{Case, Detects}
-use Rattle.intervals.proofs.AddLaws.{as-adds, adds-kept}
+use Rattle.place_runs.proofs.AddedLaws.{as-adds, adds-kept}
 use Rattle.coverage.specs.Covers.{thenRuns, heldRuns, JoinReady, Covers}
 use Rattle.coverage.specs.declared.edges.EdgeAnswer.the-variants.{Covered, OverStore}
 use Rattle.coverage.proofs.CoverLaws.{runs-drop, found-is, found-apart, then-is, rules-store, rules-fit}

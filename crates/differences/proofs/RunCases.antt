@@ -1,16 +1,14 @@
 -- Numbers in ascending runs, and the places of runs in bytes: what stands at a place, what the runs before it hold, and whether they ascend.
 -- Assumes nothing.
-use mathlib.Core.Path.{_≡_, refl, ap, ap₂, _∙_, subst}
-use mathlib.Core.Bool.{Bool, true, false, _&&_, and-false}
-use mathlib.Core.List.{List, [], _∷_, _++_}
+use mathlib.Core.Path.{_≡_, refl, ap, _∙_, subst}
+use mathlib.Core.Bool.{true, false, and-false}
+use mathlib.Core.List.{List, [], _∷_}
 use Prim.Native.Nat.{ℕ, zero, suc, _+_, _*_, _/_, _≤_, _<_}
 use native.Mathlib.Omega.{arith}
-use native.Mathlib.Numerals.{add-one}
 use borrow.Author.Tests.{le-leb, lt-leb}
 use lib.Dec.{leb}
-use lib.ListN.{length, take, drop, drop-of-length-le}
-use lib.Seq.{drop-drop}
-use Rattle.model.specs.Base.{field, fromLittleEndian}
+use lib.ListN.{length, drop, drop-of-length-le}
+use Rattle.model.specs.Base.{field}
 use Rattle.model.specs.Runs.{Run, inRuns}
 use Rattle.report_runs.specs.ReportRuns.{runsOfBytes, Ascends}
 use Rattle.report_runs.proofs.RunByteLaws.{run, runAt, run-at, run-count}
@@ -82,14 +80,11 @@ reached-run bs i n high e h p = (p, λ l. omega (arith, e))
 pub reached-end : (bs : List ℕ) (i n : ℕ) → length bs / 16 ≤ i → Passed bs i n → Reached bs i n
 reached-end bs i n h p = (p, λ l. absurd (omega arith))
 
-drop-all : (i : ℕ) (rs : List Run) → length rs ≤ i → drop i rs ≡ []
-drop-all i rs h = drop-of-length-le rs {i = i} h
-
 -- Where a number stands, by the run at a place that it has reached
 module _ (bs : List ℕ) (i n : ℕ) (s : Reached bs i n) where
   pub past-all : length bs / 16 ≤ i → Stands standing.Past n (runsOfBytes bs)
   past-all h =
-      let none : drop i (runsOfBytes bs) ≡ [] = drop-all i (runsOfBytes bs) (omega (arith, run-count bs)) in
+      let none : drop i (runsOfBytes bs) ≡ [] = drop-of-length-le (runsOfBytes bs) {i = i} (omega (arith, run-count bs)) in
       λ k a. s .0 .2 k a ∙ ap (λ (rs : List Run). inRuns rs k) none ∙ in-none k
 
   module _ (h : i < length bs / 16) (low : ℕ) (e : low ≡ field (16 * i) 8 bs) where

@@ -1,7 +1,7 @@
 -- Whether a number is in the runs of `a` only, from where it stands among both; then from step to step.
 -- Assumes nothing.
 use mathlib.Core.Path.{_≡_, refl, subst}
-use mathlib.Core.Bool.{Bool, true, false, _&&_, and-false}
+use mathlib.Core.Bool.{true, false, and-false}
 use mathlib.Core.List.{List}
 use mathlib.Core.Logic.{⊎-elim}
 use Prim.Native.Nat.{ℕ, _+_, _-_, _≤_, _<_}
@@ -9,7 +9,7 @@ use native.Mathlib.Omega.{arith}
 use Rattle.model.specs.Runs.{inRuns}
 use Rattle.model.proofs.BoolLaws.{le-or-lt}
 use Rattle.report_runs.specs.ReportRuns.{runsOfBytes}
-use Rattle.differences.specs.Differences.{only, Stands, Steps, FirstOnly, LastOnly, FirstPiece}
+use Rattle.differences.specs.Differences.{only, Stands, Steps, FirstOnly, LastOnly}
 use Rattle.differences.specs.Differences.{FirstFrom, PieceFrom}
 use Rattle.differences.specs.declared.inner.walk.Standing.{Standing}
 use Rattle.differences.specs.declared.inner.walk.Standing.the-variants as standing
@@ -18,7 +18,6 @@ use Rattle.differences.specs.declared.inner.walk.Step.the-variants as st
 use Rattle.differences.specs.declared.inner.walk.First.{First}
 use Rattle.differences.specs.declared.inner.walk.First.the-variants as first
 use Rattle.differences.specs.declared.inner.walk.Piece.{Piece}
-use Rattle.differences.specs.declared.inner.walk.Piece.the-variants as piece
 
 module _ (a b : List ℕ) (k : ℕ) where
   in-a-only : inRuns (runsOfBytes a) k ≡ true → inRuns (runsOfBytes b) k ≡ false → only a b k ≡ true
@@ -147,9 +146,3 @@ module _ (i j : ℕ) (a b : List ℕ) (from : ℕ) where
 
   pub piece-as : (x y : Piece) → PieceFrom x i j a b from → x ≡ y → PieceFrom y i j a b from
   piece-as x y s e = subst (λ (z : Piece). PieceFrom z i j a b from) e s
-
-  -- a stretch ends where it was looked for, or later
-  pub ends-ahead : (x : Piece) (low high : ℕ) → PieceFrom x i j a b from → x ≡ piece.Stretch low high → from ≤ high
-  ends-ahead x low high s e =
-      let t : FirstPiece (piece.Stretch low high) a b from = piece-as x (piece.Stretch low high) s e .0 in
-      omega (arith, t .0, t .2 .0)

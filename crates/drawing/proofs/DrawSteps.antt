@@ -125,9 +125,9 @@ none-left : (s : ℕ) → wordOf (drawn 0 s) ≡ 0
 unfolding wordOf drawn
 none-left s = refl
 
-at-end : (s : ℕ) → stateAfter 0 s ≡ s
+pub no-steps : (s : ℕ) → stateAfter 0 s ≡ s
 unfolding stateAfter
-at-end s = refl
+no-steps s = refl
 
 module _ (inputs state vector last input : ℕ) (d : Drawing inputs state vector last input) (h : inputs ≤ input) where
   pub draw-last : DrawnTrue (record { vector = vector; state = last }) inputs state
@@ -136,6 +136,6 @@ module _ (inputs state vector last input : ℕ) (d : Drawing inputs state vector
       let e : wordOf (drawn (inputs - input) last) ≡ 0 = ap (λ k. wordOf (drawn k last)) n ∙ none-left last in
       let w = d .whole in
       let z : wordOf (drawn (inputs - input) last) * 2 ^ input ≡ 0 * 2 ^ input = ap (λ k. k * 2 ^ input) e in
-      record { vectorIs = omega arith; stateIs = sym (at-end last) ∙ ap (λ k. stateAfter k last) (sym n) ∙ d .steps }
+      record { vectorIs = omega arith; stateIs = sym (no-steps last) ∙ ap (λ k. stateAfter k last) (sym n) ∙ d .steps }
 
 pub ruleset draw-cases = (draw-first, draw-fits, draw-next, draw-last, needs)

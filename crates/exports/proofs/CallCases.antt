@@ -24,8 +24,10 @@ use Rattle.lengths.specs.declared.EdgeRows.{EdgeRows}
 use Rattle.lengths.specs.declared.LengthRows.{LengthRows}
 use Rattle.lengths.specs.declared.LengthsAnswer.{LengthsAnswer}
 use Rattle.lengths.specs.declared.LengthsAnswer.the-variants as lengths
-use Rattle.answers.specs.Codes.{codeAnswer, Answered, surveyIn, surveyedOf, lengthsIn, lengthsOf}
-use Rattle.answers.proofs.CodeLaws.{code-zero}
+use Rattle.answer_words.specs.Codes.{codeAnswer, Answered}
+use Rattle.answer_words.proofs.CodeLaws.{code-zero}
+use Rattle.store_answers.specs.Answers.{lengthsIn, lengthsOf}
+use Rattle.answers.specs.Answers.{surveyIn, surveyedOf}
 use Rattle.exports.proofs.NumberedLaws.{code-numbered, end-numbered}
 
 -- code and words of an answer that is the call's

@@ -18,7 +18,7 @@ use Rattle.model.proofs.AnswerLaws.{not-refused}
 use Rattle.model.proofs.BoolLaws.{and-left, and-right}
 use Rattle.file_judging.specs.FileJudging.{wholeLength, endBy, storeChecked, soFar, endLegal}
 use Rattle.pieces.specs.Calls.{endStage, endCall, endAnswer}
-use Rattle.answers.specs.Codes.{codeAnswer}
+use Rattle.answer_words.specs.Codes.{codeAnswer}
 
 -- a refusal has another number than 0
 abbrev pub Numbered : {A : Type 0} → Answer A → Type 0

@@ -4,11 +4,11 @@ ghost use Rattle.model.specs.Calls.{surveyCall, emptyCall, emptiedStore, totals
 ghost use Rattle.model.specs.Report.{writerAnswer, writerBuffer, auditAnswer, auditStore};
 ghost use Rattle.piece_steps.specs.Steps.{beginAnswer, beginStore};
 ghost use Rattle.load.specs.Calls.{loadAnswer, loadBuffer};
-ghost use Rattle.length_rows.specs.Lengths.{lengthsCall};
+ghost use Rattle.length_rows.specs.Lengths.{lengthWords, lengthsCall};
 ghost use Rattle.pieces.specs.Calls.{pieceAnswer, pieceLeft, PieceWork, endAnswer, endStore};
 ghost use Rattle.bench_text.specs.Calls.{convertAnswer, convertBuffer};
-ghost use Rattle.answers.specs.Codes.{codeAnswer, Answered, allTaken, surveyWords, edgeWords, countWords, numberWord, boolWord};
-ghost use Rattle.answers.specs.Codes.{loadWords, lengthWords};
+ghost use Rattle.answer_words.specs.Codes.{codeAnswer, Answered, surveyWords, edgeWords, countWords, numberWord, boolWord};
+ghost use Rattle.answers.specs.Answers.{allTaken, loadWords};
 use faults::FaultNo;
 use faults::PathNo;
 use file_judging::EndAnswer;
@@ -29,7 +29,7 @@ pub extern "C" fn genduwal_empty(store: &mut [u64]) -> u32
     ensures { λ _. ⌜ now (store .exit) ≡ emptiedStore (now (store .entry)) ⌝ }
 {
     let emptied = store::empty(store);
-    answers::empty_code(emptied)
+    store_answers::empty_code(emptied)
 }
 
 // The test call, judged in class 1 (non-robust) or 2 (robust): for each edge the number of faults new to the store, then for each edge the number then held.
@@ -48,7 +48,7 @@ pub extern "C" fn genduwal_test(
     ensures { λ _. ⌜ WorkAfter (now (netlist .entry)) «test_class» (now (store .entry)) (now (work .entry)) (now (work .exit)) ⌝ }
 {
     let tested = test_call::apply_test(netlist, test, test_class, store, work);
-    answers::test_code(tested, answer)
+    store_answers::test_code(tested, answer)
 }
 
 // The number of rising, then of falling faults that a store holds.
@@ -57,7 +57,7 @@ pub extern "C" fn genduwal_totals(netlist: &[u8], store: &[u64], answer: &mut [u
     ensures { λ r. ⌜ Answered (totalsCall (now (netlist .entry)) (now (store .entry))) edgeWords r (now (answer .entry)) (now (answer .exit)) ⌝ }
 {
     let totals = store::totals(netlist, store);
-    answers::totals_code(totals, answer)
+    store_answers::totals_code(totals, answer)
 }
 
 // Coverage by length: for rising the number of paths of each length of 0 to 63 gates, then of their faults that a store holds; the same for falling.
@@ -66,7 +66,7 @@ pub extern "C" fn genduwal_lengths(netlist: &[u8], store: &[u64], answer: &mut [
     ensures { λ r. ⌜ Answered (lengthsCall (now (netlist .entry)) (now (store .entry))) lengthWords r (now (answer .entry)) (now (answer .exit)) ⌝ }
 {
     let rows = lengths::coverage_by_length(netlist, store);
-    answers::lengths_code(rows, answer)
+    store_answers::lengths_code(rows, answer)
 }
 
 // Whether a store holds a fault: 1 if it does, else 0.
@@ -80,7 +80,7 @@ pub extern "C" fn genduwal_holds(
     ensures { λ r. ⌜ Answered (faultCall (now (netlist .entry)) (now (store .entry)) fault) boolWord r (now (answer .entry)) (now (answer .exit)) ⌝ }
 {
     let held = store::fault_in_store(netlist, store, FaultNo(fault));
-    answers::held_code(held, answer)
+    store_answers::held_code(held, answer)
 }
 
 // The number of the path in the words.

@@ -8,7 +8,7 @@ use native.Mathlib.Numerals.{add-one}
 use native.Mathlib.Omega.{arith}
 use lib.ListN.{length, take, drop, length-drop, length-map}
 use lib.Seq.{drop-drop}
-use Rattle.model.specs.Base.{Answer, refused, value, _>>=_, _>>_, checks, numbersFrom}
+use Rattle.model.specs.Base.{Answer, refused, value, _>>=_, checks, numbersFrom}
 use Rattle.model.specs.Netlist.{Netlist, pathTotal}
 use Rattle.model.specs.Detect.{Class}
 use Rattle.model.specs.Read.{testRules, recordLength}

@@ -64,39 +64,39 @@ module _ {table places : List ℕ} {file : FileNumbers} {ups downs ws work : Lis
   block-few = few-inputs (s .tables)
 
   module _ {part vectors : List ℕ} {n : ℕ} {after : RecordAnswer} (read : (N : Netlist) → N .inputs ≡ file .inputs → BlockRead N part vectors n after) where
-    abbrev batch : Batch
+    abbrev pub batch : Batch
     batch = record { inputs = file .inputs; nets = file .nets; outputs = file .outputs; records = n; class = file .class }
 
     abbrev c : Class
     c = classOf (file .class)
 
-    read-of : (N : Netlist) → BlockTables N table places file → BlockRead N part vectors n after
+    pub read-of : (N : Netlist) → BlockTables N table places file → BlockRead N part vectors n after
     read-of N t = read N (sym (t .circuit .inputsAre))
 
-    few : n ≤ 64
-    few = read-of (s .netlist) (s .tables) .few
+    pub block-records : n ≤ 64
+    block-records = read-of (s .netlist) (s .tables) .few
 
     pub block-tables : BatchTables table places batch
     block-tables = record {
       circuit = record { circuit = s .netlist; isIn = s .tables .circuit };
       fewOutputs = few-outputs (s .tables);
-      fewRecords = few;
+      fewRecords = block-records;
       outNets = out-net (s .tables);
     }
 
     module _ {ups′ downs′ marks : List ℕ} (filled : (N : Netlist) (tests : ℕ → Test) → CircuitTable N table (file .inputs) (file .nets) → PlaceTable N places
         → length (N .outputs) ≡ file .outputs → BlockOf tests (classOf (file .class)) n → VectorsOf N tests n vectors → MarksTrue N tests n ups′ downs′ marks)
         {work₁ : List ℕ} (lent : WorkKept work work₁) where
-      block-at : (N : Netlist) → BlockTables N table places file → BlockAt N (testAt N c part) table places ups′ downs′ marks batch
+      pub block-at : (N : Netlist) → BlockTables N table places file → BlockAt N (testAt N c part) table places ups′ downs′ marks batch
       block-at N t = record {
-        few = few;
+        few = block-records;
         circuit = t .circuit;
         placed = t .placed;
         marked = filled N (testAt N c part) (t .circuit) (t .placed) (t .outputsAre)
-            (record { few = few; inClass = λ i h. in-class N c _ }) (read-of N t .vectorsAre c);
+            (record { few = block-records; inClass = λ i h. in-class N c _ }) (read-of N t .vectorsAre c);
       }
 
-      still-ready : (N : Netlist) → MemoryReady N ws work → MemoryReady N ws work₁
+      pub still-ready : (N : Netlist) → MemoryReady N ws work → MemoryReady N ws work₁
       still-ready N m = record { storeLength = m .storeLength; sound = m .sound; workLength = omega (arith, m .workLength, lent .sameLength) }
 
       pub block-ready : BlockReady table places ups′ downs′ marks batch ws work₁
@@ -188,7 +188,7 @@ module _ {table places : List ℕ} {file : FileNumbers} {ups downs ws work : Lis
         done : {x : TakenRecords} → x .taken ≤ n → ((N : Netlist) → BlockTables N table places file → MemoryReady N ws work → BlockTrue x N c part ws ws′ work′)
             → BlockDone x table places file part ups ups′ downs downs′ ws ws′ work work′
         done h f = record {
-          few = omega (arith, few);
+          few = omega (arith, block-records);
           storeLength = kept .storeLength ∙ sym (s .memory .storeLength);
           kept = record {
             sameUps = sameUps;

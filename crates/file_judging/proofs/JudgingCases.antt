@@ -26,14 +26,14 @@ use Rattle.report.specs.declared.inner.Comparison.the-variants as comparison
 use Rattle.file_block.specs.RecordsTaken.{leftStore}
 use Rattle.file_block.proofs.MemoryLaws.{emptied}
 use Rattle.file_judging.specs.declared.AuditAnswer.the-variants as audit
-use Rattle.file_judging.specs.FileJudging.{wholeLength, Judged, endBy, storeChecked, soFar, endLegal}
+use Rattle.file_judging.specs.FileJudging.{mostRecords, wholeLength, Judged, endBy, storeChecked, soFar, endLegal}
 
 -- The file's length: a cut record decides, or the number of records does
 module _ (total each : ℕ) where
   pub length-cut : (total % each ≡ 0 → ⊥) → eqb (total % each) 0 ≡ wholeLength each total
   length-cut d = rw (ne-eqb (total % each) 0 d) refl
 
-  pub length-whole : total % each ≡ 0 → leb (total / each) 4294967295 ≡ wholeLength each total
+  pub length-whole : total % each ≡ 0 → leb (total / each) mostRecords ≡ wholeLength each total
   length-whole e = rw (eq-eqb (total % each) 0 e) refl
 
 pub ruleset length-cases = (length-cut, length-whole, needs)

@@ -20,9 +20,13 @@ abbrev pub auditedOf : AuditAnswer → Answer (Unit {0})
 auditedOf audit.Accepted = value tt
 auditedOf (audit.Refused w) = refused (refusalNumber w)
 
--- a file of `total` bytes is a whole number of records, of `each` bytes, and not over 4,294,967,295 of them
+-- the most records that a test file may have: a report's field holds no greater number
+abbrev pub mostRecords : ℕ
+mostRecords = 4294967295
+
+-- a file of `total` bytes is a whole number of records, of `each` bytes, and not over `mostRecords` of them
 abbrev pub wholeLength : ℕ → ℕ → Bool
-wholeLength each total = eqb (total % each) 0 && leb (total / each) 4294967295
+wholeLength each total = eqb (total % each) 0 && leb (total / each) mostRecords
 
 -- The place Report, with the store that the test calls leave: the number of a refusal, or that store
 abbrev pub reported : ℕ → ℕ → List ℕ → List ℕ → Answer (List ℕ)

@@ -9,7 +9,7 @@ use native.Mathlib.Omega.{arith}
 use borrow.Author.Needs.{needs}
 use lib.ListN.{length, take, length-append}
 use lib.Seq.{length-take-le}
-use Rattle.model.specs.Base.{Answer, value}
+use Rattle.model.specs.Base.{value}
 use Rattle.model.specs.Netlist.{Netlist}
 use Rattle.model.specs.Read.{vectorBytes, recordLength, readNetlist}
 use Rattle.model.proofs.AnswerLaws.{value-inj}

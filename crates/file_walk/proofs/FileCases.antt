@@ -6,22 +6,20 @@ use mathlib.Core.List.{List}
 use Prim.Native.Nat.{ℕ, _+_, _*_, _≤_}
 use borrow.Author.Needs.{needs}
 use lib.ListN.{length, replicate}
-use Rattle.model.specs.Base.{Answer, refused, value}
+use Rattle.model.specs.Base.{refused, value}
 use Rattle.model.specs.Netlist.{Netlist}
 use Rattle.model.specs.Detect.{Class}
 use Rattle.model.specs.Read.{vectorBytes, recordLength, readNetlist, classOf}
-use Rattle.model.specs.Refusals.{refusalNumber}
 use Rattle.model.specs.Store.{emptyStore}
 use Rattle.model.specs.Report.{wholeRecords}
 use Rattle.model.specs.declared.Refusal.the-variants as why
 use Rattle.model.proofs.AnswerLaws.{value-inj}
 use Rattle.netlist.specs.declared.inner.Loaded.{Loaded}
 use Rattle.coverage.specs.Stage.{MemoryReady}
-use Rattle.file_block.specs.RecordsTaken.{fileOf, leftStore}
+use Rattle.file_block.specs.RecordsTaken.{leftStore}
 use Rattle.file_judging.specs.FileJudging.{wholeLength}
 use Rattle.coverage.specs.declared.inner.StageAnswer.the-variants as stage
 use Rattle.file_block.proofs.MemoryLaws.{emptied, empty-memory}
-use Rattle.file_records.specs.FileRecords.{Ready}
 use Rattle.file_records.proofs.ReadyLaws.{ready-inputs}
 use Rattle.file_walk.specs.declared.inner.Walk.{Walk}
 use Rattle.file_walk.specs.Walked.{recordsTaken, fileTaken, Walked}

@@ -9,13 +9,13 @@ use native.Mathlib.Omega.{arith}
 use borrow.Author.Needs.{needs}
 use lib.ListN.{length, take, drop}
 use lib.Seq.{length-take-le}
-use Rattle.model.specs.Base.{Answer, refused, value}
+use Rattle.model.specs.Base.{Answer, value}
 use Rattle.model.specs.Netlist.{Netlist}
 use Rattle.model.specs.Detect.{Class}
 use Rattle.model.specs.Read.{vectorBytes, readNetlist, classOf}
 use Rattle.model.specs.Store.{emptyStore}
 use Rattle.model.specs.Calls.{workWords}
-use Rattle.model.specs.Report.{fileRecords, testAll}
+use Rattle.model.specs.Report.{fileRecords}
 use Rattle.netlist.specs.declared.inner.Loaded.{Loaded}
 use Rattle.file_block.specs.RecordsTaken.{fileOf, leftStore, takenOf}
 use Rattle.coverage.specs.declared.inner.StageAnswer.{StageAnswer}
@@ -27,7 +27,7 @@ use Rattle.pieces.specs.Together.{noRecords}
 use Rattle.file_records.proofs.ReadyLaws.{ready-inputs}
 use Rattle.piece_steps.proofs.JoinedPieceLaws.{no-bytes, piece-then}
 use Rattle.pieces.proofs.TakenLaws.{taken-none, taken-both}
-use Rattle.file_walk.specs.Walked.{recordsTaken, Walked}
+use Rattle.file_walk.specs.Walked.{mostBytes, recordsTaken, Walked}
 use Rattle.file_reading.proofs.ReadPieceLaws.{FileSoFar, file-start, file-more, file-over, file-next, file-last}
 
 -- the store after a piece, by the state before it
@@ -78,7 +78,7 @@ module _ (netlist : List ℕ) (loaded : Loaded) (class : ℕ) (full most : ℕ) 
     abbrev f : List ℕ
     f = g .testFile
 
-    pub reading-over : 77309411310 < bytes → (b : Bool) → Walked recordsTaken (record { bytes = bytes; records = records; whole = b }) netlist loaded class space ws work₀ work
+    pub reading-over : mostBytes < bytes → (b : Bool) → Walked recordsTaken (record { bytes = bytes; records = records; whole = b }) netlist loaded class space ws work₀ work
     reading-over h b = record {
       testFile = f;
       bytesAre = g .read .bytesAre;

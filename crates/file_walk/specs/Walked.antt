@@ -3,7 +3,7 @@
 -- Assumes nothing.
 use mathlib.Core.Path.{_≡_}
 use mathlib.Core.List.{List, [], _∷_}
-use Prim.Native.Nat.{ℕ}
+use Prim.Native.Nat.{ℕ, _*_}
 use lib.ListN.{length, drop}
 use Rattle.model.specs.Base.{Answer, value, _>>_, checks}
 use Rattle.model.specs.Netlist.{Netlist}
@@ -15,8 +15,13 @@ use Rattle.model.specs.Report.{fileRecords, wholeRecords, testAll}
 use Rattle.netlist.specs.declared.inner.Loaded.{Loaded}
 use Rattle.file_block.specs.RecordsTaken.{fileOf, leftStore, takenOf}
 use Rattle.file_records.specs.FileRecords.{Ready}
+use Rattle.file_judging.specs.FileJudging.{mostRecords}
 use Rattle.file_reading.specs.Space.{InSpace}
 use Rattle.file_walk.specs.declared.inner.Walk.{Walk}
+
+-- a file of more bytes has too many records: the longest record has 18
+abbrev pub mostBytes : ℕ
+mostBytes = 18 * mostRecords
 
 -- the test calls with the records of a file, all in one class, from an empty store
 unfoldable pub recordsTaken : Netlist → Class → List ℕ → Answer (List ℕ)

@@ -6,13 +6,12 @@ use mathlib.Core.Path.{_≡_, refl, sym, ap, _∙_, subst}
 use mathlib.Core.Bool.{Bool, true, false, cond}
 use mathlib.Core.List.{List, [], _∷_, map}
 use mathlib.Core.Logic.{inl}
-use native.Mathlib.Nat.{div-eq-of-lt}
 use native.Mathlib.Omega.{arith}
 use borrow.Author.Tests.{le-leb, lt-leb}
 use lib.Dec.{T, leb, ltb, leb→le}
 use lib.ListN.{length, getD}
-use lib.Pow.{pow-pos}
 use Rattle.model.specs.Base.{bit, sumOf, numbersFrom}
+use Rattle.records.proofs.BitLaws.{zero-bit}
 use Rattle.model.specs.Netlist.{Netlist, nets, counts, pinsOf, pinNet, pinCounts, pathTotal, outputCount, outputCounts, outputNet}
 use Rattle.model.specs.Path.{countsBefore}
 use Rattle.model.specs.Detect.{openPin, hasEdge, inNetSet, detectsNumber}
@@ -202,13 +201,10 @@ module _ (K : Case) where
           no-length [] h = refl
           no-length (r ∷ s) h = absurd (omega arith)
 
-no-bit : (j : ℕ) → bit 0 j ≡ false
-no-bit j = rw (div-eq-of-lt {n = 0} {m = 2 ^ j} (pow-pos j)) refl
-
 -- from the bits of the inputs that make the edge
 pub unmade-edge : (K : Case) → WellFormed (K .netlist) → {edges : ℕ} → edges ≡ 0 → ((j : ℕ) → j < K .netlist .inputs → bit edges j ≡ hasEdge (K .test) (K .edge) j)
     → (ws : List ℕ) → Detects K ws ws (Count 0)
-unmade-edge K w z made ws = quiet K w (λ j l. sym (made j l) ∙ ap (λ (k : ℕ). bit k j) z ∙ no-bit j) ws
+unmade-edge K w z made ws = quiet K w (λ j l. sym (made j l) ∙ ap (λ (k : ℕ). bit k j) z ∙ zero-bit j) ws
 
 pub no-edge : {K : Case} {file positions pathCounts masks : List ℕ} {edges : ℕ} {shape : Shape} {ws : List ℕ} → edges ≡ 0
     → EdgeAt K file positions pathCounts masks edges shape ws → Detects K ws ws (Count 0)

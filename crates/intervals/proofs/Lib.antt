@@ -1,4 +1,3 @@
-pub mod AddLaws
 pub mod PlaceRunLaws
 pub mod OpenRunLaws
 pub mod StandLaws

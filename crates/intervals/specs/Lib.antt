@@ -1,4 +1,3 @@
-pub mod PlaceRuns
 pub mod OpenRuns
 pub mod Edges
 pub mod Nets

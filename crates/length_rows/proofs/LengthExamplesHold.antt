@@ -15,13 +15,13 @@ use Rattle.model.specs.Examples.{chain, withOutputs, outputsBytes}
 use Rattle.model.proofs.ListLaws.{allOf-at}
 use Rattle.model.proofs.ExamplesHold.{same}
 use Rattle.length_rows.specs.Lengths.{row, lengthOf, pathsUpTo, heldUpTo, rowsOf, lengthsCall}
-use Rattle.length_rows.specs.LengthExamples.{Example, noExample, numbers, rowsAnswered, upTo, run, holding, inverters, one63, examples}
+use Rattle.length_rows.specs.LengthExamples.{Example, noExample, rowsAnswered, upTo, run, holding, inverters, one63, examples}
 
 unfoldable right : Example → Bool
 right x = same (rowsAnswered (x .netlist) (x .store)) (x .answer)
 
 all-right : T (allOf right examples)
-unfolding right same examples numbers rowsAnswered upTo run holding inverters one63 chain withOutputs outputsBytes
+unfolding right same examples rowsAnswered upTo run holding inverters one63 chain withOutputs outputsBytes
     headerBytes netBytes gateBytes outputBytes readNetlist readGates readOutputs counts outputCount pathTotal pathOf pathAt split
     inRuns howMany howManyFrom separatedRuns storeRuns storeOf row lengthOf pathsUpTo heldUpTo rowsOf lengthsCall
 all-right = tt

@@ -1,4 +1,4 @@
--- The rows of an answer: they add up to T and to the store's totals, and no number of held faults passes that of the paths.
+-- The rows of an answer: they add up to T and to the store's totals, no number of held faults passes that of the paths, and no path has 0 gates.
 -- Assumes nothing.
 use mathlib.Core.Path.{_≡_, refl, ap, sym, _∙_}
 use mathlib.Core.Logic.{⊎-elim}
@@ -7,10 +7,10 @@ use mathlib.Core.List.{List, [], _∷_, _++_}
 use Prim.Native.Nat.{ℕ, _+_, _-_, _≤_, _<_}
 use native.Mathlib.Omega.{arith}
 use lib.Dec.{T, leb, ltb, eqb, eqb→eq}
-use lib.ListN.{getD}
+use lib.ListN.{length, getD}
 use Rattle.model.specs.Base.{Answer, value, _>>_, checks, sumOf}
 use Rattle.model.specs.Netlist.{Netlist, pathTotal}
-use Rattle.model.specs.Path.{Edge}
+use Rattle.model.specs.Path.{Edge, pathOf}
 use Rattle.model.specs.Runs.{Run, Separated, inRuns, size, howMany, separatedRuns}
 use Rattle.model.specs.Read.{readNetlist}
 use Rattle.model.specs.Store.{ByEdge, byEdge, ofEdge, storeRuns, storeRules}
@@ -20,8 +20,10 @@ use Rattle.model.proofs.AnswerLaws.{AllPass, steps, checks→, →checks, then-
 use Rattle.model.proofs.RunLaws.{separated→, runs-of-runs}
 use Rattle.model.proofs.RunSizeLaws.{howMany-same, runs-size}
 use Rattle.model.proofs.HoldingLaws.{at-edge, ofEdge-byEdge}
+use Rattle.model.proofs.NumberingHolds.{numbering-true}
+use Rattle.model.proofs.WiresHold.{wires}
 use Rattle.length_rows.specs.Lengths.{lengths, row, lengthOf, ofLength, pathsUpTo, heldUpTo, Rows, rowsOf, lengthRule, lengthsCall, RowsTrue}
-use Rattle.length_rows.proofs.HowManyLaws.{howMany-zero, howMany-fewer}
+use Rattle.length_rows.proofs.HowManyLaws.{howMany-none, howMany-zero, howMany-fewer}
 use Rattle.length_rows.proofs.PartitionLaws.{less, classes-rest, howMany-classes}
 use Rattle.length_rows.proofs.RunCountLaws.{in-no-runs, in-first-run}
 use Rattle.length_rows.proofs.RowLaws.{row-at}
@@ -83,6 +85,20 @@ module _ (N : Netlist) (ws : List ℕ) (e : Edge) where
       (λ t. let y : sum ≡ pathTotal N = eqb→eq sum (pathTotal N) t in eqb-false more 0 q (omega (arith, paths-add)))))
       (bool-cases (eqb more 0))
 
+-- a path has a gate: a wire from input to output has no path
+gates-on-path : (netlist : List ℕ) (N : Netlist) → readNetlist netlist ≡ value N → (k : ℕ) → 1 ≤ k → k ≤ pathTotal N → ofLength N 0 k ≡ false
+unfolding lengthOf
+gates-on-path netlist N read k u v =
+    let pins = wires .onLegal netlist N read .pathHasPin (pathOf N k) (numbering-true netlist N read .eachNumber k u v .isPath) in
+    not→false (eqb (length (pathOf N k .pins)) 0) (λ t. let z = eqb→eq (length (pathOf N k .pins)) 0 t in omega (arith, pins, z))
+
+none-without-gate : (netlist ws : List ℕ) (N : Netlist) → readNetlist netlist ≡ value N → (e : Edge) → getD (rowsOf N ws e .paths) 0 0 ≡ 0
+unfolding rowsOf pathsUpTo
+none-without-gate netlist ws N read e =
+    row-at (λ l. howMany (ofLength N l) (pathTotal N)) 0 (omega arith)
+    ∙ howMany-same (ofLength N 0) (λ k. false) (pathTotal N) (gates-on-path netlist N read)
+    ∙ howMany-none (pathTotal N)
+
 -- What an answer says
 pub rows-true : (netlist ws : List ℕ) (r : ByEdge Rows) → lengthsCall netlist ws ≡ value r → RowsTrue netlist ws r
 unfolding lengthsCall totalsCall
@@ -116,4 +132,5 @@ rows-true netlist ws r q =
           ∙ held-add N ws d short (apart d)
           ∙ sym (ofEdge-byEdge (λ g. size (storeRuns ws g)) d);
       heldFew = λ d l h. rw (rows d) (held-at-most N ws d l h);
+      noneWithoutGate = λ d. ap (λ (x : Rows). getD (x .paths) 0 0) (rows d) ∙ none-without-gate netlist ws N read d;
     }

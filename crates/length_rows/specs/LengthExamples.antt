@@ -5,10 +5,10 @@ use Prim.Native.Nat.{ℕ, _-_}
 use lib.ListN.{length, replicate}
 use Rattle.model.specs.Base.{Answer, refused, value, _>>=_}
 use Rattle.model.specs.Runs.{Run}
-use Rattle.model.specs.Store.{ByEdge, emptyStore, storeOf}
+use Rattle.model.specs.Store.{emptyStore, storeOf}
 use Rattle.model.specs.Encode.{headerBytes, outputBytes}
 use Rattle.model.specs.Examples.{chain, withOutputs}
-use Rattle.length_rows.specs.Lengths.{lengths, Rows, lengthsCall}
+use Rattle.length_rows.specs.Lengths.{lengths, lengthWords, lengthsCall}
 
 pub record Example : Type 0 where
   pub netlist : List ℕ
@@ -20,11 +20,8 @@ abbrev pub noExample : Example
 noExample = record { netlist = []; store = []; answer = refused 1 }
 
 -- an answer as 256 numbers
-unfoldable pub numbers : ByEdge Rows → List ℕ
-numbers r = r .onRising .paths ++ r .onRising .held ++ r .onFalling .paths ++ r .onFalling .held
-
 unfoldable pub rowsAnswered : List ℕ → List ℕ → Answer (List ℕ)
-rowsAnswered netlist ws = lengthsCall netlist ws >>= λ r. value (numbers r)
+rowsAnswered netlist ws = lengthsCall netlist ws >>= λ r. value (lengthWords r)
 
 -- a row that ends in zeros
 unfoldable pub upTo : List ℕ → List ℕ

@@ -43,6 +43,14 @@ pub record Rows : Type 0 where
   pub paths : List ℕ
   pub held : List ℕ
 
+-- as words: the numbers of paths by length, then those of faults held, 64 each
+abbrev pub rowWords : Rows → List ℕ
+rowWords r = r .paths ++ r .held
+
+-- the rows of both edges as words, rising, then falling
+abbrev pub lengthWords : ByEdge Rows → List ℕ
+lengthWords r = rowWords (r .onRising) ++ rowWords (r .onFalling)
+
 unfoldable pub rowsOf : Netlist → List ℕ → Edge → Rows
 rowsOf N ws e = record {
   paths = row (λ l. pathsUpTo N l (pathTotal N));
@@ -67,7 +75,8 @@ partialsUpTo N net l k = howMany (λ j. eqb (length (pathAt N net net j)) l) k
 unfoldable pub partials : Netlist → ℕ → ℕ → ℕ
 partials N net l = partialsUpTo N net l (getD (counts N) net 0)
 
--- What is claimed of an answer: for each edge the rows add up to T and to the store's totals, and no number of held faults passes that of the paths
+-- What is claimed of an answer: for each edge the rows add up to T and to the store's totals, no number of held faults passes that of the paths,
+-- and no path has 0 gates
 pub record RowsTrue (netlist ws : List ℕ) (r : ByEdge Rows) : Type 0 where
   pub circuit : Netlist
   pub legal : readNetlist netlist ≡ value circuit
@@ -76,3 +85,4 @@ pub record RowsTrue (netlist ws : List ℕ) (r : ByEdge Rows) : Type 0 where
   pub totalsGives : totalsCall netlist ws ≡ value totals
   pub heldAdd : (e : Edge) → sumOf (ofEdge r e .held) ≡ ofEdge totals e
   pub heldFew : (e : Edge) (l : ℕ) → l < lengths → getD (ofEdge r e .held) l 0 ≤ getD (ofEdge r e .paths) l 0
+  pub noneWithoutGate : (e : Edge) → getD (ofEdge r e .paths) 0 0 ≡ 0

@@ -1,5 +1,4 @@
 // The lines of the table, put into a buffer. Each caller proves that there is room.
-ghost use mathlib.Core.Path.{_≡_};
 ghost use Prim.Native.Nat.{_+_, _≤_};
 ghost use lib.ListN.{length};
 ghost use Rattle.text.specs.Lines.{textOf};

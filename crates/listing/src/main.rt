@@ -1,6 +1,6 @@
 // The listing program: what each test record of a file adds on a netlist in a class, then the runs and the totals of the tested faults: `listing
 // [CIRCUIT [TESTS [CLASS]]]`, without names those of the current folder; a missing file counts as empty, a missing class file as class 1. What it
-// writes is made by `listing_text` and `listing_walk`, each part with a promise. Where the netlist or the class file can't be read whole it writes
+// writes is made by `listing_lines` and `listing_walk`, each part with a promise. Where the netlist or the class file can't be read whole it writes
 // nothing, and where the test file can't, neither runs nor totals.
 use command::close_file;
 use command::file_name;
@@ -12,9 +12,9 @@ use console::NETLIST_BYTES;
 use console::print;
 use libc::STDERR_FILENO;
 use libc::STDOUT_FILENO;
+use listing_lines::inner::put_paths;
+use listing_lines::inner::put_refusal;
 use listing_text::inner::OUT_BYTES;
-use listing_text::inner::put_paths;
-use listing_text::inner::put_refusal;
 use listing_walk::inner::Descriptors;
 use listing_walk::inner::list_file;
 use model::Refusal;
@@ -31,7 +31,7 @@ ghost use lib.ListN.{length};
 ghost use Rattle.model.specs.Store.{storeWords};
 ghost use Rattle.model.specs.Calls.{workWords};
 ghost use Rattle.netlist.specs.Tables.{SomeTables};
-ghost use Rattle.listing_text.specs.Answers.{outBytes};
+ghost use Rattle.listing_text.specs.StoreText.{outBytes};
 
 fn print_usage(fd: i32) {
     print(fd, b"usage: listing [CIRCUIT [TESTS [CLASS]]]\n");

@@ -21,7 +21,8 @@ use Rattle.model.proofs.BoolLaws.{and-left, and-right}
 use Rattle.coverage.specs.Stage.{storeAfter}
 use Rattle.coverage.specs.TestCall.{returnedBy}
 use Rattle.text.specs.Decimal.{digitsOf, decimalText, refusedText}
-use Rattle.listing_text.specs.Listing.{pathsLine, refusedLine, recordLine, recordLines, storeAfterAll, listedRecords, runLines, totalsLines, storeLines, listingOf, listingText}
+use Rattle.listing_lines.specs.ListingLines.{pathsLine, refusedLine, recordLine}
+use Rattle.listing_text.specs.Listing.{recordLines, storeAfterAll, listedRecords, runLines, totalsLines, storeLines, listingOf, listingText}
 use Rattle.listing_text.specs.Example.{threeTests, eightLines, twoRefused, refusedLines, robustLines, otherClassLine}
 
 both : T (sameBytes (listingText Q 1 threeTests) eightLines && sameBytes (listingText Q 1 twoRefused) refusedLines)

@@ -17,7 +17,8 @@ use Rattle.model.specs.Store.{emptyStore}
 use Rattle.model.specs.Calls.{testStage}
 use Rattle.coverage.specs.Stage.{storeAfter}
 use Rattle.coverage.specs.TestCall.{returnedBy}
-use Rattle.listing_text.specs.Listing.{recordLine, recordLines, storeAfterAll, listedRecords, pathsLine, storeLines, listingOf, listingText}
+use Rattle.listing_lines.specs.ListingLines.{pathsLine, recordLine}
+use Rattle.listing_text.specs.Listing.{recordLines, storeAfterAll, listedRecords, storeLines, listingOf, listingText}
 use Rattle.listing_text.specs.Pieces.{joined, WholeButLast, pieceLines, storeAfterPieces}
 use Rattle.listing_text.proofs.CutLaws.{listed-end, listed-append}
 

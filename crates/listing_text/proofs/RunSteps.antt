@@ -15,8 +15,10 @@ use Rattle.listing_text.specs.Listing.{runLines}
 use Rattle.runs.proofs.RunWordLaws.{runs-of-part}
 use Rattle.store_words.specs.Sound.{SoundWords, edgeWords}
 use Rattle.store_words.proofs.RunPlaceLaws.{edge-words-runs, edge-words-fit}
-use Rattle.listing_text.specs.Answers.{outBytes, edgeBytes, runsIn, Put}
-use Rattle.listing_text.proofs.PutLaws.{pairText, pair-length}
+use Rattle.text_buffer.specs.Written.{Written}
+use Rattle.listing_lines.specs.ListingLines.{pairText}
+use Rattle.listing_lines.proofs.ListingLineLaws.{pair-length}
+use Rattle.listing_text.specs.StoreText.{outBytes, edgeBytes, runsIn}
 
 module _ (letter words : List ℕ) (place left : ℕ) where
   -- the line of the run at a place
@@ -40,7 +42,7 @@ runs-next letter words place (suc left) h =
     let c : suc left - 1 ≡ left = omega arith in
     rw (c, a, b) refl
 
-module _ (letter words out out′ : List ℕ) (place left at r : ℕ) (h : 0 < left) (p : Put out out′ at (runText letter words place left) r) where
+module _ (letter words out out′ : List ℕ) (place left at r : ℕ) (h : 0 < left) (p : Written out out′ at (runText letter words place left) r) where
   pub runs-step : sets out′ r (runsLeft letter words (place + 2) (left - 1)) ≡ sets out at (runsLeft letter words place left)
   runs-step =
       ap (λ (x : List ℕ). sets x r (runsLeft letter words (place + 2) (left - 1))) (p .bytes)
@@ -70,8 +72,8 @@ module _ (ws R : List ℕ) (sound : SoundWords (2 ^ 62) ws) (e : Edge) (q : R �
       ∙ sym (runs-of-part (edgeWords ws e) 0 0 (runCount ws e))
       ∙ edge-words-runs ws e
 
-  pub edge-lines : (letter out out′ : List ℕ) (at r : ℕ) → Put out out′ at (runLines letter (runsIn R)) r → Put out out′ at (runLines letter (storeRuns ws e)) r
-  edge-lines letter out out′ at r p = subst (λ (rs : List Run). Put out out′ at (runLines letter rs) r) runs-are p
+  pub edge-lines : (letter out out′ : List ℕ) (at r : ℕ) → Written out out′ at (runLines letter (runsIn R)) r → Written out out′ at (runLines letter (storeRuns ws e)) r
+  edge-lines letter out out′ at r p = subst (λ (rs : List Run). Written out out′ at (runLines letter rs) r) runs-are p
 
   few : runCount ws e ≤ maxRuns
   few = at-most e

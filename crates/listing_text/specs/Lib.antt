@@ -1,5 +1,4 @@
 pub mod Listing
-pub mod Answers
-pub mod BlockLines
+pub mod StoreText
 pub mod Pieces
 pub mod Example

@@ -1,8 +1,8 @@
 -- What the listing program prints, as bytes: document 01, "The listing program", with the class of document 02, ticket 6.
--- Names: class is the number of a class; ws is the store, testFile the bytes of tests.tp, netlist those of circuit.nl; 32 is a space, 10 the end of a line.
+-- Names: class is the number of a class; ws is the store, testFile the bytes of tests.tp, netlist those of circuit.nl.
 -- Assumes nothing.
 use mathlib.Core.List.{List, [], _∷_, _++_}
-use Prim.Native.Nat.{ℕ, zero, suc, _+_, _-_, _/_}
+use Prim.Native.Nat.{ℕ, suc, _+_, _-_, _/_}
 use lib.ListN.{length}
 use Rattle.model.specs.Base.{Answer, refused, value, _>>=_, _>>_, checks}
 use Rattle.model.specs.Netlist.{Netlist, pathTotal}
@@ -10,17 +10,14 @@ use Rattle.model.specs.Path.{rising, falling}
 use Rattle.model.specs.Detect.{Class}
 use Rattle.model.specs.Read.{readNetlist, classOf, classRule, recordLength}
 use Rattle.model.specs.Runs.{Run, size}
-use Rattle.model.specs.Store.{ByEdge, emptyStore, storeRuns}
-use Rattle.model.specs.Calls.{FaultCounts, testStage}
+use Rattle.model.specs.Store.{emptyStore, storeRuns}
+use Rattle.model.specs.Calls.{testStage}
 use Rattle.model.specs.Report.{records}
 use Rattle.coverage.specs.Stage.{storeAfter}
 use Rattle.coverage.specs.TestCall.{returnedBy}
-use Rattle.text.specs.Decimal.{decimalText, refusedText}
+use Rattle.listing_lines.specs.ListingLines.{numbered, pairText, pathsLine, refusedLine, recordLine}
 
--- the words `paths `, `rising ` and `falling `
-abbrev pub pathsWord : List ℕ
-pathsWord = 0x70 ∷ 0x61 ∷ 0x74 ∷ 0x68 ∷ 0x73 ∷ 0x20 ∷ []
-
+-- the words `rising ` and `falling `
 abbrev pub risingWord : List ℕ
 risingWord = 0x72 ∷ 0x69 ∷ 0x73 ∷ 0x69 ∷ 0x6E ∷ 0x67 ∷ 0x20 ∷ []
 
@@ -33,23 +30,6 @@ risingLetter = 0x52 ∷ 0x20 ∷ []
 
 abbrev pub fallingLetter : List ℕ
 fallingLetter = 0x46 ∷ 0x20 ∷ []
-
--- a line of a word and a number
-abbrev pub numbered : List ℕ → ℕ → List ℕ
-numbered word n = word ++ decimalText n ++ 10 ∷ []
-
--- `paths T`
-unfoldable pub pathsLine : ℕ → List ℕ
-pathsLine paths = numbered pathsWord paths
-
--- A refused netlist prints `refused` and the number alone, and so does a class that is refused
-unfoldable pub refusedLine : ℕ → List ℕ
-refusedLine number = refusedText number ++ 10 ∷ []
-
--- the line of a test record: its place and the new rising and falling faults, or its place, `refused` and the number
-unfoldable pub recordLine : ℕ → Answer FaultCounts → List ℕ
-recordLine place (refused number) = decimalText place ++ 32 ∷ refusedText number ++ 10 ∷ []
-recordLine place (value r) = decimalText place ++ 32 ∷ decimalText (r .newFaults .onRising) ++ 32 ∷ decimalText (r .newFaults .onFalling) ++ 10 ∷ []
 
 -- a line for each record in order, all judged in one class, the first of which has the place given, each on the store that the one before left
 unfoldable pub recordLines : Netlist → Class → ℕ → List (List ℕ) → List ℕ → List ℕ
@@ -71,7 +51,7 @@ listedRecords N testFile = records (recordLength N) (listedCount (recordLength N
 -- a line for each run: the letter of its edge, low and high
 unfoldable pub runLines : List ℕ → List Run → List ℕ
 runLines letter [] = []
-runLines letter (r ∷ rs) = letter ++ (decimalText (r .low) ++ 32 ∷ decimalText (r .high) ++ 10 ∷ []) ++ runLines letter rs
+runLines letter (r ∷ rs) = letter ++ pairText (r .low) (r .high) ++ runLines letter rs
 
 -- the totals: the number of rising faults and of falling faults in the store
 unfoldable pub totalsLines : List ℕ → List ℕ

@@ -1,3 +1,2 @@
--- The listing's walk: the records of one piece, then piece by piece, then the lines after those of the records.
-pub mod ReadSteps
+-- The listing's walk: piece by piece, then the lines after those of the records.
 pub mod ListingCases

@@ -20,11 +20,14 @@ use Rattle.netlist.specs.declared.inner.Loaded.{Loaded}
 use Rattle.store_words.specs.Sound.{SoundWords}
 use Rattle.store_words.proofs.SoundLaws.{sound-words, sound-more}
 use Rattle.listing_text.specs.Listing.{recordLines, listedRecords, storeAfterAll, storeLines}
-use Rattle.listing_text.specs.Answers.{outBytes, blockBytes, Put, ListReady}
-use Rattle.listing_text.proofs.PutLaws.{put-length, put-taken}
+use Rattle.listing_text.specs.StoreText.{outBytes}
 use Rattle.listing_text.proofs.CutLaws.{listed-end}
 use Rattle.listing_text.proofs.ListedPiecesHold.{lines-more, store-more, count-more}
-use Rattle.listing_walk.specs.ListingWalk.{pieceBytes, listedStore, ReadReady, ReadOf, ReadListed, LinesWaiting, FileListed}
+use Rattle.listing_blocks.specs.Answers.{blockBytes, ListReady}
+use Rattle.text_buffer.specs.Written.{Written}
+use Rattle.text_buffer.proofs.WrittenLaws.{written-length, first-bytes}
+use Rattle.piece_listing.specs.PieceListing.{ReadReady, ReadOf, ReadListed}
+use Rattle.listing_walk.specs.ListingWalk.{pieceBytes, listedStore, LinesWaiting, FileListed}
 use Rattle.file_reading.proofs.ReadPieceLaws.{part-length, FileSoFar, file-start, file-more, file-over, file-next, file-last}
 
 -- nothing is read yet
@@ -188,7 +191,7 @@ module _ {netlist : List ℕ} {t : Loaded} {class : ℕ} {space ws work work′ 
   pub lines-inside : waiting ≤ length out
   lines-inside = v .inside
 
-  pub lines-put : {out′ : List ℕ} {end : ℕ} → Put out out′ 0 (storeLines ws) end → {b : Bool}
+  pub lines-put : {out′ : List ℕ} {end : ℕ} → Written out out′ 0 (storeLines ws) end → {b : Bool}
       → FileListed (record { bytes = bytes; place = place; end = end; whole = b }) netlist t class space ws work work′ out′
   lines-put p = record {
     walk = record {
@@ -201,13 +204,13 @@ module _ {netlist : List ℕ} {t : Loaded} {class : ℕ} {space ws work work′ 
         circuit = v .walk .ready .circuit;
         tables = v .walk .ready .tables;
         memory = v .walk .ready .memory;
-        room = omega (arith, v .walk .ready .room, put-length p);
+        room = omega (arith, v .walk .ready .room, written-length p);
       };
       sameLength = v .walk .sameLength;
       pastWork = v .walk .pastWork;
     };
     inside = p .inside;
-    lines = λ N e. put-taken p ∙ ap storeLines (v .walk .store N e);
+    lines = λ N e. first-bytes p ∙ ap storeLines (v .walk .store N e);
   }
 
 pub ruleset listing-cases = (list-inputs, listed-long, listed-read, listed-start, listed-next, listed-last, listed-over, part-length, needs)

@@ -3,8 +3,8 @@ ghost use mathlib.Core.Path.{_≡_};
 ghost use Prim.Native.Nat.{_≤_};
 ghost use lib.ListN.{length};
 ghost use Rattle.model.specs.Store.{emptyStore};
-ghost use Rattle.listing_text.specs.Answers.{blockBytes, ListReady};
-ghost use Rattle.listing_walk.specs.ListingWalk.{pieceBytes, WrittenFull, ReadReady, ReadListed, LinesWaiting, FileListed};
+ghost use Rattle.listing_blocks.specs.Answers.{ListReady};
+ghost use Rattle.listing_walk.specs.ListingWalk.{pieceBytes, LinesWaiting, FileListed};
 use command::at_end;
 use command::end_progress;
 use command::file_size;
@@ -13,11 +13,10 @@ use file_reading::inner::full_piece;
 use file_reading::inner::read_part;
 use file_reading::inner::whole_part;
 use libc::STDERR_FILENO;
-use listing_text::inner::BLOCK_BYTES;
-use listing_text::inner::Listed;
-use listing_text::inner::list_piece;
 use listing_text::inner::put_store;
 use netlist::inner::Loaded;
+use piece_listing::inner::Lines;
+use piece_listing::inner::list_read;
 use test_records::inner::record_length;
 
 // No file has more bytes: it is the largest size that the system tells. What a pipe brings after so many is not read.
@@ -27,13 +26,6 @@ const MOST_BYTES: u64 = 0x7FFF_FFFF_FFFF_FFFF;
 pub struct Descriptors {
     pub from: i32,
     pub to: i32,
-}
-
-// The lines of a listing: where they go, the place of the next record, and how many bytes of lines wait in the buffer.
-pub struct Lines {
-    pub to: i32,
-    pub place: u64,
-    pub bytes: usize,
 }
 
 // A test file whose records were listed: its bytes, the place after its last record, the bytes of the lines that wait, and whether it was read whole.
@@ -61,55 +53,6 @@ fn shows_progress(to: i32) -> bool {
 fn show_listed(shown: bool, place: u64) {
     if shown && 0 < place {
         show_progress(place - 1);
-    }
-}
-
-// Writes the lines in the buffer where those of another block might not fit after them.
-fn write_full(to: i32, listed: Listed, out: &[u8]) -> Listed
-    requires { ⌜ (listed .bytes ≤ length (now out)) × (blockBytes ≤ length (now out)) ⌝ }
-    ensures { λ r. ⌜ WrittenFull listed r (now (out .entry)) ⌝ }
-{
-    let Listed { place, used, bytes } = listed;
-    if out.len() - bytes < BLOCK_BYTES {
-        io::write_all(to, &out[..bytes]);
-        return Listed {
-            place,
-            used,
-            bytes: 0,
-        };
-    }
-    listed
-}
-
-// The lines of the records of a piece, all in one class, after those that wait in the buffer, which is written whenever it is full.
-fn list_read(
-    lines: Lines,
-    netlist: &[u8],
-    loaded: Loaded,
-    class: u32,
-    piece: &[u8],
-    store: &mut [u64],
-    work: &mut [u64],
-    out: &mut [u8],
-) -> Lines
-    requires { ⌜ ReadReady (lines .place) (lines .bytes) (now netlist) loaded (now piece) (now store) (now work) (now out) ⌝ }
-    ensures { λ r. ⌜ ReadListed (lines .place) (lines .bytes) (r .place) (r .bytes) (now (netlist .entry)) loaded class (now (piece .entry))
-        (now (store .entry)) (now (store .exit)) (now (work .entry)) (now (work .exit)) (now (out .entry)) (now (out .exit)) ⌝ }
-{
-    let to = lines.to;
-    let mut at = Listed {
-        place: lines.place,
-        used: 0,
-        bytes: lines.bytes,
-    };
-    while at.used < piece.len() {
-        let more = list_piece(netlist, loaded, at, piece, class, store, work, out);
-        at = write_full(to, more, out);
-    }
-    Lines {
-        to,
-        place: at.place,
-        bytes: at.bytes,
     }
 }
 

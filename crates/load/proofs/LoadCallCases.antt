@@ -16,6 +16,7 @@ use Rattle.model.specs.declared.Refusal.the-variants as why
 use Rattle.model.proofs.BoolLaws.{and-left, and-right, true→T}
 use Rattle.records.proofs.ByteLaws.{sets-append}
 use Rattle.drawing.specs.Drawing.{stateAfter}
+use Rattle.drawing.proofs.DrawSteps.{no-steps}
 use Rattle.load.specs.Load.{loadRecords, vectorRecords}
 use Rattle.load.specs.Calls.{loadBufferBytes, loadCall, loadAnswer, loadBuffer}
 use Rattle.load.specs.Answers.{LoadTrue, FilledTrue, vectorSize}
@@ -104,10 +105,6 @@ less-one (suc k) n h =
     let p : (suc k - 1) * n ≡ k * n = ap (λ i. i * n) e in
     omega arith
 
-at-end : (s : ℕ) → stateAfter 0 s ≡ s
-unfolding stateAfter
-at-end s = refl
-
 module _ (inputs state vectors size : ℕ) (sized : size ≡ vectorSize inputs) (found records : List ℕ) (last place left : ℕ)
     (g : Gathering inputs state vectors size found records last place left) where
   module _ (more : 0 < left) (fits : vectors * vectorSize inputs ≤ length found) where
@@ -151,7 +148,7 @@ module _ (inputs state vectors size : ℕ) (sized : size ≡ vectorSize inputs) 
     pub gather-state : last ≡ stateAfter (vectors * inputs) state
     gather-state =
         let z : 0 * inputs ≡ 0 = omega arith in
-        sym (at-end last) ∙ sym (ap (λ k. stateAfter k last) z) ∙ sym (ap (λ k. stateAfter (k * inputs) last) none) ∙ g .steps
+        sym (no-steps last) ∙ sym (ap (λ k. stateAfter k last) z) ∙ sym (ap (λ k. stateAfter (k * inputs) last) none) ∙ g .steps
 
     pub gather-bytes : records ≡ sets found 0 (vectorRecords inputs vectors state)
     gather-bytes =

@@ -3,7 +3,7 @@
 use mathlib.Core.Path.{_≡_, refl, ap, ap₂, sym, subst, _∙_}
 use mathlib.Core.Bool.{Bool, true, false, _&&_, not}
 use mathlib.Core.List.{List, [], _∷_, _++_, append-assoc}
-use mathlib.Core.Logic.{_⊎_, inl, inr, ⊎-elim}
+use mathlib.Core.Logic.{⊎-elim}
 use Prim.Native.Nat.{ℕ, zero, suc, _+_, _-_, _*_, _/_, _%_, _≤_, _<_}
 use native.Mathlib.Nat.{suc-mul, mod-eq-of-lt, mod-eq-sub-mod}
 use native.Mathlib.Omega.{arith}
@@ -12,7 +12,7 @@ use lib.ListN.{length, getD, set, length-append, List·getD-append}
 use lib.Seq.{getD-set-same, getD-set-other, getD-append-add}
 use Rattle.model.specs.Detect.{Class, Test, hasEdge}
 use Rattle.model.specs.Path.{Edge, rising, falling}
-use Rattle.model.proofs.BoolLaws.{le-or-lt}
+use Rattle.model.proofs.BoolLaws.{le-or-lt, equal-or-not}
 use Rattle.load.specs.Load.{Pair, finalValue, inputTest, testsFrom, loadTests, fileBytes}
 use Rattle.drawing.specs.Drawing.{stateAfter, drawn}
 use Rattle.load.specs.Load.{loadRecords, vectorRecords, recordBytes}
@@ -28,11 +28,6 @@ no-rise false t = t
 no-fall : (b : Bool) → T (b && not b) → ⊥
 no-fall true t = t
 no-fall false t = t
-
-equal-or-not : (k j : ℕ) → (k ≡ j) ⊎ (k ≡ j → ⊥)
-equal-or-not k j =
-    ⊎-elim (λ (a : k ≤ j). ⊎-elim (λ (b : j ≤ k). inl (omega arith)) (λ (b : k < j). inr (λ e. omega arith)) (le-or-lt j k))
-    (λ (a : j < k). inr (λ e. omega arith)) (le-or-lt k j)
 
 -- two vectors that differ in input j at the most, in a class
 module _ (c : Class) (v : List Bool) (j : ℕ) where

@@ -145,9 +145,6 @@ module _ (inputs state bytes at : ℕ) (found : List ℕ) where
 
       module _ (d : Drawn) (t : DrawnTrue d inputs state) (low bit : ℕ) (bitIs : bit ≡ 2 ^ input)
           (lowIs : low ≡ d .vector - d .vector / 2 ^ input % 2 * 2 ^ input) where
-        vec : List Bool
-        vec = drawn inputs state
-
         inside : input < length (drawn inputs state)
         inside = omega (arith, length-drawn inputs state)
 

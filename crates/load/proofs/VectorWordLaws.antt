@@ -9,7 +9,7 @@ use native.Mathlib.Omega.{arith}
 use lib.Bits.{bitAnd, and-high}
 use lib.Dec.{eqb}
 use lib.ListN.{length, getD, set}
-use lib.Pow.{shr-shr, shr-le, shl-exact}
+use lib.Pow.{shr-shr, shr-le}
 use Rattle.model.specs.Base.{bit}
 use Rattle.packed_pins.specs.Packed.{oneWhere}
 use Rattle.drawing.specs.Drawing.{wordOf}
@@ -67,10 +67,6 @@ set-word (x ∷ v) zero b h = omega arith
 set-word (x ∷ v) (suc j) b h =
     set-step (oneWhere x) (wordOf v) (wordOf (set v j b)) (oneWhere (getD v j false)) (oneWhere b) (2 ^ j) (2 ^ suc j) (omega arith)
     (set-word v j b (le-of-suc-le-suc h))
-
--- a 1 shifted to an input's place
-pub weight-is : (j : ℕ) → j < 64 → (1 * 2 ^ j) % 2 ^ 64 ≡ 2 ^ j
-weight-is j h = let e : 1 * 2 ^ j ≡ 2 ^ j = omega arith in shl-exact {a = 1} 1 j 64 (omega arith) (omega arith) ∙ e
 
 -- one bit of a number, by the mask of its place
 pub mask-bit : (n j : ℕ) → bitAnd n (2 ^ j) ≡ n / 2 ^ j % 2 * 2 ^ j

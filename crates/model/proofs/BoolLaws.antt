@@ -4,7 +4,7 @@ use mathlib.Core.Path.{_≡_, refl, sym, _∙_}
 use mathlib.Core.Bool.{Bool, true, false, _&&_, _||_, not, Bool·beq}
 use mathlib.Core.Logic.{_⊎_, inl, inr, ⊎-elim}
 use Prim.Native.Nat.{ℕ, _≤_, _<_}
-use lib.Dec.{T, leb, eqb, leb→le, le→leb, nleb→lt, eqb-refl}
+use lib.Dec.{T, leb, eqb, leb→le, le→leb, nleb→lt, eqb-refl, eqb→eq}
 
 pub and-left : (a b : Bool) → T (a && b) → T a
 and-left true b t = tt
@@ -80,6 +80,9 @@ bool-cases false = inr refl
 
 pub eqb-false : (m n : ℕ) → eqb m n ≡ false → m ≡ n → ⊥
 eqb-false m n e q = mathlib.Core.Bool.true≢false (sym (T→true (eqb m n) (rw q (eqb-refl n))) ∙ e)
+
+pub equal-or-not : (k j : ℕ) → (k ≡ j) ⊎ (k ≡ j → ⊥)
+equal-or-not k j = ⊎-elim (λ e. inl (eqb→eq k j (true→T (eqb k j) e))) (λ e. inr (eqb-false k j e)) (bool-cases (eqb k j))
 
 pub or-cases : (a b : Bool) → T (a || b) → T a ⊎ T b
 or-cases true b t = inl tt

@@ -8,7 +8,7 @@ use mathlib.Core.List.{List, [], _∷_}
 use Prim.Native.Nat.{ℕ, _≤_}
 use lib.Dec.{T, leb→le, le→leb}
 use lib.ListN.{length}
-use Rattle.model.specs.Base.{Answer, refused, value, _>>_, Rule, checks, after}
+use Rattle.model.specs.Base.{Answer, refused, value, checks, after}
 use Rattle.model.specs.Netlist.{Netlist, pathTotal}
 use Rattle.model.specs.Path.{Edge, Fault, valid, numberOf, pathOf}
 use Rattle.model.specs.Detect.{Class, Test}
@@ -19,7 +19,7 @@ use Rattle.model.specs.Calls.{Tested, storeLeft, tested, FaultCounts, te
 use Rattle.model.specs.Demand3 as demand
 use Rattle.model.specs.Demand3.{CountOf, Detected, RunsOfDetected, detectedBy, Call, State, start, testIn, next, afterCalls, knownClass, NoTestRefusal, NoRefusal, Taken, Returned, StoreTrue}
 use Rattle.model.proofs.WellFormed.{WellFormed}
-use Rattle.model.proofs.AnswerLaws.{AllPass, steps, checks→, →checks, then-first, then-second, value-inj}
+use Rattle.model.proofs.AnswerLaws.{AllPass, steps, checks→, →checks, value-inj}
 use Rattle.model.proofs.BeforeLaws.{Reached, reached→, →reached, other-class}
 use Rattle.model.proofs.RunLaws.{separated→, in→, →in, unique}
 use Rattle.model.proofs.ReadLaws.{legal}

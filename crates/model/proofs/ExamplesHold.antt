@@ -30,7 +30,7 @@ same (refused m) (value ys) = false
 same (value xs) (refused n) = false
 same (value xs) (value ys) = sameBytes xs ys
 
-same-answer : (a b : Answer (List ℕ)) → T (same a b) → a ≡ b
+pub same-answer : (a b : Answer (List ℕ)) → T (same a b) → a ≡ b
 unfolding same
 same-answer (refused m) (refused n) t = ap refused (eqb→eq m n t)
 same-answer (refused m) (value ys) t = absurd t

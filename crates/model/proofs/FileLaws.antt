@@ -2,7 +2,7 @@
 -- The idea: each record's test stage keeps the fact that the store holds exactly what the tests so far detect.
 -- Assumes nothing.
 use mathlib.Core.Path.{_≡_, refl, sym, subst}
-use mathlib.Core.Bool.{Bool, true, false, _||_, or-false}
+use mathlib.Core.Bool.{false, _||_, or-false}
 use mathlib.Core.List.{List, [], _∷_, _++_, map}
 use Prim.Native.Nat.{ℕ}
 use lib.Dec.{T, leb, eqb, leb→le, eqb→eq}

@@ -15,7 +15,7 @@ use Rattle.model.specs.Runs.{Run, runsOf, inRuns, howMany, workingRuns, 
 use Rattle.model.specs.Read.{testRules, testOf}
 use Rattle.model.specs.Store.{ByEdge, byEdge, ofEdge, storeWords, maxRuns, emptyStore, storeRuns, runsByEdge, storeOf, bothEdges, storeRules, runCount, firstWord}
 use Rattle.model.specs.Calls.{Tested, storeLeft, tested, testStage, stageRules, workRules, heldThen, newThen, runsThen}
-use Rattle.model.proofs.BoolLaws.{both, and-left, and-right}
+use Rattle.model.proofs.BoolLaws.{and-left, and-right}
 use Rattle.model.proofs.AnswerLaws.{AllPass, checks→, →checks, then-first, then-second, value-inj, pass-both}
 use Rattle.model.proofs.RunLaws.{runs-separated, runs-test, runs-same, runs-none, separated→, →separated, runs-of-runs}
 use Rattle.model.proofs.RunSizeLaws.{runs-size, howMany-same}

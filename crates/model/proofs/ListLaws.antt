@@ -1,13 +1,14 @@
--- Lists: tests of all their elements, elements by place, and consecutive numbers.
+-- Lists: tests of all their elements, elements by place, parts, and consecutive numbers.
 -- Assumes nothing.
-use mathlib.Core.Path.{_≡_, refl, ap}
+use mathlib.Core.Path.{_≡_, refl, ap, sym, _∙_}
 use mathlib.Core.Bool.{Bool, true}
 use mathlib.Core.List.{List, [], _∷_, _++_, map}
 use Prim.Native.Nat.{ℕ, zero, suc, _+_, _<_}
-use native.Mathlib.Nat.{le-of-suc-le-suc, not-suc-le-zero}
+use native.Mathlib.Nat.{le-of-suc-le-suc, not-suc-le-zero, zero-add, suc-add}
 use native.Mathlib.Omega.{arith}
 use lib.Dec.{T}
-use lib.ListN.{length, getD}
+use lib.ListN.{length, getD, take, drop, replicate}
+use lib.Seq.{take-nil}
 use Rattle.model.specs.Base.{allOf, numbersFrom}
 use Rattle.model.proofs.BoolLaws.{and-left, and-right, both}
 
@@ -31,6 +32,23 @@ allOf-at P (x ∷ xs) d t (suc p) h = allOf-at P xs d (allOf-tail P x xs t) p (l
 pub allOf-append : {A : Type 0} (P : A → Bool) (xs : List A) (y : A) → T (allOf P xs) → T (P y) → T (allOf P (xs ++ (y ∷ [])))
 allOf-append P [] y t u = both (P y) true u tt
 allOf-append P (x ∷ xs) y t u = both (P x) (allOf P (xs ++ (y ∷ []))) (allOf-head P x xs t) (allOf-append P xs y (allOf-tail P x xs t) u)
+
+pub drop-take : (n m : ℕ) (l : List ℕ) → drop n (take (n + m) l) ≡ take m (drop n l)
+drop-take zero m l = ap (λ (k : ℕ). take k l) (zero-add m)
+drop-take (suc n) m [] = ap (drop (suc n)) (take-nil {A = ℕ} (suc n + m)) ∙ sym (take-nil {A = ℕ} m)
+drop-take (suc n) m (x ∷ xs) = ap (λ (k : ℕ). drop (suc n) (take k (x ∷ xs))) (suc-add n m) ∙ drop-take n m xs
+
+-- the first of some bytes are bytes
+pub take-bytes : (n : ℕ) (l : List ℕ) → ((j : ℕ) → getD l j 0 < 256) → (i : ℕ) → getD (take n l) i 0 < 256
+take-bytes zero l b i = omega arith
+take-bytes (suc n) [] b i = omega arith
+take-bytes (suc n) (x ∷ xs) b zero = b 0
+take-bytes (suc n) (x ∷ xs) b (suc i) = take-bytes n xs (λ j. b (suc j)) i
+
+pub zeros-at : (n i : ℕ) → getD {A = ℕ} (replicate n 0) i 0 ≡ 0
+zeros-at zero i = refl
+zeros-at (suc n) zero = refl
+zeros-at (suc n) (suc i) = zeros-at n i
 
 pub length-numbersFrom : (k n : ℕ) → length (numbersFrom k n) ≡ n
 length-numbersFrom k zero = refl

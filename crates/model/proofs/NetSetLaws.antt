@@ -15,7 +15,7 @@ use Rattle.model.specs.Numbering.{OpenPath}
 use Rattle.model.proofs.WellFormed.{WellFormed}
 use Rattle.model.proofs.BoolLaws.{le-or-lt}
 use Rattle.model.proofs.NetLaws.{count-gate}
-use Rattle.model.proofs.NumberLaws.{number-back, path-back, splits, split-back, pin-lower, pathAt-input, pathAt-gate, length-pinCounts, pinCounts-at, length-outputCounts, outputCounts-at}
+use Rattle.model.proofs.NumberLaws.{number-back, path-back, splits, split-back, pin-lower, pathAt-input, pathAt-gate, length-pinCounts, pinCounts-at, length-outputCounts}
 
 module _ (N : Netlist) (w : WellFormed N) where
   -- more fuel than the net changes nothing

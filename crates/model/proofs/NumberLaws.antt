@@ -17,7 +17,7 @@ use Rattle.model.specs.Netlist.{Netlist, Gate, noGate, counts, pinsOf, p
 use Rattle.model.specs.Path.{CircuitPath, countsBefore, split, validAt, numberAt, pathAt, valid, numberOf, pathOf}
 use Rattle.model.specs.Numbering.{PathNumbered}
 use Rattle.model.proofs.WellFormed.{lower, WellFormed, ascendingNets}
-use Rattle.model.proofs.BoolLaws.{and-left, and-right, T→true, le-or-lt, and3, all3, both}
+use Rattle.model.proofs.BoolLaws.{and-left, and-right, T→true, le-or-lt, and3, all3}
 use Rattle.model.proofs.ListLaws.{getD-map-in, allOf-at}
 use Rattle.model.proofs.NetLaws.{count-input, count-gate, output-count-wire, output-count-gate}
 

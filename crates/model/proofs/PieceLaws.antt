@@ -1,11 +1,12 @@
 -- A test file in pieces of whole records: the test calls with one piece after the other are those with the records of the whole file.
 -- Assumes nothing.
-use mathlib.Core.Path.{_≡_, refl, ap, _∙_}
+use mathlib.Core.Path.{_≡_, refl, ap, ap₂, _∙_}
 use mathlib.Core.List.{List, [], _∷_, _++_}
-use Prim.Native.Nat.{ℕ, zero, suc, _+_, _-_, _*_, _/_, _%_, _≤_, _<_}
-use native.Mathlib.Nat.{zero-add, suc-add, suc-mul, not-suc-le-zero, le-of-suc-le-suc, mul-add-div-right, mod-add-div, mul-comm}
+use Prim.Native.Nat.{ℕ, zero, suc, _+_, _*_, _/_, _%_, _≤_, _<_}
+use native.Mathlib.Nat.{zero-add, suc-add, suc-mul, mul-add-div-right, mod-add-div, mul-comm}
 use native.Mathlib.Omega.{arith}
 use lib.ListN.{length, take, drop, length-append, length-drop}
+use lib.Seq.{take-append-le, drop-append-le}
 use Rattle.model.specs.Base.{Answer, refused, value, _>>=_}
 use Rattle.model.specs.Netlist.{Netlist}
 use Rattle.model.specs.Detect.{Class}
@@ -13,16 +14,7 @@ use Rattle.model.specs.Read.{recordLength}
 use Rattle.model.specs.Calls.{Tested, storeLeft, testStage}
 use Rattle.model.specs.Report.{records, fileRecords, testAll}
 
-take-within : (k : ℕ) (a b : List ℕ) → k ≤ length a → take k (a ++ b) ≡ take k a
-take-within zero a b h = refl
-take-within (suc k) [] b h = absurd (not-suc-le-zero h)
-take-within (suc k) (x ∷ a) b h = ap {B = List ℕ} (λ r. x ∷ r) (take-within k a b (le-of-suc-le-suc h))
-
-drop-within : (k : ℕ) (a b : List ℕ) → k ≤ length a → drop k (a ++ b) ≡ drop k a ++ b
-drop-within zero a b h = refl
-drop-within (suc k) [] b h = absurd (not-suc-le-zero h)
-drop-within (suc k) (x ∷ a) b h = drop-within k a b (le-of-suc-le-suc h)
-
+-- the records of a part of a file, then those of the rest
 records-append : (len m n : ℕ) (a b : List ℕ) → length a ≡ m * len → records len (m + n) (a ++ b) ≡ records len m a ++ records len n b
 records-append len zero n [] b q = ap (λ (k : ℕ). records len k b) (zero-add n)
 records-append len zero n (x ∷ a) b q = absurd (omega (arith, q))
@@ -31,9 +23,19 @@ records-append len (suc m) n a b q =
     let h : len ≤ length a = omega (arith, l) in
     let d : length (drop len a) ≡ m * len = omega (arith, l, length-drop len a) in
     ap (λ (k : ℕ). records len k (a ++ b)) (suc-add m n)
-    ∙ ap {B = List (List ℕ)} (λ (r : List ℕ). r ∷ records len (m + n) (drop len (a ++ b))) (take-within len a b h)
-    ∙ ap {B = List (List ℕ)} (λ (s : List ℕ). take len a ∷ records len (m + n) s) (drop-within len a b h)
+    ∙ ap₂ {C = List (List ℕ)} (λ (r s : List ℕ). r ∷ records len (m + n) s) (take-append-le len a b h) (drop-append-le len a b h)
     ∙ ap {B = List (List ℕ)} (λ (rs : List (List ℕ)). take len a ∷ rs) (records-append len m n (drop len a) b d)
+
+pub file-records-append : (N : Netlist) (piece rest : List ℕ) → length piece % recordLength N ≡ 0
+    → fileRecords N (piece ++ rest) ≡ fileRecords N piece ++ fileRecords N rest
+file-records-append N piece rest h =
+    let len : ℕ = recordLength N in
+    let m : ℕ = length piece / len in
+    let pos : zero < len = omega arith in
+    let whole : length piece ≡ m * len = omega (arith, h, mod-add-div (length piece) len, mul-comm len m) in
+    let l : length (piece ++ rest) ≡ m * len + length rest = omega (arith, length-append piece rest, whole) in
+    let n : length (piece ++ rest) / len ≡ m + length rest / len = ap (λ (k : ℕ). k / len) l ∙ mul-add-div-right pos m (length rest) in
+    ap (λ (k : ℕ). records len k (piece ++ rest)) n ∙ records-append len m (length rest / len) piece rest whole
 
 -- one record, then the others
 record-first : (N : Netlist) (x : Answer Tested) (f g : List ℕ → Answer (List ℕ)) (h : List ℕ → Answer (List ℕ)) → ((ws : List ℕ) → f ws ≡ (g ws >>= h))
@@ -53,12 +55,4 @@ testAll-append N c (r ∷ rs) qs ws =
 pub piece-first : (N : Netlist) (c : Class) (piece rest ws : List ℕ) → length piece % recordLength N ≡ 0
     → testAll N c (fileRecords N (piece ++ rest)) ws ≡ (testAll N c (fileRecords N piece) ws >>= λ left. testAll N c (fileRecords N rest) left)
 piece-first N c piece rest ws h =
-    let len : ℕ = recordLength N in
-    let m : ℕ = length piece / len in
-    let pos : zero < len = omega arith in
-    let whole : length piece ≡ m * len = omega (arith, h, mod-add-div (length piece) len, mul-comm len m) in
-    let l : length (piece ++ rest) ≡ m * len + length rest = omega (arith, length-append piece rest, whole) in
-    let n : length (piece ++ rest) / len ≡ m + length rest / len = ap (λ (k : ℕ). k / len) l ∙ mul-add-div-right pos m (length rest) in
-    ap (λ (k : ℕ). testAll N c (records len k (piece ++ rest)) ws) n
-    ∙ ap (λ (rs : List (List ℕ)). testAll N c rs ws) (records-append len m (length rest / len) piece rest whole)
-    ∙ testAll-append N c (records len m piece) (fileRecords N rest) ws
+    ap (λ (rs : List (List ℕ)). testAll N c rs ws) (file-records-append N piece rest h) ∙ testAll-append N c (fileRecords N piece) (fileRecords N rest) ws

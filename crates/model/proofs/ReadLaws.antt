@@ -1,6 +1,6 @@
 -- What a legal netlist has.
 -- Assumes nothing.
-use mathlib.Core.Path.{_≡_, refl, ap, sym, _∙_, subst}
+use mathlib.Core.Path.{_≡_, refl, ap, ap₂, sym, _∙_, subst}
 use mathlib.Core.Bool.{Bool, _&&_}
 use mathlib.Core.Logic.{⊎-elim}
 use mathlib.Core.List.{List, [], _∷_, _++_, map}
@@ -79,10 +79,20 @@ gates-length (suc n) cs bs r e =
     let f = first n cs bs r e in
     ap (λ (x : List Gate × List ℕ). length (x .0)) (sym (f .is)) ∙ ap suc (gates-length n _ _ (f .rest) (f .others))
 
--- A legal netlist is well formed
-pub legal : (bs : List ℕ) (N : Netlist) → readNetlist bs ≡ value N → WellFormed N
+-- What reading a legal netlist took, part by part
+pub record Parts (file : List ℕ) (N : Netlist) : Type 0 where
+  pub header : AllPass (headerRules file)
+  pub inputsAre : N .inputs ≡ inputsIn file
+  pub afterGates : List ℕ
+  pub gatesRead : readGates (gatesIn file) (inputCounts file) (drop 8 file) ≡ value (N .gates, afterGates)
+  pub afterOutputs : List ℕ
+  pub outputsRead : readOutputs (outputsIn file) (inputsIn file) (inputsIn file + gatesIn file) (netByNet gateCount 0 (inputCounts file) (N .gates)) 0 0 afterGates
+      ≡ value (N .outputs, afterOutputs)
+  pub noMore : length afterOutputs ≡ 0
+
+pub parts : (file : List ℕ) (N : Netlist) → readNetlist file ≡ value N → Parts file N
 unfolding readNetlist
-legal bs N e =
+parts bs N e =
     let gs = readGates (gatesIn bs) (inputCounts bs) (drop 8 bs) in
     let os : List Gate × List ℕ → Answer (List ℕ × List ℕ) =
     λ g. readOutputs (outputsIn bs) (inputsIn bs) (inputsIn bs + gatesIn bs) (netByNet gateCount 0 (inputCounts bs) (g .0)) 0 0 (g .1) in
@@ -90,17 +100,37 @@ legal bs N e =
     λ g o. checks ((20, eqb (length (o .1)) 0) ∷ []) >> value (record { inputs = inputsIn bs; gates = g .0; outputs = o .0 }) in
     let p = steps (checks (headerRules bs) >> gs) (λ g. os g >>= end g) e in
     let q = steps (os (p .got)) (end (p .got)) (p .second) in
-    let h = checks→ (headerRules bs) (then-first (checks (headerRules bs)) gs (p .first)) .1 .0 in
-    let l = gates-lower (gatesIn bs) (inputCounts bs) (drop 8 bs) (p .got) (then-second (checks (headerRules bs)) gs (p .first)) in
-    let o = outputs-ok (outputsIn bs) (inputsIn bs) (inputsIn bs + gatesIn bs) (netByNet gateCount 0 (inputCounts bs) (p .got .0)) 0 0 (p .got .1) (q .got) (q .first) in
-    subst WellFormed (value-inj (then-second (checks ((20, eqb (length (q .got .1)) 0) ∷ [])) _ (q .second)))
+    let last = checks ((20, eqb (length (q .got .1)) 0) ∷ []) in
+    subst (Parts bs) (value-inj (then-second last _ (q .second)))
     (record {
-      someInput = and-left (leb 1 (inputsIn bs)) (leb (inputsIn bs) 64)
-          (and4 (within 1 64 (inputsIn bs)) (leb (gatesIn bs) 511) (leb (inputsIn bs + gatesIn bs) 512) (within 1 64 (outputsIn bs)) h .0);
-      lowerPins = rw length-replicate at l;
-      outputsOk = subst (λ k. T (ascendingNets (inputsIn bs + k) 0 (q .got .0)))
-          (sym (gates-length (gatesIn bs) (inputCounts bs) (drop 8 bs) (p .got) (then-second (checks (headerRules bs)) gs (p .first)))) o;
+      header = checks→ (headerRules bs) (then-first (checks (headerRules bs)) gs (p .first));
+      inputsAre = refl;
+      afterGates = p .got .1;
+      gatesRead = then-second (checks (headerRules bs)) gs (p .first);
+      afterOutputs = q .got .1;
+      outputsRead = q .first;
+      noMore = eqb→eq (length (q .got .1)) 0 (checks→ ((20, eqb (length (q .got .1)) 0) ∷ []) (then-first last _ (q .second)) .0);
     })
+
+module _ (file : List ℕ) (N : Netlist) (p : Parts file N) where
+  pub ranges : T (within 1 64 (inputsIn file)) × T (leb (gatesIn file) 511) × T (leb (inputsIn file + gatesIn file) 512) × T (within 1 64 (outputsIn file))
+  ranges = and4 (within 1 64 (inputsIn file)) (leb (gatesIn file) 511) (leb (inputsIn file + gatesIn file) 512) (within 1 64 (outputsIn file)) (p .header .1 .0)
+
+  pub gates-many : length (N .gates) ≡ gatesIn file
+  gates-many = gates-length (gatesIn file) (inputCounts file) (drop 8 file) (N .gates, p .afterGates) (p .gatesRead)
+
+-- A legal netlist is well formed
+pub legal : (bs : List ℕ) (N : Netlist) → readNetlist bs ≡ value N → WellFormed N
+legal bs N e =
+    let p = parts bs N e in
+    let l = gates-lower (gatesIn bs) (inputCounts bs) (drop 8 bs) (N .gates, p .afterGates) (p .gatesRead) in
+    let cs = netByNet gateCount 0 (inputCounts bs) (N .gates) in
+    let o = outputs-ok (outputsIn bs) (inputsIn bs) (inputsIn bs + gatesIn bs) cs 0 0 (p .afterGates) (N .outputs, p .afterOutputs) (p .outputsRead) in
+    record {
+      someInput = rw (p .inputsAre) (and-left (leb 1 (inputsIn bs)) (leb (inputsIn bs) 64) (ranges bs N p .0));
+      lowerPins = subst (λ (k : ℕ). T (lower k (N .gates))) (length-replicate {A = ℕ} (inputsIn bs) 1 ∙ sym (p .inputsAre)) l;
+      outputsOk = subst (λ (k : ℕ). T (ascendingNets k 0 (N .outputs))) (ap₂ (λ i g. i + g) (sym (p .inputsAre)) (sym (gates-many bs N p))) o;
+    }
 
 -- Bounds of a legal netlist
 abbrev pub fits : ℕ → Bool
@@ -151,31 +181,24 @@ ones-fit zero = tt
 ones-fit (suc n) = ones-fit n
 
 pub limits : (bs : List ℕ) (N : Netlist) → readNetlist bs ≡ value N → Limits N
-unfolding readNetlist counts pathTotal
+unfolding counts pathTotal
 limits bs N e =
-    let gs = readGates (gatesIn bs) (inputCounts bs) (drop 8 bs) in
-    let os : List Gate × List ℕ → Answer (List ℕ × List ℕ) =
-    λ g. readOutputs (outputsIn bs) (inputsIn bs) (inputsIn bs + gatesIn bs) (netByNet gateCount 0 (inputCounts bs) (g .0)) 0 0 (g .1) in
-    let end : List Gate × List ℕ → List ℕ × List ℕ → Answer Netlist =
-    λ g o. checks ((20, eqb (length (o .1)) 0) ∷ []) >> value (record { inputs = inputsIn bs; gates = g .0; outputs = o .0 }) in
-    let p = steps (checks (headerRules bs) >> gs) (λ g. os g >>= end g) e in
-    let q = steps (os (p .got)) (end (p .got)) (p .second) in
-    let h = and4 (within 1 64 (inputsIn bs)) (leb (gatesIn bs) 511) (leb (inputsIn bs + gatesIn bs) 512) (within 1 64 (outputsIn bs))
-    (checks→ (headerRules bs) (then-first (checks (headerRules bs)) gs (p .first)) .1 .0) in
-    let g = then-second (checks (headerRules bs)) gs (p .first) in
-    let l = gates-length (gatesIn bs) (inputCounts bs) (drop 8 bs) (p .got) g in
-    let f = gates-fit (gatesIn bs) (inputCounts bs) (drop 8 bs) (p .got) g (ones-fit (inputsIn bs)) in
-    let o = outputs-fit (outputsIn bs) (inputsIn bs) (inputsIn bs + gatesIn bs) (netByNet gateCount 0 (inputCounts bs) (p .got .0)) 0 0 (p .got .1) (q .got) (q .first) (omega arith) in
-    subst Limits (value-inj (then-second (checks ((20, eqb (length (q .got .1)) 0) ∷ [])) _ (q .second)))
-    (record {
-      someInput = leb→le 1 (inputsIn bs) (and-left (leb 1 (inputsIn bs)) (leb (inputsIn bs) 64) (h .0));
-      fewInputs = leb→le (inputsIn bs) 64 (and-right (leb 1 (inputsIn bs)) (leb (inputsIn bs) 64) (h .0));
-      fewNets = omega (arith, l, leb→le (inputsIn bs + gatesIn bs) 512 (h .2));
+    let p = parts bs N e in
+    let h = ranges bs N p in
+    let l = gates-many bs N p in
+    let f = gates-fit (gatesIn bs) (inputCounts bs) (drop 8 bs) (N .gates, p .afterGates) (p .gatesRead) (ones-fit (inputsIn bs)) in
+    let cs = netByNet gateCount 0 (inputCounts bs) (N .gates) in
+    let o =
+    outputs-fit (outputsIn bs) (inputsIn bs) (inputsIn bs + gatesIn bs) cs 0 0 (p .afterGates) (N .outputs, p .afterOutputs) (p .outputsRead) (omega arith) in
+    record {
+      someInput = omega (arith, p .inputsAre, leb→le 1 (inputsIn bs) (and-left (leb 1 (inputsIn bs)) (leb (inputsIn bs) 64) (h .0)));
+      fewInputs = omega (arith, p .inputsAre, leb→le (inputsIn bs) 64 (and-right (leb 1 (inputsIn bs)) (leb (inputsIn bs) 64) (h .0)));
+      fewNets = omega (arith, p .inputsAre, l, leb→le (inputsIn bs + gatesIn bs) 512 (h .2));
       someOutput = omega (arith, o .0, leb→le 1 (outputsIn bs) (and-left (leb 1 (outputsIn bs)) (leb (outputsIn bs) 64) (h .3)));
       fewOutputs = omega (arith, o .0, leb→le (outputsIn bs) 64 (and-right (leb 1 (outputsIn bs)) (leb (outputsIn bs) 64) (h .3)));
-      countsFit = all-fit (netByNet gateCount 0 (inputCounts bs) (p .got .0)) f;
-      totalFits = omega (arith, o .1);
-    })
+      countsFit = rw (p .inputsAre) (all-fit cs f);
+      totalFits = rw (p .inputsAre) (omega (arith, o .1));
+    }
 
 -- The gates of a legal netlist are those that its bytes give one after the other, so a reader needs no check again
 unfoldable pub gatesFrom : ℕ → List ℕ → List Gate

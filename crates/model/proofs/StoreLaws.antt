@@ -17,7 +17,7 @@ use Rattle.model.proofs.ListLaws.{allOf-head, allOf-tail}
 use Rattle.model.proofs.BoolLaws.{both, and-left, and-right}
 use Rattle.model.proofs.AnswerLaws.{AllPass}
 
-length-lowsHighs : (rs : List Run) → length (lowsHighs rs) ≡ 2 * length rs
+pub length-lowsHighs : (rs : List Run) → length (lowsHighs rs) ≡ 2 * length rs
 length-lowsHighs [] = refl
 length-lowsHighs (r ∷ rs) = omega (arith, length-lowsHighs rs)
 

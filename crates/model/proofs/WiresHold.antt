@@ -7,19 +7,19 @@ use mathlib.Core.Logic.{⊎-elim}
 use Prim.Native.Nat.{ℕ, _+_, _*_, _≤_, _<_}
 use native.Mathlib.Omega.{arith}
 use lib.Dec.{T, ltb, leb, ltb→lt, leb→le}
-use lib.ListN.{length, getD, drop}
+use lib.ListN.{length}
 use borrow.Author.Tests.{le-leb, lt-leb}
 use Rattle.model.specs.Base.{refused, value, Rule, checks}
-use Rattle.model.specs.Netlist.{Netlist, outputCounts, outputNet, pathTotal}
-use Rattle.model.specs.Path.{CircuitPath, Edge, rising, falling, Fault, validAt, valid, numberOf}
+use Rattle.model.specs.Netlist.{Netlist, outputNet, pathTotal}
+use Rattle.model.specs.Path.{CircuitPath, Edge, rising, falling, validAt, valid}
 use Rattle.model.specs.Detect.{Test}
 use Rattle.model.specs.Runs.{Run, inRuns, separatedRuns, size}
 use Rattle.model.specs.Read.{within, readNetlist}
 use Rattle.model.specs.Store.{byEdge, ofEdge, storeWords, storeRuns, storeRules}
 use Rattle.model.specs.Calls.{storeRule, pathWords, pathToNumberCall, numberToPathCall, faultCall}
 use Rattle.model.specs.Report.{reportRecord}
-use Rattle.model.specs.Demand3.{Detected, DetectedNumber, RunsOfDetected, CountOf, TrueReport}
-use Rattle.model.specs.Wires.{WireTrue, Wires}
+use Rattle.model.specs.Demand3.{Detected, RunsOfDetected, CountOf, TrueReport}
+use Rattle.model.specs.Wires.{Wires}
 use Rattle.model.proofs.BoolLaws.{and-left, and-right, and3, and4, le-or-lt}
 use Rattle.model.proofs.AnswerLaws.{checks→, →checks, checks-both}
 use Rattle.model.proofs.NumberLaws.{valid-gate, outputCounts-none, numbers-bounds}

@@ -1,8 +1,9 @@
 -- What a survey and the tables by value say to the crates that ask for them, by their answer.
 -- Assumes nothing.
-use Prim.Native.Nat.{ℕ}
+use Prim.Native.Nat.{ℕ, _^_, _≤_}
 use mathlib.Core.Path.{_≡_, refl, sym, ap, subst}
 use mathlib.Core.List.{List}
+use native.Mathlib.Omega.{arith}
 use lib.ListN.{length}
 use Rattle.model.specs.Base.{Answer, refused, value, _>>=_, passes}
 use Rattle.model.specs.Netlist.{Netlist, counts, pathTotal}
@@ -11,10 +12,12 @@ use Rattle.model.specs.Refusals.{refusalNumber}
 use Rattle.model.specs.Calls.{padded, surveyCall, surveyOf}
 use Rattle.model.specs.declared.Refusal.{Refusal}
 use Rattle.model.proofs.AnswerLaws.{not-refused}
-use Rattle.netlist.specs.Answers.{answerOf, surveyData, LegalLoad, LoadIs, LoadedTrue}
+use Rattle.model.proofs.ReadLaws.{limits}
+use Rattle.netlist.specs.Answers.{answerOf, surveyData, SurveyTrue, LegalLoad, LoadIs, LoadedTrue}
 use Rattle.netlist.specs.declared.SurveyAnswer.{SurveyAnswer}
 use Rattle.netlist.specs.declared.SurveyAnswer.the-variants as survey
 use Rattle.netlist.specs.declared.NetlistSurvey.{NetlistSurvey}
+use Rattle.netlist.specs.declared.Surveyed.{Surveyed}
 use Rattle.netlist.specs.declared.inner.Loaded.{Loaded}
 
 -- A survey that is legal: the netlist, and its numbers
@@ -43,6 +46,12 @@ module _ (file : List ℕ) (d : NetlistSurvey) (x : SurveyAnswer) (ax : answerOf
         countsAre = ap (λ (z : NetlistSurvey). z .counts) b;
         totalIs = ap (λ (z : NetlistSurvey). z .total) b;
       }
+
+-- a legal netlist has at most 2^62 paths
+pub paths-fit : (file : List ℕ) (r : Surveyed) → SurveyTrue r file → r .answer ≡ survey.Legal → r .survey .total ≤ 2 ^ 62
+paths-fit file r t e =
+    let s = legal-survey file (r .survey) (r .answer) (t .answer) (t .survey) e in
+    omega (arith, s .totalIs, limits file (s .netlist) (s .isRead) .totalFits)
 
 pub refused-survey : (file : List ℕ) (x : SurveyAnswer) → answerOf x ≡ passes (surveyCall file) → (w : Refusal) → x ≡ survey.Refused w → readNetlist file ≡ refused (refusalNumber w)
 unfolding surveyCall

@@ -5,7 +5,7 @@ use mathlib.Core.Path.{_≡_, refl, sym, ap, ap₂, _∙_, subst}
 use mathlib.Core.List.{List, [], _∷_}
 use native.Mathlib.Omega.{arith}
 use native.Mathlib.Nat.{le-of-suc-le-suc, not-suc-le-zero}
-use lib.ListN.{length, getD, drop, length-drop}
+use lib.ListN.{length, getD, take, drop, length-drop}
 use lib.Seq.{drop-drop, getD-drop}
 use lib.Dec.{T, leb, ltb, leb→le}
 use Rattle.model.specs.Base.{value, _>>_, checks, allOf, field}
@@ -13,12 +13,13 @@ use Rattle.model.specs.Netlist.{Netlist, Gate, netByNet, gateCount, outputCount
 use Rattle.model.specs.Read.{readGates, readOutputs, outputRules, inputsIn, gatesIn, outputsIn, inputCounts, marked}
 use Rattle.model.proofs.AnswerLaws.{steps, then-first, then-second, checks→, value-inj}
 use Rattle.model.proofs.BoolLaws.{and-left, and3, both}
-use Rattle.model.proofs.ReadLaws.{first, nextCounts, outputs-fit}
+use Rattle.model.proofs.ReadLaws.{Parts, first, nextCounts, outputs-fit}
 use Rattle.model.proofs.WellFormed.{ascendingNets}
+use Rattle.records.proofs.PartLaws.{part-rest}
 use Rattle.gate_records.specs.GateReading.{sizeAt}
 use Rattle.netlist.specs.Places.{outputsFrom}
 use Rattle.netlist.specs.Tables.{outputIn}
-use Rattle.netlist.proofs.PlaceLaws.{Parts, long-file, few-nets, next-at}
+use Rattle.netlist.proofs.PlaceLaws.{long-file, few-nets, next-at}
 
 pub below : (n least : ℕ) (us : List ℕ) → T (ascendingNets n least us) → T (allOf (λ p. ltb p n) us)
 unfolding ascendingNets
@@ -113,3 +114,11 @@ outputs-at (suc n) part zero h = refl
 outputs-at (suc n) part (suc o) h =
     let z : 4 + 4 * o ≡ 4 * suc o = omega arith in
     outputs-at n (drop 4 part) o (le-of-suc-le-suc h) ∙ ap outputIn (drop-drop (4 * o) 4 part) ∙ ap (λ j. outputIn (drop j part)) z
+
+-- the part of an output's record, as the code makes it
+module _ (part : List ℕ) (o : ℕ) where
+  pub output-here : (net : ℕ) → net ≡ outputIn (take (length part - 4 * o) (drop (4 * o) part)) → net ≡ outputIn (drop (4 * o) part)
+  output-here net e = e ∙ ap outputIn (part-rest (4 * o) part)
+
+  pub output-long : (outputs : ℕ) → 4 * outputs ≤ length part → o < outputs → 4 ≤ length (take (length part - 4 * o) (drop (4 * o) part))
+  output-long outputs h l = omega (arith, ap length (part-rest (4 * o) part), length-drop (4 * o) part)

@@ -2,18 +2,17 @@
 -- Assumes nothing.
 use Prim.Native.Nat.{ℕ, zero, suc, _+_, _-_, _*_, _≤_, _<_}
 use mathlib.Core.Path.{_≡_, refl, sym, ap, _∙_, subst}
-use mathlib.Core.List.{List, [], _∷_, _++_}
+use mathlib.Core.List.{List, _++_}
 use native.Mathlib.Omega.{arith}
 use native.Mathlib.Nat.{le-of-suc-le-suc, not-suc-le-zero}
 use lib.ListN.{length, getD, drop, replicate, length-append, length-replicate}
-use lib.Dec.{T, leb, eqb, leb→le, eqb→eq}
+use lib.Dec.{T, leb, leb→le}
 use lib.Seq.{getD-drop, drop-drop}
-use Rattle.model.specs.Base.{Answer, value, _>>=_, _>>_, checks}
-use Rattle.model.specs.Netlist.{Netlist, Gate, noGate, netByNet, gateCount, nets, gateOf}
-use Rattle.model.specs.Read.{readNetlist, readGates, readOutputs, gateIn, headerRules, inputsIn, gatesIn, outputsIn, inputCounts, within, pinsFit, marked}
-use Rattle.model.proofs.AnswerLaws.{steps, then-first, then-second, checks→, value-inj, AllPass}
-use Rattle.model.proofs.BoolLaws.{and-left, and4}
-use Rattle.model.proofs.ReadLaws.{first, nextCounts, nextBytes, gatesFrom, gates-are, gates-length}
+use Rattle.model.specs.Base.{value}
+use Rattle.model.specs.Netlist.{Netlist, Gate, noGate, nets, gateOf}
+use Rattle.model.specs.Read.{readNetlist, readGates, gateIn, inputsIn, gatesIn, inputCounts, within, pinsFit, marked}
+use Rattle.model.proofs.BoolLaws.{and-left}
+use Rattle.model.proofs.ReadLaws.{Parts, parts, ranges, gates-many, first, nextCounts, nextBytes, gatesFrom, gates-are}
 use Rattle.gate_records.specs.GateReading.{sizeAt, starts}
 use Rattle.netlist.specs.Places.{positions}
 use Rattle.netlist.specs.Tables.{kindIn, pinCountIn}
@@ -62,51 +61,15 @@ passes-at (suc n) cs s at r e (suc k) h =
     let rest = subst (λ (b : List ℕ). readGates n (nextCounts cs (drop at s)) b ≡ value (f .rest)) (next-at s at) (f .others) in
     passes-at n (nextCounts cs (drop at s)) s (at + sizeAt s at) (f .rest) rest k (le-of-suc-le-suc h)
 
--- What reading a legal netlist took, part by part
-pub record Parts (file : List ℕ) (N : Netlist) : Type 0 where
-  pub header : AllPass (headerRules file)
-  pub afterGates : List ℕ
-  pub gatesRead : readGates (gatesIn file) (inputCounts file) (drop 8 file) ≡ value (N .gates, afterGates)
-  pub afterOutputs : List ℕ
-  pub outputsRead : readOutputs (outputsIn file) (inputsIn file) (inputsIn file + gatesIn file) (netByNet gateCount 0 (inputCounts file) (N .gates)) 0 0 afterGates
-      ≡ value (N .outputs, afterOutputs)
-  pub noMore : length afterOutputs ≡ 0
-
-pub parts : (file : List ℕ) (N : Netlist) → readNetlist file ≡ value N → Parts file N
-unfolding readNetlist
-parts bs N e =
-    let gs = readGates (gatesIn bs) (inputCounts bs) (drop 8 bs) in
-    let os : List Gate × List ℕ → Answer (List ℕ × List ℕ) =
-    λ g. readOutputs (outputsIn bs) (inputsIn bs) (inputsIn bs + gatesIn bs) (netByNet gateCount 0 (inputCounts bs) (g .0)) 0 0 (g .1) in
-    let end : List Gate × List ℕ → List ℕ × List ℕ → Answer Netlist =
-    λ g o. checks ((20, eqb (length (o .1)) 0) ∷ []) >> value (record { inputs = inputsIn bs; gates = g .0; outputs = o .0 }) in
-    let p = steps (checks (headerRules bs) >> gs) (λ g. os g >>= end g) e in
-    let q = steps (os (p .got)) (end (p .got)) (p .second) in
-    let last = checks ((20, eqb (length (q .got .1)) 0) ∷ []) in
-    subst (Parts bs) (value-inj (then-second last _ (q .second)))
-    (record {
-      header = checks→ (headerRules bs) (then-first (checks (headerRules bs)) gs (p .first));
-      afterGates = p .got .1;
-      gatesRead = then-second (checks (headerRules bs)) gs (p .first);
-      afterOutputs = q .got .1;
-      outputsRead = q .first;
-      noMore = eqb→eq (length (q .got .1)) 0 (checks→ ((20, eqb (length (q .got .1)) 0) ∷ []) (then-first last _ (q .second)) .0);
-    })
-
 module _ (file : List ℕ) (N : Netlist) (p : Parts file N) where
   pub long-file : 8 ≤ length file
   long-file = leb→le 8 (length file) (and-left (leb 8 (length file)) (marked 0x4E 0x4C file) (p .header .0))
 
   pub few-nets : inputsIn file + gatesIn file ≤ 512
-  few-nets =
-      leb→le (inputsIn file + gatesIn file) 512
-      (and4 (within 1 64 (inputsIn file)) (leb (gatesIn file) 511) (leb (inputsIn file + gatesIn file) 512) (within 1 64 (outputsIn file)) (p .header .1 .0) .2)
-
-  gates-many : length (N .gates) ≡ gatesIn file
-  gates-many = gates-length (gatesIn file) (inputCounts file) (drop 8 file) (N .gates, p .afterGates) (p .gatesRead)
+  few-nets = leb→le (inputsIn file + gatesIn file) 512 (ranges file N p .2)
 
   pub gates-at : N .gates ≡ gatesFrom (length (N .gates)) (drop 8 file)
-  gates-at = gates-are (gatesIn file) (inputCounts file) (drop 8 file) (N .gates, p .afterGates) (p .gatesRead) ∙ ap (λ n. gatesFrom n (drop 8 file)) (sym gates-many)
+  gates-at = gates-are (gatesIn file) (inputCounts file) (drop 8 file) (N .gates, p .afterGates) (p .gatesRead) ∙ ap (λ n. gatesFrom n (drop 8 file)) (sym (gates-many file N p))
 
 -- The record of the gate that drives a net, at its position
 pub record RecordAt (file : List ℕ) (N : Netlist) (net at : ℕ) : Type 0 where

@@ -14,7 +14,7 @@ use Rattle.model.proofs.BoolLaws.{and-left, and-right}
 use Rattle.model.proofs.ListLaws.{allOf-at}
 use Rattle.model.proofs.NetLaws.{length-counts}
 use Rattle.model.proofs.NumberLaws.{pin-lower}
-use Rattle.model.proofs.ReadLaws.{legal, limits, length-netFields, pins-fit}
+use Rattle.model.proofs.ReadLaws.{parts, legal, limits, length-netFields, pins-fit}
 use Rattle.netlist.specs.Places.{outputsFrom}
 use Rattle.netlist.specs.Tables.{CircuitTables, GatePart, kindIn, pinCountIn, outputIn, gatePart}
 use Rattle.netlist.specs.declared.inner.Shape.{Shape}
@@ -22,7 +22,7 @@ use Rattle.records.proofs.PartLaws.{part-rest}
 use Rattle.netlist.proofs.PinLaws.{fields-at}
 use Rattle.gate_records.proofs.PaddedLaws.{pad-getD}
 use Rattle.netlist.proofs.PaddedOutputs.{pad-counts}
-use Rattle.netlist.proofs.PlaceLaws.{RecordAt, record-at, parts}
+use Rattle.netlist.proofs.PlaceLaws.{RecordAt, record-at}
 use Rattle.netlist.proofs.OutputLaws.{outputs, below, outputs-at}
 
 -- the part that the code makes at a position

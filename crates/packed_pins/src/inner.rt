@@ -44,7 +44,8 @@ pub fn open_set(all: u8, controlling: u8) -> u8
 // The open pins of a gate in class 1, a bit for each, from the values at its pins under V2.
 pub fn open_pins(kind: u8, pins: u8, packed: u8) -> u8
     requires { ⌜ PackedPins kind pins packed ⌝ }
-    ensures { λ r. ⌜ ((ns : List detect.Evaluation) → bitsIn pins packed ≡ map (λ n. n .underV2) ns → (p : ℕ) → p < pins → bit r p ≡ detect.isOpen detect.nonRobust (kindOf kind) ns p) ⌝ }
+    ensures { λ r. ⌜ ((ns : List detect.Evaluation) → bitsIn pins packed ≡ map (λ n. n .underV2) ns
+        → (p : ℕ) → p < pins → bit r p ≡ detect.isOpen detect.nonRobust (kindOf kind) ns p) ⌝ }
 {
     let all = all_pins(pins);
     match kind {

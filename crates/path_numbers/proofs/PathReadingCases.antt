@@ -1,6 +1,6 @@
 -- The cases of reading a path, by what was found in its words.
 -- Assumes nothing.
-use mathlib.Core.Path.{_≡_, refl, ap, ap₂, sym, _∙_, subst}
+use mathlib.Core.Path.{_≡_, refl, ap, ap₂, sym, _∙_}
 use mathlib.Core.Bool.{Bool, true, false, _&&_}
 use mathlib.Core.List.{List}
 use mathlib.Core.Logic.{⊎-elim}
@@ -17,12 +17,13 @@ use Rattle.model.specs.Netlist.{Netlist, pathTotal, nets, outputCounts, outputN
 use Rattle.model.specs.Path.{valid, validAt, numberAt, numberOf, countsBefore}
 use Rattle.model.specs.Calls.{isPath, pathIn}
 use Rattle.model.proofs.BoolLaws.{true→T, bool-cases}
-use Rattle.model.proofs.NumberLaws.{output-net, number-bounds, numbers-bounds, length-outputCounts}
+use Rattle.model.proofs.NumberLaws.{output-net, number-bounds, numbers-bounds}
 use Rattle.model.proofs.ReadLaws.{legal, limits}
 use Rattle.model.proofs.WellFormed.{WellFormed}
 use Rattle.netlist.specs.Tables.{CircuitTables, SomeTables, outputIn}
 use Rattle.netlist.specs.declared.inner.Shape.{Shape}
 use Rattle.records.proofs.PartLaws.{part-rest}
+use Rattle.netlist.proofs.OutputLaws.{output-here}
 use Rattle.netlist.proofs.TableLaws.{few-outputs, outputs-inside, output-is, output-below}
 use Rattle.path_picks.specs.Picks.{RecordsOfOutputs, outputCountsIn}
 use Rattle.path_numbers.specs.PathNumbers.{orZero, numberIn, partialNumber}
@@ -69,7 +70,7 @@ module _ (file ps cs : List ℕ) (shape : Shape) (known : SomeTables file ps cs 
     pub place-net : (net : ℕ) → net ≡ outputIn (take (length outs - 4 * place) (drop (4 * place) outs)) → net < shape .nets
     place-net net en =
         let is : net ≡ outputNet (known .circuit) place =
-        en ∙ ap outputIn (part-rest (4 * place) outs) ∙ ap (λ (x : List ℕ). outputIn (drop (4 * place) x)) eo ∙ output-is t place there in
+        output-here outs place net en ∙ ap (λ (x : List ℕ). outputIn (drop (4 * place) x)) eo ∙ output-is t place there in
         omega (arith, is, output-below t place there)
 
     pub place-sum : sumOf (outputCountsIn outs place (shape .inputs) cs) ≤ 2 ^ 62
@@ -123,7 +124,7 @@ module _ (file ps cs : List ℕ) (shape : Shape) (ws : List ℕ) where
 
           net-is : net ≡ start
           net-is =
-              en ∙ ap outputIn (part-rest (4 * place) outs) ∙ ap (λ (x : List ℕ). outputIn (drop (4 * place) x)) ee ∙ output-is t place there
+              output-here outs place net en ∙ ap (λ (x : List ℕ). outputIn (drop (4 * place) x)) ee ∙ output-is t place there
               ∙ ap (outputNet N) eo
 
           here : getD ws 0 0 < length (N .outputs)

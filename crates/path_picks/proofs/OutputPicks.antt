@@ -1,11 +1,11 @@
 -- The cases of the outputs' records: the output that a number ends at, and the counts before an output.
 -- Assumes nothing.
 use mathlib.Core.Path.{_≡_, refl, sym, ap, _∙_}
-use mathlib.Core.List.{List, map}
+use mathlib.Core.List.{List}
 use Prim.Native.Nat.{ℕ, zero, suc, _+_, _-_, _*_, _^_, _<_, _≤_}
 use native.Mathlib.Omega.{arith}
 use borrow.Author.Needs.{needs}
-use lib.ListN.{length, getD, take, drop, length-map, length-drop}
+use lib.ListN.{length, getD, take, drop, length-map}
 use mir.Val.{Fits}
 use mir.Syntax.{w64}
 use Rattle.model.specs.Base.{sumOf}
@@ -14,11 +14,9 @@ use Rattle.model.specs.Path.{countsBefore}
 use Rattle.model.proofs.ListLaws.{getD-map-in}
 use Rattle.netlist.specs.Places.{outputsFrom}
 use Rattle.netlist.specs.Tables.{outputIn}
-use Rattle.records.proofs.PartLaws.{part-rest}
-use Rattle.netlist.proofs.OutputLaws.{length-outputs, outputs-at}
+use Rattle.netlist.proofs.OutputLaws.{length-outputs, outputs-at, output-here, output-long}
 use Rattle.path_picks.specs.Picks.{RecordsOfOutputs, outputCountsIn, pickOutput}
-use Rattle.path_picks.specs.declared.inner.pins.Pick.{Pick}
-use Rattle.path_picks.proofs.SplitLaws.{Passed, FallsAt, passed-none, passed-here, passed-last, passed-on, before-next, before-small, before-whole}
+use Rattle.path_picks.proofs.SplitLaws.{Passed, passed-none, passed-here, passed-last, passed-on, before-next, before-small, before-whole}
 use Rattle.path_picks.proofs.PinCases.{sum-start}
 
 module _ (part : List ℕ) (n inputs : ℕ) (cs : List ℕ) where
@@ -51,11 +49,11 @@ module _ (part : List ℕ) (n : ℕ) (g : RecordsOfOutputs part n) (o : ℕ) (th
   output-fits h = record { fits = omega (arith, g .inside) }
 
   pub output-room : 4 ≤ length (take (length part - 4 * o) (drop (4 * o) part))
-  output-room = rw (part-rest (4 * o) part) (omega (arith, g .inside, length-drop (4 * o) part))
+  output-room = output-long part o n (g .inside) there
 
   module _ (net : ℕ) (en : net ≡ outputIn (take (length part - 4 * o) (drop (4 * o) part))) where
     net-is : net ≡ outputIn (drop (4 * o) part)
-    net-is = en ∙ ap outputIn (part-rest (4 * o) part)
+    net-is = output-here part o net en
 
     pub output-few : net < 512
     output-few = omega (arith, net-is, g .low o there)

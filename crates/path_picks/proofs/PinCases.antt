@@ -9,14 +9,13 @@ use lib.ListN.{length, getD, drop, length-map}
 use mir.Val.{Fits}
 use mir.Syntax.{w64}
 use Rattle.model.specs.Base.{sumOf}
-use Rattle.model.specs.Path.{countsBefore, split}
+use Rattle.model.specs.Path.{countsBefore}
 use Rattle.model.specs.Read.{netFields}
 use Rattle.model.proofs.ListLaws.{getD-map-in}
 use Rattle.model.proofs.ReadLaws.{length-netFields}
 use Rattle.netlist.specs.Tables.{pinCountIn, pinIn}
 use Rattle.netlist.proofs.PinLaws.{fields-at}
 use Rattle.path_picks.specs.Picks.{PinsIn, pinCountsIn, pickPin}
-use Rattle.path_picks.specs.declared.inner.pins.Pick.{Pick}
 use Rattle.path_picks.proofs.SplitLaws.{Passed, FallsAt, passed-none, passed-here, passed-last, passed-on, before-next, before-small}
 
 -- the counts at the pins

@@ -1,14 +1,13 @@
 -- What the tables of a legal netlist say of its pins and outputs to the walk from an output back to an input.
 -- Assumes nothing.
-use mathlib.Core.Path.{_≡_, ap, ap₂, sym, _∙_, subst}
+use mathlib.Core.Path.{_≡_, ap, sym, _∙_}
 use mathlib.Core.List.{List, map}
-use Prim.Native.Nat.{ℕ, _+_, _-_, _*_, _^_, _<_, _≤_}
+use Prim.Native.Nat.{ℕ, _-_, _*_, _^_, _<_, _≤_}
 use native.Mathlib.Omega.{arith}
-use lib.ListN.{length, getD, take, drop, length-drop}
+use lib.ListN.{length, getD, drop, length-drop}
 use lib.Seq.{ext-getD}
 use Rattle.model.specs.Base.{sumOf}
-use Rattle.model.specs.Netlist.{Netlist, counts, pinsOf, pinNet, pinCounts, outputCount, outputCounts, outputNet}
-use Rattle.model.specs.Path.{countsBefore}
+use Rattle.model.specs.Netlist.{Netlist, counts, pinCounts, outputCount, outputCounts, outputNet}
 use Rattle.model.proofs.NetLaws.{count-gate}
 use Rattle.model.proofs.NumberLaws.{length-pinCounts, pinCounts-at}
 use Rattle.model.proofs.ReadLaws.{legal, limits}

@@ -1,13 +1,12 @@
 -- The cases of the path of a number, by its net.
 -- Assumes nothing.
-use mathlib.Core.Path.{_≡_, refl, ap, ap₂, sym, _∙_, subst}
+use mathlib.Core.Path.{_≡_, refl, ap, ap₂, sym, _∙_}
 use mathlib.Core.List.{List, [], _∷_}
-use Prim.Native.Nat.{ℕ, _+_, _-_, _<_, _≤_}
+use Prim.Native.Nat.{ℕ, _+_, _<_, _≤_}
 use native.Mathlib.Omega.{arith}
 use native.Mathlib.Numerals.{add-one}
 use borrow.Author.Needs.{needs}
 use lib.ListN.{length, getD, set, length-set}
-use lib.Seq.{sets}
 use mir.Val.{Fits}
 use mir.Syntax.{w16}
 use Rattle.model.specs.Netlist.{Netlist, nets, counts, pinNet, pinCounts}
@@ -17,7 +16,7 @@ use Rattle.model.proofs.ReadLaws.{legal}
 use Rattle.model.proofs.WellFormed.{WellFormed}
 use Rattle.netlist.specs.Tables.{CircuitTables, SomeTables, GatePart, gatePart, pinIn}
 use Rattle.netlist.specs.declared.inner.Shape.{Shape}
-use Rattle.netlist.proofs.TableLaws.{gate-part, few-nets, count-at}
+use Rattle.netlist.proofs.TableLaws.{gate-part, count-at}
 use Rattle.path_picks.specs.declared.inner.pins.Pick.{Pick}
 use Rattle.path_picks.specs.Picks.{pinCountsIn, pickPin}
 use Rattle.paths.specs.Tasks.{PinsWritten}

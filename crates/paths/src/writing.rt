@@ -67,7 +67,8 @@ fn descend(
     path: &mut [u16],
     at: usize,
 ) -> usize
-    requires { ⌜ SomeTables (now netlist) (now positions) (now counts) shape × (net < shape .nets) × (1 ≤ number) × (number ≤ getD (now counts) net 0) × (at + net ≤ length (now path)) ⌝ }
+    requires { ⌜ SomeTables (now netlist) (now positions) (now counts) shape
+        × (net < shape .nets) × (1 ≤ number) × (number ≤ getD (now counts) net 0) × (at + net ≤ length (now path)) ⌝ }
     ensures { λ r. ⌜ ((N : Netlist) → CircuitTables N (now (netlist .entry)) (now (positions .entry)) (now (counts .entry)) shape
         → PinsWritten N net number at r (now (path .entry)) (now (path .exit))) ⌝ }
 {

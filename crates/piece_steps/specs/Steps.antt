@@ -5,7 +5,7 @@ use mathlib.Core.Path.{_≡_}
 use mathlib.Core.List.{List, [], _∷_}
 use Prim.Native.Nat.{ℕ, _+_, _≤_}
 use lib.ListN.{length, drop}
-use Rattle.model.specs.Base.{Answer, refused, value, _>>=_, _>>_, checks, passes, after}
+use Rattle.model.specs.Base.{Answer, refused, value, _>>=_, checks, passes, after}
 use Rattle.model.specs.Netlist.{Netlist, pathTotal}
 use Rattle.model.specs.Detect.{Class}
 use Rattle.model.specs.Read.{readNetlist, classOf, recordLength}

@@ -23,7 +23,7 @@ use Rattle.model.proofs.ReadLaws.{limits}
 use Rattle.netlist.specs.Answers.{SurveyTrue}
 use Rattle.netlist.specs.declared.SurveyAnswer.the-variants as survey
 use Rattle.netlist.specs.declared.Surveyed.{Surveyed}
-use Rattle.netlist.proofs.LoadLaws.{legal-survey, refused-survey}
+use Rattle.netlist.proofs.LoadLaws.{paths-fit, legal-survey, refused-survey}
 use Rattle.coverage.proofs.TestCallLaws.{refused-by, taken-by}
 use Rattle.file_block.specs.RecordsTaken.{leftStore}
 use Rattle.file_judging.specs.FileJudging.{wholeLength, endBy, storeChecked, endedOf, soFar, endLegal}
@@ -45,9 +45,7 @@ module _ (netlist : List ℕ) (total first : ℕ) (report ws : List ℕ) (r : Su
         omega (arith, s .inputsAre, limits netlist (s .netlist) (s .isRead) .fewInputs)
 
     pub stage-paths : r .survey .total ≤ 2 ^ 62
-    stage-paths =
-        let s = legal-survey netlist (r .survey) (r .answer) (t .answer) (t .survey) e in
-        omega (arith, s .totalIs, limits netlist (s .netlist) (s .isRead) .totalFits)
+    stage-paths = paths-fit netlist r t e
 
     pub stage-legal : (a : EndAnswer)
         → endedOf a ≡ passes (endLegal (2 + 2 * vectorBytes (r .survey .inputs)) (r .survey .total) total first report ws)

@@ -32,17 +32,11 @@ use Rattle.file_block.specs.declared.inner.TakenRecords.{TakenRecords}
 use Rattle.file_block.proofs.MemoryLaws.{emptied}
 use Rattle.pieces.specs.declared.PieceAnswer.{PieceAnswer}
 use Rattle.pieces.specs.declared.PieceAnswer.the-variants as piece
-use Rattle.piece_steps.specs.declared.inner.Begun.{Begun}
-use Rattle.piece_steps.specs.Steps.{BeginTrue, lentRules, PieceTaken, withPiece, takenWith, pieceStore}
+use Rattle.piece_steps.specs.Steps.{lentRules, PieceTaken, withPiece, takenWith, pieceStore}
 use Rattle.file_records.specs.FileRecords.{Ready}
-use Rattle.pieces.specs.Calls.{BegunTrue, RecordsSaid, pieceOf, recordsSaid, pieceAnswer, pieceCall, pieceLeft, PieceWork, PieceTrue, PieceReady, PieceStaged}
+use Rattle.pieces.specs.Calls.{RecordsSaid, pieceOf, recordsSaid, pieceAnswer, pieceCall, pieceLeft, PieceWork, PieceTrue, PieceReady, PieceStaged}
 use Rattle.file_judging.specs.FileJudging.{storeChecked}
 use Rattle.piece_steps.proofs.StepCases.{lent-words, lent-short, lent-passed}
-
--- The beginning
-pub begun-answer : (r : Begun) (netlist : List ℕ) (class : ℕ) (ws ws′ work : List ℕ) → BeginTrue r netlist class ws ws′ work
-    → BegunTrue (r .answer) netlist class ws ws′ work
-begun-answer r netlist class ws ws′ work t = record { answer = t .answer; store = t .store }
 
 -- A piece on a legal netlist
 module _ (netlist : List ℕ) (loaded : Loaded) (class : ℕ) (bytes ws work : List ℕ) (ready : PieceReady netlist loaded ws work) where

@@ -2,16 +2,16 @@
 -- Assumes nothing.
 use mathlib.Core.Path.{_≡_, refl, ap, ap₂, sym, _∙_}
 use mathlib.Core.List.{List, [], _∷_, _++_, append-nil}
-use Prim.Native.Nat.{ℕ, zero, suc, _+_, _*_, _/_, _%_, _≤_, _<_}
-use native.Mathlib.Nat.{zero-add, suc-add, suc-mul, mul-add-div-right, mod-add-div, mul-comm, div-eq-of-lt}
+use Prim.Native.Nat.{ℕ, _+_, _/_, _%_}
+use native.Mathlib.Nat.{zero-add, div-eq-of-lt}
 use native.Mathlib.Omega.{arith}
-use lib.ListN.{length, take, drop, length-append, length-drop}
-use lib.Seq.{take-append-le, drop-append-le}
+use lib.ListN.{length}
 use Rattle.model.specs.Base.{Answer, refused, value}
 use Rattle.model.specs.Netlist.{Netlist}
 use Rattle.model.specs.Detect.{Class}
 use Rattle.model.specs.Read.{readNetlist, classOf, recordLength}
 use Rattle.model.specs.Report.{records, fileRecords, testAll}
+use Rattle.model.proofs.PieceLaws.{file-records-append}
 use Rattle.netlist.specs.declared.inner.Loaded.{Loaded}
 use Rattle.file_block.specs.RecordsTaken.{fileOf, takenOf}
 use Rattle.file_block.specs.declared.inner.TakenRecords.{TakenRecords}
@@ -19,28 +19,6 @@ use Rattle.file_block.proofs.TakenRecordLaws.{takenThen, then-more, taken-appen
 use Rattle.piece_steps.specs.Steps.{withPiece, takenWith}
 use Rattle.piece_steps.specs.JoinedPieces.{joined, WholeButLast}
 use Rattle.pieces.specs.Together.{MadePiece, bytesOf, Promised, lastAnswer}
-
--- the records of a piece, then those of the rest
-records-append : (len m n : ℕ) (a b : List ℕ) → length a ≡ m * len → records len (m + n) (a ++ b) ≡ records len m a ++ records len n b
-records-append len zero n [] b q = ap (λ (k : ℕ). records len k b) (zero-add n)
-records-append len zero n (x ∷ a) b q = absurd (omega (arith, q))
-records-append len (suc m) n a b q =
-    let l : length a ≡ m * len + len = q ∙ suc-mul m len in
-    let h : len ≤ length a = omega (arith, l) in
-    let d : length (drop len a) ≡ m * len = omega (arith, l, length-drop len a) in
-    ap (λ (k : ℕ). records len k (a ++ b)) (suc-add m n)
-    ∙ ap₂ {C = List (List ℕ)} (λ (r s : List ℕ). r ∷ records len (m + n) s) (take-append-le len a b h) (drop-append-le len a b h)
-    ∙ ap {B = List (List ℕ)} (λ (rs : List (List ℕ)). take len a ∷ rs) (records-append len m n (drop len a) b d)
-
-file-append : (N : Netlist) (piece rest : List ℕ) → length piece % recordLength N ≡ 0 → fileRecords N (piece ++ rest) ≡ fileRecords N piece ++ fileRecords N rest
-file-append N piece rest h =
-    let len : ℕ = recordLength N in
-    let m : ℕ = length piece / len in
-    let pos : zero < len = omega arith in
-    let whole : length piece ≡ m * len = omega (arith, h, mod-add-div (length piece) len, mul-comm len m) in
-    let l : length (piece ++ rest) ≡ m * len + length rest = omega (arith, length-append piece rest, whole) in
-    let n : length (piece ++ rest) / len ≡ m + length rest / len = ap (λ (k : ℕ). k / len) l ∙ mul-add-div-right pos m (length rest) in
-    ap (λ (k : ℕ). records len k (piece ++ rest)) n ∙ records-append len m (length rest / len) piece rest whole
 
 as-then : (N : Netlist) (c : Class) (piece : List ℕ) (x : Answer (List ℕ)) (k : ℕ) → takenWith N c piece x k ≡ takenThen N c (fileRecords N piece) x k
 unfolding takenWith
@@ -58,7 +36,7 @@ taken-both N c piece rest (value ws) k h =
     as-then N c rest x (k + takenOf N c (fileRecords N piece) ws)
     ∙ sym (then-more N c qs x k (takenOf N c (fileRecords N piece) ws))
     ∙ ap (λ (j : ℕ). k + j) (sym (taken-append N c (fileRecords N piece) qs ws))
-    ∙ ap (λ (rs : List (List ℕ)). k + takenOf N c rs ws) (sym (file-append N piece rest h))
+    ∙ ap (λ (rs : List (List ℕ)). k + takenOf N c rs ws) (sym (file-records-append N piece rest h))
 
 -- no piece
 pub taken-none : (N : Netlist) (c : Class) (x : Answer (List ℕ)) (k : ℕ) → k ≡ takenWith N c [] x k

@@ -1,18 +1,17 @@
 -- The loop over the places: the list holds the runs of the places so far.
 -- Assumes nothing.
-use Prim.Native.Nat.{ℕ, zero, suc, _+_, _-_, _*_, _≤_, _<_, _^_}
-use mathlib.Core.Path.{_≡_, refl, sym, ap, ap₂, _∙_, subst, subst⁻¹}
+use Prim.Native.Nat.{ℕ, zero, suc, _+_, _-_, _≤_, _<_, _^_}
+use mathlib.Core.Path.{_≡_, refl, sym, ap, ap₂, _∙_, subst⁻¹}
 use mathlib.Core.List.{List, [], _++_, append-nil}
 use native.Mathlib.Omega.{arith}
 use native.Mathlib.Numerals.{add-one}
 use borrow.Author.Needs.{needs}
 use lib.Dec.{eqb}
-use lib.ListN.{length, getD, take, drop, length-drop}
+use lib.ListN.{length, getD}
 use mir.Val.{Fits}
 use mir.Syntax.{w64}
 use Rattle.model.specs.Runs.{Run}
-use Rattle.netlist.specs.Tables.{outputIn}
-use Rattle.records.proofs.PartLaws.{part-rest}
+use Rattle.netlist.proofs.OutputLaws.{output-here, output-long}
 use Rattle.runs.specs.RunLists.{Sound, onlyIf, addRuns, shiftRuns, runsInWords, writeRuns}
 use Rattle.runs.specs.Answers.{Room, Adds}
 use Rattle.runs.specs.declared.inner.Added.{Added}
@@ -142,13 +141,5 @@ module _ {P : Places} {n : ℕ} {starts ws₀ : List ℕ} {start cap : ℕ} wher
 
 pub ruleset place-cases =
     (places-start, places-same, places-room, places-small, places-done, place-net, place-below, place-sum, place-full, place-more, needs)
-
--- the part of an output's record, as the code makes it
-module _ (part : List ℕ) (place : ℕ) where
-  pub output-here : (net : ℕ) → net ≡ outputIn (take (length part - 4 * place) (drop (4 * place) part)) → net ≡ outputIn (drop (4 * place) part)
-  output-here net e = e ∙ ap outputIn (part-rest (4 * place) part)
-
-  pub output-long : (outputs : ℕ) → 4 * outputs ≤ length part → place < outputs → 4 ≤ length (take (length part - 4 * place) (drop (4 * place) part))
-  output-long outputs h l = omega (arith, ap length (part-rest (4 * place) part), length-drop (4 * place) part)
 
 pub ruleset output-cases = (output-here, output-long, place-cases)

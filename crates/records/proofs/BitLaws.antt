@@ -1,19 +1,26 @@
--- Bits of words: of `and`, `or` and `xor`, and of bytes read low byte first.
+-- Bits of words: of 0 and of a shifted 1, of `and`, `or` and `xor`, and of bytes read low byte first.
 -- Assumes nothing.
 use mathlib.Core.Path.{_≡_, refl, ap, ap₂, sym, _∙_}
 use mathlib.Core.Bool.{Bool, true, false, _&&_, _||_, not, Bool·beq}
 use mathlib.Core.List.{List, [], _∷_}
 use mathlib.Core.Logic.{⊎-elim}
 use Prim.Native.Nat.{ℕ, zero, suc, _+_, _-_, _*_, _/_, _%_, _^_, _≤_, _<_}
-use native.Mathlib.Nat.{mod-lt, not-suc-le-zero}
+use native.Mathlib.Nat.{mod-lt, not-suc-le-zero, div-eq-of-lt}
 use native.Mathlib.Omega.{arith}
 use lib.Bits.{bitAnd, bitOr, bitXor, and-mask, and-shr, or-shr, xor-shr, and-mod, or-mod, xor-mod}
 use lib.Dec.{eqb}
 use lib.ListN.{length, getD}
-use lib.Pow.{shr-shr}
+use lib.Pow.{shr-shr, shl-exact, pow-pos}
 use Rattle.model.specs.Base.{bit, fromLittleEndian}
 use Rattle.model.specs.Read.{inputBit}
 use Rattle.model.proofs.BoolLaws.{le-or-lt}
+
+pub zero-bit : (j : ℕ) → bit 0 j ≡ false
+zero-bit j = rw (div-eq-of-lt {n = 0} {m = 2 ^ j} (pow-pos j)) refl
+
+-- a 1 shifted to the place of a bit, as the code makes it
+pub one-shifted : (j : ℕ) → j < 64 → (1 * 2 ^ j) % 2 ^ 64 ≡ 2 ^ j
+one-shifted j h = let e : 1 * 2 ^ j ≡ 2 ^ j = omega arith in shl-exact {a = 1} 1 j 64 (omega arith) (omega arith) ∙ e
 
 -- Bits of `and`, `or` and `xor`
 pub below-two : (x : ℕ) → x % 2 < 2

@@ -16,11 +16,10 @@ use Rattle.model.specs.Store.{runsByEdge, storeWords, storeRules}
 use Rattle.model.specs.Report.{reportRecord, reportBufferBytes, writerCall, writerAnswer, writerBuffer}
 use Rattle.model.specs.declared.Refusal.{Refusal}
 use Rattle.model.specs.declared.Refusal.the-variants as why
-use Rattle.model.proofs.ReadLaws.{limits}
 use Rattle.netlist.specs.Answers.{SurveyTrue}
 use Rattle.netlist.specs.declared.SurveyAnswer.the-variants as survey
 use Rattle.netlist.specs.declared.Surveyed.{Surveyed}
-use Rattle.netlist.proofs.LoadLaws.{LegalSurvey, legal-survey, refused-survey}
+use Rattle.netlist.proofs.LoadLaws.{LegalSurvey, legal-survey, paths-fit, refused-survey}
 use Rattle.store_words.specs.WordAnswers.{checkOf, totalsIn, totalsBoth}
 use Rattle.store_words.specs.Sound.{SoundWords, edgeWords}
 use Rattle.store_words.specs.declared.inner.StoreCheck.{StoreCheck}
@@ -95,7 +94,7 @@ module _ (netlist ws : List ℕ) (tests : ℕ) (buffer : List ℕ) where
         is = legal-survey netlist (s .survey) (s .answer) (st .answer) (st .survey) e
 
         pub writer-total : s .survey .total ≤ 2 ^ 62
-        writer-total = omega (arith, is .totalIs, limits netlist (is .netlist) (is .isRead) .totalFits)
+        writer-total = paths-fit netlist s st e
 
         module _ (k : StoreCheck) (checked : checkOf k ≡ checks (storeRules (s .survey .total) ws)) where
           rules : checkOf k ≡ checks (storeRules (pathTotal (is .netlist)) ws)

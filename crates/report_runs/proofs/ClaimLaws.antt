@@ -1,22 +1,18 @@
 -- The runs that a report names, in the bytes that hold them.
 -- Assumes nothing.
-use mathlib.Core.Path.{_≡_, refl, ap, ap₂, sym, _∙_}
-use mathlib.Core.List.{List, [], _∷_}
+use mathlib.Core.Path.{_≡_, refl, ap, ap₂, _∙_}
+use mathlib.Core.List.{List, _∷_}
 use Prim.Native.Nat.{ℕ, zero, suc, _+_, _-_, _*_, _/_, _≤_, _<_, min}
 use native.Mathlib.Omega.{arith}
-use native.Mathlib.Nat.{min-eq-left, suc-add, zero-add}
+use native.Mathlib.Nat.{min-eq-left}
 use lib.ListN.{length, take, drop, length-drop}
-use lib.Seq.{length-take-le, take-take, take-nil}
+use lib.Seq.{length-take-le, take-take}
 use Rattle.model.specs.Base.{field, fromLittleEndian}
 use Rattle.model.specs.Path.{rising, falling}
 use Rattle.model.specs.Runs.{Run}
 use Rattle.model.specs.Report.{runsIn, namedRuns}
+use Rattle.model.proofs.ListLaws.{drop-take}
 use Rattle.report_runs.specs.ReportRuns.{runsOfBytes, StatedLength}
-
-drop-take : (n m : ℕ) (l : List ℕ) → drop n (take (n + m) l) ≡ take m (drop n l)
-drop-take zero m l = ap (λ (k : ℕ). take k l) (zero-add m)
-drop-take (suc n) m [] = ap (drop (suc n)) (take-nil {A = ℕ} (suc n + m)) ∙ sym (take-nil {A = ℕ} m)
-drop-take (suc n) m (x ∷ xs) = ap (λ (k : ℕ). drop (suc n) (take k (x ∷ xs))) (suc-add n m) ∙ drop-take n m xs
 
 module _ (m : ℕ) (xs : List ℕ) where
   low-taken : field 0 8 (take (16 + m) xs) ≡ field 0 8 xs

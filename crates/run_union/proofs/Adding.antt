@@ -1,16 +1,16 @@
 -- The invariant of a loop that adds runs to a list in words, one a turn: what is added so far and what is left make the total.
 -- Assumes nothing.
-use Prim.Native.Nat.{ℕ, _+_, _-_, _*_, _≤_, _<_}
+use Prim.Native.Nat.{ℕ, _+_, _*_, _≤_, _<_}
 use mathlib.Core.Path.{_≡_, refl, sym, ap, _∙_, subst}
 use mathlib.Core.Bool.{Bool, true, false, cond}
-use mathlib.Core.List.{List, [], _∷_, _++_}
+use mathlib.Core.List.{List, [], _++_}
 use native.Mathlib.Omega.{arith}
 use lib.Dec.{leb}
 use lib.ListN.{length, take}
 use lib.Seq.{take-all, length-take-le}
 use borrow.Author.Tests.{leb-true, leb-false, le-leb, lt-leb}
 use Rattle.model.specs.Runs.{Run}
-use Rattle.runs.specs.RunLists.{addRun, addRuns, runAt, runsInWords, writeRuns}
+use Rattle.runs.specs.RunLists.{addRuns, runAt, runsInWords, writeRuns}
 use Rattle.runs.specs.Answers.{answer, Adds}
 use Rattle.runs.specs.declared.inner.Added.{Added}
 use Rattle.runs.specs.declared.inner.Added.the-variants.{Count, Full}
@@ -107,7 +107,8 @@ adding-run ws₀ ws start cap n rest total i a h =
 pub as-rest : {ws₀ ws : List ℕ} {start cap n : ℕ} {s t total : List Run} → s ≡ t → Adding ws₀ ws start cap n s total → Adding ws₀ ws start cap n t total
 as-rest {ws₀} {ws} {start} {cap} {n} {total = total} e a = subst (λ s. Adding ws₀ ws start cap n s total) e a
 
-pub adding-runs : (ws₀ ws : List ℕ) (start cap n : ℕ) (rest total : List Run) (f k : ℕ) → Adding ws₀ ws start cap n rest total → f + k ≤ start → runsInWords ws f k ≡ runsInWords ws₀ f k
+pub adding-runs : (ws₀ ws : List ℕ) (start cap n : ℕ) (rest total : List Run) (f k : ℕ)
+    → Adding ws₀ ws start cap n rest total → f + k ≤ start → runsInWords ws f k ≡ runsInWords ws₀ f k
 adding-runs ws₀ ws start cap n rest total f k a h = ap (λ (l : List ℕ). runsInWords l f k) (a .kept) ∙ runs-write-before ws₀ start f k (runsInWords ws start n) h
 
 -- what a call that answers a count left

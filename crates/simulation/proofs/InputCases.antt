@@ -3,17 +3,17 @@
 use mathlib.Core.Path.{_≡_, refl, ap, ap₂, sym, _∙_, subst}
 use mathlib.Core.Bool.{Bool·beq}
 use mathlib.Core.List.{List}
-use mathlib.Core.Logic.{⊎-elim, _⊎_, inl, inr}
-use Prim.Native.Nat.{ℕ, zero, suc, _+_, _/_, _%_, _^_, _≤_, _<_}
-use native.Mathlib.Nat.{not-suc-le-zero, mod-lt}
+use mathlib.Core.Logic.{⊎-elim}
+use Prim.Native.Nat.{ℕ, zero, suc, _+_, _≤_, _<_}
+use native.Mathlib.Nat.{not-suc-le-zero}
 use native.Mathlib.Omega.{arith}
-use lib.Bits.{bitAnd, and-mask}
-use lib.Dec.{eqb, eqb→eq}
+use lib.Dec.{eqb}
 use lib.ListN.{length, getD, set, replicate, length-set, length-replicate}
 use lib.Seq.{getD-set-same, getD-set-other}
 use Rattle.model.specs.Base.{bit}
 use Rattle.model.specs.Detect.{Evaluation}
-use Rattle.model.proofs.BoolLaws.{bool-cases, eqb-false, true→T}
+use Rattle.model.proofs.BoolLaws.{equal-or-not}
+use Rattle.model.proofs.ListLaws.{zeros-at}
 use Rattle.gate_logic.specs.States.{wordOf}
 use Rattle.simulation.specs.StateWords.{stateIn, IsState}
 use Rattle.simulation.specs.Simulated.{inputState, InputStates}
@@ -41,9 +41,6 @@ state-form {c} n e = rw e (word-form n)
 state-told : {c : ℕ} (n : Evaluation) → c ≡ wordOf n → stateIn c ≡ n
 state-told {c} n e = ap stateIn e ∙ word-back n
 
-same-place : (i j : ℕ) → (j ≡ i) ⊎ (j ≡ i → ⊥)
-same-place i j = ⊎-elim (λ e. inl (eqb→eq j i (true→T (eqb j i) e))) (λ e. inr (eqb-false j i e)) (bool-cases (eqb j i))
-
 -- an array with one entry set
 module _ (array : List ℕ) (i c : ℕ) (l : i < length array) where
   pub set-each : (form : ℕ → Type 0) → form c → ((k : ℕ) → form (getD array k 0)) → (k : ℕ) → form (getD (set array i c) k 0)
@@ -51,7 +48,7 @@ module _ (array : List ℕ) (i c : ℕ) (l : i < length array) where
       ⊎-elim
       (λ (e : k ≡ i). subst (λ j. form (getD (set array i c) j 0)) (sym e) (subst form (sym (getD-set-same array i c 0 l)) h))
       (λ (n : k ≡ i → ⊥). subst form (sym (getD-set-other array i k c 0 n)) (b k))
-      (same-place i k)
+      (equal-or-not k i)
 
   -- what holds of the entries before i, and of the new one at i, holds of those before i + 1
   pub set-more : (P : ℕ → ℕ → Type 0) → P i c → ((k : ℕ) → k < i → P k (getD array k 0)) → (k : ℕ) → k < i + 1 → P k (getD (set array i c) k 0)
@@ -59,7 +56,7 @@ module _ (array : List ℕ) (i c : ℕ) (l : i < length array) where
       ⊎-elim
       (λ (e : k ≡ i). subst (λ j. P j (getD (set array i c) j 0)) (sym e) (subst (λ x. P i x) (sym (getD-set-same array i c 0 l)) h))
       (λ (n : k ≡ i → ⊥). subst (λ x. P k x) (sym (getD-set-other array i k c 0 n)) (b k (below k i n m)))
-      (same-place i k)
+      (equal-or-not k i)
     where
       below : (k i : ℕ) → (k ≡ i → ⊥) → k < i + 1 → k < i
       below k i n m = omega arith
@@ -69,18 +66,13 @@ pub record InputsTo (first last inputs i : ℕ) (array : List ℕ) : Type 0 wher
   pub within : i ≤ inputs
   pub filled : InputStates first last i array
 
-zero-at : (n i : ℕ) → getD {A = ℕ} (replicate n 0) i 0 ≡ 0
-zero-at zero i = refl
-zero-at (suc n) zero = refl
-zero-at (suc n) (suc i) = zero-at n i
-
 module _ (first last inputs : ℕ) where
   pub inputs-start : InputsTo first last inputs 0 (replicate 512 0)
   inputs-start =
       let z : IsState 0 = record { low = omega arith; mid = omega arith; high = omega arith } in
       record {
         within = omega arith;
-        filled = record { room = length-replicate {A = ℕ} 512 0; each = λ i. subst IsState (sym (zero-at 512 i)) z; same = λ i h. absurd (not-suc-le-zero h) };
+        filled = record { room = length-replicate {A = ℕ} 512 0; each = λ i. subst IsState (sym (zeros-at 512 i)) z; same = λ i h. absurd (not-suc-le-zero h) };
       }
 
   module _ (i : ℕ) (array : List ℕ) where

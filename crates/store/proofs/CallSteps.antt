@@ -3,8 +3,7 @@
 use mathlib.Core.Path.{_≡_, refl, ap, _∙_}
 use mathlib.Core.Bool.{Bool}
 use mathlib.Core.List.{List, [], _∷_}
-use Prim.Native.Nat.{ℕ, _≤_, _^_}
-use native.Mathlib.Omega.{arith}
+use Prim.Native.Nat.{ℕ}
 use borrow.Author.Tests.{eq-eqb, ne-eqb}
 use lib.ListN.{length, replicate}
 use Rattle.model.specs.Base.{Answer, refused, _>>=_, _>>_, checks}
@@ -15,7 +14,6 @@ use Rattle.model.specs.Calls.{storeRule, emptyCall, emptiedStore, totalsCall, f
 use Rattle.model.specs.Refusals.{refusalNumber}
 use Rattle.model.specs.declared.Refusal.{Refusal}
 use Rattle.model.specs.declared.Refusal.the-variants as why
-use Rattle.model.proofs.ReadLaws.{limits}
 use Rattle.netlist.specs.Answers.{SurveyTrue}
 use Rattle.netlist.specs.declared.SurveyAnswer.the-variants as survey
 use Rattle.netlist.specs.declared.Surveyed.{Surveyed}
@@ -56,12 +54,6 @@ module _ {A : Type 0} (netlist ws : List ℕ) (f : ℕ → Answer A) where
     legal e =
         let s = legal-survey netlist (r .survey) (r .answer) (t .answer) (t .survey) e in
         rw (eq-eqb (length ws) storeWords l, s .isRead) (ap f (s .totalIs))
-
--- a legal netlist has at most 2^62 paths
-pub paths-fit : (netlist : List ℕ) (r : Surveyed) → SurveyTrue r netlist → r .answer ≡ survey.Legal → r .survey .total ≤ 2 ^ 62
-paths-fit netlist r t e =
-    let s = legal-survey netlist (r .survey) (r .answer) (t .answer) (t .survey) e in
-    omega (arith, s .totalIs, limits netlist (s .netlist) (s .isRead) .totalFits)
 
 -- ---- totals
 

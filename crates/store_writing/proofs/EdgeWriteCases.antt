@@ -15,7 +15,7 @@ use Rattle.model.specs.Path.{Edge, rising, falling}
 use Rattle.model.specs.Runs.{Run}
 use Rattle.model.specs.Store.{ByEdge, ofEdge, maxRuns, placeWords, headWords, storeWords, countWord, firstWord, runCount, runsAt, lowsHighs, places, storeOf, storeRuns, runsByEdge, storeRules}
 use Rattle.model.proofs.AnswerLaws.{checks→}
-use Rattle.model.proofs.StoreLaws.{length-places, length-runsAt, runCount-store, runs-store, length-store, store-runs}
+use Rattle.model.proofs.StoreLaws.{length-lowsHighs, length-places, length-runsAt, runCount-store, runs-store, length-store, store-runs}
 use Rattle.records.proofs.PartLaws.{part-rest}
 use Rattle.runs.specs.RunLists.{runsInWords, writeRuns}
 use Rattle.runs.proofs.RunWordLaws.{length-runs, runs-of-part}
@@ -26,16 +26,11 @@ use Rattle.store_writing.specs.declared.inner.Change.the-variants.{Kept,
 use Rattle.store_words.proofs.SoundLaws.{sound-words}
 use Rattle.store_writing.proofs.EdgeWriteLaws.{padded-places, length-padded, write-block, length-replaced}
 
-length-lows : (rs : List Run) → length rs ≤ maxRuns → length (lowsHighs rs) ≡ 2 * length rs
-length-lows rs h =
-    let n : length (replicate {A = ℕ} (placeWords - 2 * length rs) 0) ≡ placeWords - 2 * length rs = length-replicate {A = ℕ} (placeWords - 2 * length rs) 0 in
-    omega (arith, length-places rs h, length-append (lowsHighs rs) (replicate (placeWords - 2 * length rs) 0))
-
 -- the words of an edge's places after its runs
 zero-after : (pre post : List ℕ) (rs : List Run) (k i : ℕ) → length pre ≡ k → length rs ≤ maxRuns → k + 2 * length rs ≤ i → i < k + placeWords
     → getD (pre ++ (places rs ++ post)) i 0 ≡ 0
 zero-after pre post rs k i e h a b =
-    let l : length (pre ++ lowsHighs rs) ≡ k + 2 * length rs = length-append pre (lowsHighs rs) ∙ omega (arith, e, length-lows rs h) in
+    let l : length (pre ++ lowsHighs rs) ≡ k + 2 * length rs = length-append pre (lowsHighs rs) ∙ omega (arith, e, length-lowsHighs rs) in
     let j : length (pre ++ lowsHighs rs) + (i - (k + 2 * length rs)) ≡ i = omega (arith, l) in
     let n : length (replicate {A = ℕ} (placeWords - 2 * length rs) 0) ≡ placeWords - 2 * length rs = length-replicate {A = ℕ} (placeWords - 2 * length rs) 0 in
     ap (λ (ws : List ℕ). getD ws i 0)

@@ -17,11 +17,11 @@ use Rattle.model.specs.Calls.{beforeTest}
 use Rattle.model.specs.Report.{fileRecords, wholeRecords, testAll, writerCall, reportRecord, reportRules}
 use Rattle.model.specs.Demand3.{Acceptable}
 use Rattle.model.specs.declared.Refusal.{Refusal}
-use Rattle.model.proofs.AnswerLaws.{not-refused}
 use Rattle.file_block.specs.RecordsTaken.{fileOf, leftStore}
 use Rattle.file_judging.specs.declared.AuditAnswer.{AuditAnswer}
 use Rattle.file_judging.specs.declared.AuditAnswer.the-variants as audit
 use Rattle.report.specs.declared.WriteAnswer.the-variants as write
+use Rattle.coverage.proofs.TestCallLaws.{refused-by}
 use Rattle.audit.proofs.PromisesHold.{calls-true}
 use Rattle.piece_steps.specs.declared.BeginAnswer.the-variants as beginning
 use Rattle.piece_steps.specs.declared.inner.Begun.{Begun}
@@ -36,11 +36,6 @@ use Rattle.file_walk.specs.Walked.{fileTaken, Walked}
 use Rattle.test_file.specs.TrueReport.{Wrote, lengthIn, withReport, writerAfter}
 use Rattle.test_file.specs.Streams.{fileCall, fileStore, trueReport, takenBy, StreamRead, StreamAudited, StreamReported}
 use Rattle.test_file.proofs.TrueReportCases.{all-taken, few-tests}
-
--- what passes nowhere is refused with the same number
-same-number : (x : Answer Netlist) (n : ℕ) → refused n ≡ passes x → x ≡ refused n
-same-number (refused k) n q = let e : k ≡ n = cc in ap (λ (j : ℕ). refused j) e
-same-number (value N) n q = absurd (not-refused q)
 
 -- 33 is checked once or twice
 twice : (b : Bool) (x : Answer (List ℕ)) (f : List ℕ → Answer (List ℕ))
@@ -60,7 +55,7 @@ module _ (netlist : List ℕ) (class : ℕ) (ws ws₀ work : List ℕ) (b : Begu
     (w : Refusal) (q : b .answer ≡ beginning.Refused w) (truth space : List ℕ) where
   before-refused : beforeTest netlist class ws work ≡ refused (refusalNumber w)
   unfolding beginAnswer
-  before-refused = same-number (beforeTest netlist class ws work) (refusalNumber w) (sym (ap begunOf q) ∙ t .answer)
+  before-refused = refused-by (beforeTest netlist class ws work) (refusalNumber w) (sym (ap begunOf q) ∙ t .answer)
 
   no-file : fileCall netlist class [] ws work ≡ refused (refusalNumber w)
   unfolding fileCall

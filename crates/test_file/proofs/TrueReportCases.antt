@@ -8,9 +8,8 @@ use mir.Val.{Fits}
 use mir.Syntax.{w32}
 use borrow.Author.Needs.{needs}
 use lib.Dec.{leb, eqb, leb→le}
-use lib.ListN.{length, take, drop, length-append}
-use lib.Seq.{length-take-le}
-use Rattle.model.specs.Base.{Answer, refused, value, _>>=_, _>>_, checks}
+use lib.ListN.{length, drop, length-append}
+use Rattle.model.specs.Base.{Answer, refused, value, _>>=_, checks}
 use Rattle.model.specs.Netlist.{Netlist}
 use Rattle.model.specs.Detect.{Class}
 use Rattle.model.specs.Read.{recordLength, readNetlist, classOf}
@@ -28,9 +27,11 @@ use Rattle.report.specs.declared.WriteAnswer.{WriteAnswer}
 use Rattle.report.specs.declared.WriteAnswer.the-variants as write
 use Rattle.coverage.specs.declared.inner.StageAnswer.{StageAnswer}
 use Rattle.coverage.specs.declared.inner.StageAnswer.the-variants as stage
+use Rattle.file_judging.specs.FileJudging.{mostRecords}
 use Rattle.file_walk.specs.declared.inner.Walk.{Walk}
 use Rattle.test_file.specs.declared.writing.Written.{Written}
 use Rattle.file_walk.specs.Walked.{fileTaken, Walked}
+use Rattle.file_reading.proofs.ReadPieceLaws.{part-length}
 use Rattle.test_file.specs.TrueReport.{Wrote, lengthIn, withReport, writerAfter}
 
 -- a file that is taken whole
@@ -39,13 +40,13 @@ module _ (N : Netlist) (c : Class) (testFile left : List ℕ) (q : fileTaken N c
   unfolding fileTaken
   all-taken = taken-all N c (fileRecords N testFile) emptyStore left (then-second (checks ((33, wholeRecords N testFile) ∷ [])) _ q)
 
-  pub few-records : length (fileRecords N testFile) ≤ 4294967295
+  pub few-records : length (fileRecords N testFile) ≤ mostRecords
   unfolding fileTaken
   few-records =
       let len : ℕ = recordLength N in
       let p = checks→ ((33, wholeRecords N testFile) ∷ []) (then-first (checks ((33, wholeRecords N testFile) ∷ [])) (testAll N c (fileRecords N testFile) emptyStore) q) in
-      let t = and-right (eqb (length testFile % len) 0) (leb (length testFile / len) 4294967295) (p .0) in
-      omega (arith, leb→le (length testFile / len) 4294967295 t, length-records len (length testFile / len) testFile)
+      let t = and-right (eqb (length testFile % len) 0) (leb (length testFile / len) mostRecords) (p .0) in
+      omega (arith, leb→le (length testFile / len) mostRecords t, length-records len (length testFile / len) testFile)
 
 -- so the number of tests fits its field
 module _ (walk : Walk) (netlist : List ℕ) (loaded : Loaded) (class : ℕ) (space ws work work′ : List ℕ)
@@ -113,7 +114,4 @@ module _ (netlist ws : List ℕ) (answer : StageAnswer) (taken : ℕ) (r : Writt
       → r .length ≡ lengthIn (writtenOf a) → r .length ≤ length truth′
   some-within truth′ a q t s l = wrote-within r (writerAfter netlist (fileOf answer ws) taken truth) truth truth′ (wrote-some truth′ a q t s l)
 
-pub counted : (n : ℕ) (l : List ℕ) → n ≤ length l → n ≡ length (take n l)
-counted n l h = sym (length-take-le n l h)
-
-pub ruleset wrote-cases = (wrote-none, wrote-some, none-within, some-within, counted, needs)
+pub ruleset wrote-cases = (wrote-none, wrote-some, none-within, some-within, part-length, needs)

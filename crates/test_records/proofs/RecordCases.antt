@@ -3,7 +3,7 @@
 use mathlib.Core.Path.{_≡_, refl, ap, sym, _∙_}
 use mathlib.Core.Bool.{Bool, true, false, _&&_, not}
 use mathlib.Core.List.{List, [], _∷_}
-use Prim.Native.Nat.{ℕ, zero, suc, _+_, _-_, _*_, _/_, _%_, _^_, _≤_, _<_}
+use Prim.Native.Nat.{ℕ, suc, _+_, _-_, _*_, _/_, _%_, _^_, _≤_, _<_}
 use native.Mathlib.Nat.{zero-add}
 use native.Mathlib.Omega.{arith}
 use borrow.Author.Needs.{needs}
@@ -17,7 +17,7 @@ use Rattle.model.specs.Read.{marked, vectorBytes, inputBit, vector, spareZero, 
 use Rattle.model.specs.declared.Refusal.the-variants as why
 use Rattle.model.proofs.BoolLaws.{le-true}
 use Rattle.records.proofs.PartLaws.{part-rest}
-use Rattle.model.proofs.ListLaws.{getD-map-in, length-numbersFrom, numbersFrom-at}
+use Rattle.model.proofs.ListLaws.{getD-map-in, take-bytes, length-numbersFrom, numbersFrom-at}
 use Rattle.test_records.specs.Records.{RecordTrue, VectorsTrue, EdgesTrue}
 use Rattle.test_records.specs.declared.inner.RecordAnswer.the-variants.{Legal, Refused}
 use Rattle.test_records.specs.declared.inner.Vectors.{Vectors}
@@ -158,16 +158,10 @@ part-bits test at inputs bytes w s eb h e j l =
     let q : j / 8 < bytes = rw eb (omega arith) in
     let n : length (take bytes (drop at test)) ≡ bytes = length-take-le bytes (drop at test) (simp length-drop (omega arith)) in
     let w′ : w ≡ fromLittleEndian (take bytes (drop at test)) = e ∙ ap (λ x. fromLittleEndian (take bytes x)) (part-rest at test) in
-    let small : (i : ℕ) → getD (take bytes (drop at test)) i 0 < 256 = λ i. take-small bytes (drop at test) (λ k. rw getD-drop (s (at + k))) i in
+    let small : (i : ℕ) → getD (take bytes (drop at test)) i 0 < 256 = take-bytes bytes (drop at test) (λ k. rw getD-drop (s (at + k))) in
     let b : getD (take bytes (drop at test)) (j / 8) 0 ≡ getD (drop at test) (j / 8) 0 = getD-take bytes (drop at test) (j / 8) 0 q in
     ap (λ x. bit x j) w′ ∙ word-bit (take bytes (drop at test)) small j (omega arith)
     ∙ ap (λ x. bit x (j % 8)) b ∙ sym (vector-at inputs (drop at test) j l)
-  where
-    take-small : (n : ℕ) (xs : List ℕ) → ((k : ℕ) → getD xs k 0 < 256) → (i : ℕ) → getD (take n xs) i 0 < 256
-    take-small zero xs h i = omega arith
-    take-small (suc n) [] h i = omega arith
-    take-small (suc n) (x ∷ xs) h zero = h 0
-    take-small (suc n) (x ∷ xs) h (suc i) = take-small n xs (λ k. h (suc k)) i
 
 module _ {test : List ℕ} {inputs bytes : ℕ} (small : (i : ℕ) → getD test i 0 < 256) (eb : bytes ≡ vectorBytes inputs) (l : length test ≡ 2 + 2 * vectorBytes inputs) where
   pub vectors-true : {r : Vectors} → r .v1 ≡ fromLittleEndian (take bytes (take (length test - 2) (drop 2 test)))

@@ -1,8 +1,7 @@
 -- Small examples of text, computed from the definitions.
 -- Assumes nothing.
 use mathlib.Core.Path.{_≡_, refl}
-use mathlib.Core.List.{List, [], _∷_}
-use Prim.Native.Nat.{ℕ}
+use mathlib.Core.List.{[], _∷_}
 use Rattle.text.specs.Decimal.{digitsOf, decimalText, refusedText}
 
 -- `0`, `10`, the largest number of 64 bits, and `refused 72`

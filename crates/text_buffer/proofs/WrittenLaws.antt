@@ -1,13 +1,13 @@
 -- Text written into a buffer, one part after the other.
 -- Assumes nothing.
 use mathlib.Core.Path.{_≡_, refl, ap, sym, _∙_, subst}
-use mathlib.Core.List.{List, [], _∷_, _++_}
+use mathlib.Core.List.{List, [], _++_}
 use Prim.Native.Nat.{ℕ, _+_, _≤_, _<_}
 use native.Mathlib.Numerals.{add-one}
 use native.Mathlib.Omega.{arith}
 use borrow.Author.Tests.{lt-ltb, le-ltb}
 use lib.ListN.{length, take, drop, length-append}
-use lib.Seq.{sets, sets-eq, length-sets, take-at, length-take-le}
+use lib.Seq.{sets, sets-eq, length-sets, take-at, drop-at, length-take-le}
 use Rattle.io.specs.Counts.{Counts}
 use Rattle.records.proofs.ByteLaws.{sets-append}
 use Rattle.text_buffer.specs.Written.{Written, eachBelow, inRoom}
@@ -39,13 +39,26 @@ written-as {out} {out′} {at} {r} e p = subst (λ (x : List ℕ). Written out o
 pub written-length : {out out′ : List ℕ} {at r : ℕ} {t : List ℕ} → Written out out′ at t r → length out′ ≡ length out
 written-length {out} {out′} {at} {r} {t} p = ap (length {A = ℕ}) (p .bytes) ∙ length-sets out at t
 
+-- the buffer up to a text's end, and past it
+module _ {out out′ : List ℕ} {at r : ℕ} {t : List ℕ} (p : Written out out′ at t r) where
+  fits : at + length t ≤ length out
+  fits = omega (arith, p .place, p .inside, written-length p)
+
+  split : out′ ≡ take at out ++ t ++ drop (at + length t) out
+  split = p .bytes ∙ sets-eq t out at fits
+
+  text-end : length (take at out ++ t) ≡ r
+  text-end = omega (arith, length-append (take at out) t, length-take-le at out (omega (arith, fits)), p .place)
+
+  pub written-taken : take r out′ ≡ take at out ++ t
+  written-taken = ap (take r) split ∙ take-at (take at out ++ t) (drop (at + length t) out) r text-end
+
+  pub written-past : drop r out′ ≡ drop r out
+  written-past = ap (drop r) split ∙ drop-at (take at out ++ t) (drop (at + length t) out) r text-end ∙ ap (λ (k : ℕ). drop k out) (sym (p .place))
+
 -- the text at the start of the buffer
 pub first-bytes : {out out′ : List ℕ} {r : ℕ} {t : List ℕ} → Written out out′ 0 t r → take r out′ ≡ t
-first-bytes {out} {out′} {r} {t} p =
-    let same : length out′ ≡ length out = written-length p in
-    let count : length t ≡ r = omega (arith, p .place) in
-    let fits : 0 + length t ≤ length out = omega (arith, p .inside) in
-    ap (take r) (p .bytes ∙ sets-eq t out 0 fits) ∙ take-at t (drop (0 + length t) out) r count
+first-bytes p = written-taken p
 
 pub counts-bytes : {out out′ : List ℕ} {r : ℕ} {t : List ℕ} → Written out out′ 0 t r → Counts r out′
 counts-bytes {out} {out′} {r} {t} p = (p .inside, sym (length-take-le r out′ (p .inside)))

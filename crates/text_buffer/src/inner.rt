@@ -1,6 +1,5 @@
 // Each caller proves that there is room. A function puts one line, with its end, from a place on; it returns the place after it.
 ghost use mathlib.Core.Path.{_≡_};
-ghost use mathlib.Core.List.{[], _∷_, _++_};
 ghost use Prim.Native.Nat.{_+_, _≤_};
 ghost use lib.ListN.{length};
 ghost use Rattle.text.specs.Lines.{textOf};

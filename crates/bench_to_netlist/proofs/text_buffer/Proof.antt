@@ -1,6 +1,5 @@
 -- `bench_to_netlist::text_buffer` meets its contract, by the law of a repeated value's length.
 -- Assumes nothing.
-use borrow.Author.Needs.{needs}
 use mathlib.Core.Path.{sym}
 use Prim.Native.Nat.{ℕ}
 use lib.ListN.{length-replicate}

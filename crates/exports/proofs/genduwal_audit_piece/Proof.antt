@@ -1,7 +1,7 @@
 -- `exports::genduwal_audit_piece` meets its contract: code and words are those of the answer of the call beneath. Assumes nothing.
 use mathlib.Core.Path.{ap}
 use borrow.Author.Needs.{needs}
-use Rattle.answers.specs.Codes.{allTaken}
+use Rattle.answers.specs.Answers.{allTaken}
 use Rattle.exports.proofs.CallCases.{answered-by}
 use Rattle.exports.proofs.genduwal_audit_piece.Statement.{statement}
 use Rattle.exports.proofs.genduwal_audit_piece.Tie as tie

@@ -2,9 +2,8 @@
 -- Assumes nothing.
 use mathlib.Core.Path.{_≡_, _∙_}
 use mathlib.Core.List.{List, []}
-use Prim.Native.Nat.{ℕ, _≤_}
+use Prim.Native.Nat.{ℕ}
 use native.Mathlib.Omega.{arith}
-use lib.ListN.{length}
 use Rattle.text.specs.Lines.{ascii, textOf, onLine}
 use Rattle.text.proofs.LineLaws.{first-part, onLine-alone}
 use Rattle.text_buffer.proofs.WrittenLaws.{no-room, room-there, first-bytes, counts-bytes}

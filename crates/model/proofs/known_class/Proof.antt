@@ -7,8 +7,6 @@ use borrow.Author.Tests.{le-leb, lt-leb}
 use Rattle.model.specs.Read.{within}
 use Rattle.model.proofs.known_class.Statement.{statement}
 use Rattle.model.proofs.known_class.Tie as tie
-use Rattle.model.proofs.known_class.Reads as reads
-use Rattle.model.proofs.known_class.Lts as lts
 
 one-or-more : (class : ℕ) → 1 ≤ class → leb class 2 ≡ within 1 2 class
 one-or-more class h = rw (le-leb 1 class h) refl

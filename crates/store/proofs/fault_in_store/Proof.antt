@@ -1,6 +1,7 @@
 -- `store::fault_in_store` meets its contract: the length of the store, then the survey, then the question for its number of paths.
 -- Assumes nothing.
-use Rattle.store.proofs.CallSteps.{paths-fit, fault-short, fault-not-legal, fault-legal}
+use Rattle.netlist.proofs.LoadLaws.{paths-fit}
+use Rattle.store.proofs.CallSteps.{fault-short, fault-not-legal, fault-legal}
 use borrow.Author.Needs.{needs}
 use Rattle.store.proofs.fault_in_store.Statement.{statement}
 use Rattle.store.proofs.fault_in_store.Tie as tie

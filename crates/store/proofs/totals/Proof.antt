@@ -1,6 +1,7 @@
 -- `store::totals` meets its contract: the length of the store, then the survey, then the totals for its number of paths.
 -- Assumes nothing.
-use Rattle.store.proofs.CallSteps.{paths-fit, totals-short, totals-not-legal, totals-legal}
+use Rattle.netlist.proofs.LoadLaws.{paths-fit}
+use Rattle.store.proofs.CallSteps.{totals-short, totals-not-legal, totals-legal}
 use borrow.Author.Needs.{needs}
 use Rattle.store.proofs.totals.Statement.{statement}
 use Rattle.store.proofs.totals.Tie as tie

@@ -1,7 +1,7 @@
 -- `listing_text::inner::put_run` meets its contract: the letter of the edge, then two numbers.
 -- Assumes nothing.
 use native.Mathlib.Omega.{arith}
-use Rattle.listing_text.proofs.PutLaws.{put-made, put-then}
+use Rattle.text_buffer.proofs.WrittenLaws.{written, then-written}
 use borrow.Author.Needs.{needs}
 use Rattle.listing_text.proofs.inner.put_run.Statement.{statement}
 use Rattle.listing_text.proofs.inner.put_run.Tie as tie
@@ -23,7 +23,7 @@ returns c =
     let a = at-start .args in
     let p1 = at-letter .put-text in
     let p2 = at-numbers .put-pair in
-    put-then (put-made (a .out .now) (p1 .last .0) (a .at) (a .letter .now) (p1 .result) (omega (arith, at-start .pre)) (p1 .ensures)) (p2 .ensures)
+    then-written (written {out = a .out .now} {at = a .at} {t = a .letter .now} (omega (arith, at-start .pre)) (p1 .ensures)) (p2 .ensures)
 
 pub put-run-spec : {M : Type 1} → statement M
 put-run-spec = tie.close (tie.spec put-text-requires put-pair-requires same-length returns)

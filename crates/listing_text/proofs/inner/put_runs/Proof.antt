@@ -7,7 +7,7 @@ use native.Mathlib.Omega.{arith}
 use borrow.Author.Needs.{needs}
 use lib.ListN.{length}
 use lib.Seq.{sets}
-use Rattle.listing_text.proofs.PutLaws.{put-length}
+use Rattle.text_buffer.proofs.WrittenLaws.{written-length}
 use Rattle.listing_text.proofs.RunSteps.{runsLeft, run-length, runs-step, runs-bytes, runs-end}
 use Rattle.listing_text.proofs.inner.put_runs.Statement.{statement}
 use Rattle.listing_text.proofs.inner.put_runs.Tie as tie
@@ -60,7 +60,7 @@ loop-again c =
     let letter = s .args .letter .now in
     let words = s .args .runs .now in
     let some = test .loop-test .taken in (
-      put-length (p .ensures) ∙ l .inv .0,
+      written-length (p .ensures) ∙ l .inv .0,
       omega arith,
       omega (arith, p .ensures .place, run-length letter words (l .place) (l .left) (s .pre .0), l .inv .2),
       runs-step letter words (l .out) (p .last .0) (l .place) (l .left) (l .at) (p .result) some (p .ensures) ∙ l .inv .3,

@@ -1,7 +1,7 @@
 -- `records::inner::put` meets its contract: what is left to write, written, gives the whole.
 -- Assumes nothing.
 use mathlib.Core.Path.{_≡_, sym, _∙_}
-use Prim.Native.Nat.{_+_, _-_}
+use Prim.Native.Nat.{_+_}
 use native.Mathlib.Omega.{arith}
 use borrow.Author.Needs.{needs}
 use lib.ListN.{length, length-set}
@@ -12,7 +12,8 @@ use Rattle.records.proofs.inner.put.Statement.{statement}
 use Rattle.records.proofs.inner.put.Tie as tie
 
 abbrev Inv-loop : tie.InvT-loop
-Inv-loop s₀ at k number place₀ left₀ rest₀ s place left rest = (length s ≡ length s₀) × (place + left ≡ at + k) × (sets s place (littleEndian left rest) ≡ sets s₀ at (littleEndian k number))
+Inv-loop s₀ at k number place₀ left₀ rest₀ s place left rest =
+    (length s ≡ length s₀) × (place + left ≡ at + k) × (sets s place (littleEndian left rest) ≡ sets s₀ at (littleEndian k number))
 
 abbrev μ-loop : tie.MeasureT-loop
 μ-loop s₀ at k number place₀ left₀ rest₀ s place left rest = left

@@ -4,9 +4,6 @@ use Rattle.run_union.proofs.ShiftedCases.{nothing-more, first-run, plac
 use borrow.Author.Needs.{needs}
 use Rattle.run_union.proofs.inner.append_rest.Statement.{statement}
 use Rattle.run_union.proofs.inner.append_rest.Tie as tie
-use Rattle.run_union.proofs.inner.append_each.Reads as append-each-reads
-use Rattle.run_union.proofs.inner.fit_after.Reads as fit-after-reads
-use Rattle.run_union.proofs.inner.place_shifted.Reads as place-shifted-reads
 
 returns : tie.Need-returns
 returns c = search (nothing-more, needs)

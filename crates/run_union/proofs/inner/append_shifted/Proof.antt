@@ -4,8 +4,6 @@ use Rattle.run_union.proofs.ShiftedCases.{nothing-more, first-run, firs
 use borrow.Author.Needs.{needs}
 use Rattle.run_union.proofs.inner.append_shifted.Statement.{statement}
 use Rattle.run_union.proofs.inner.append_shifted.Tie as tie
-use Rattle.run_union.proofs.inner.append_rest.Reads as append-rest-reads
-use Rattle.run_union.proofs.inner.append_run_shifted.Reads as append-run-shifted-reads
 
 returns : tie.Need-returns
 returns c = search (nothing-more, needs)

@@ -5,8 +5,6 @@ use Prim.Native.Nat.{_-_}
 use Rattle.runs.proofs.InsideSteps.{Walked, walked-none, walked-start, walked-more, walked-end, no-answer}
 use Rattle.runs.proofs.inner.inside.Statement.{statement}
 use Rattle.runs.proofs.inner.inside.Tie as tie
-use Rattle.runs.proofs.inner.first_reaching.Reads as first-reaching-reads
-use Rattle.runs.proofs.inner.next_reaching.Reads as next-reaching-reads
 
 abbrev Inv-loop : tie.InvT-loop
 Inv-loop a a-from a-to b b-from b-to i₀ j₀ i j = Walked a a-from a-to b b-from b-to i j

@@ -6,8 +6,9 @@ use native.Mathlib.Omega.{arith}
 use borrow.Author.Needs.{needs}
 use lib.ListN.{length}
 use Rattle.model.specs.Store.{maxRuns}
+use Rattle.netlist.proofs.OutputLaws.{output-here}
 use Rattle.place_runs.specs.RunsOfPlaces.{outputPlaces}
-use Rattle.place_runs.proofs.PlaceRunSteps.{PlacesDone, output-cases, places-room, places-small, place-net, output-here}
+use Rattle.place_runs.proofs.PlaceRunSteps.{PlacesDone, output-cases, places-room, places-small, place-net}
 use Rattle.place_runs.proofs.inner.outputs.out_runs.Statement.{statement}
 use Rattle.place_runs.proofs.inner.outputs.out_runs.Tie as tie
 

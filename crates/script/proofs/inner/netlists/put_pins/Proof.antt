@@ -1,7 +1,7 @@
 -- `script::inner::netlists::put_pins` is safe and ends: the pins that are left only fall.
 -- Assumes nothing.
 use borrow.Author.Needs.{needs}
-use Prim.Native.Nat.{_≤_, _-_}
+use Prim.Native.Nat.{_≤_}
 use lib.ListN.{length}
 use mathlib.Core.Path.{_≡_}
 use Rattle.script.proofs.inner.netlists.put_pins.Statement.{statement}

@@ -1,0 +1,2 @@
+-- What a C caller finds in the code and in the answer words.
+pub mod Codes

@@ -1,0 +1,2 @@
+-- Laws that the proofs of this crate, or of later ones, cite.
+pub mod ListingLineLaws

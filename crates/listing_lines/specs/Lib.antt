@@ -1,0 +1,2 @@
+-- The lines of a listing, one by one.
+pub mod ListingLines
