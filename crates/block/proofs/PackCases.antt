@@ -6,10 +6,13 @@ use mathlib.Core.List.{List, [], _∷_}
 use Prim.Native.Nat.{ℕ, zero, suc, _+_, _-_, _*_, _/_, _%_, _^_, _≤_, _<_}
 use native.Mathlib.Nat.{pow-suc, mod-lt, add-zero, lt-of-lt-of-le}
 use native.Mathlib.Omega.{arith}
+use borrow.Author.Needs.{needs}
 use lib.Bits.{bitAnd, and-mask}
 use lib.Pow.{pow-mono}
 use lib.Dec.{eqb}
 use lib.ListN.{getD}
+use mir.Val.{Fits}
+use mir.Syntax.{w32}
 use Rattle.model.specs.Base.{bit, numbersFrom}
 use Rattle.packed_pins.specs.Packed.{oneWhere}
 use Rattle.block.specs.Words.{bitsAt, wordsAt, firstWords}
@@ -29,6 +32,33 @@ bit-number word place = and-mask (word / 2 ^ place) 1 ∙ one-eqb (word / 2 ^ pl
 pub bit-small : (word place : ℕ) → bitAnd (word / 2 ^ place) 1 < 2
 bit-small word place = rw (and-mask (word / 2 ^ place) 1) (mod-lt (word / 2 ^ place) (omega arith))
 
+digit-small : (w place d : ℕ) → d ≡ packBits (bitsAt (w ∷ []) place) → d < 2
+digit-small w place d e = rw e (one (bit w place))
+  where
+    one : (b : Bool) → oneWhere b + 2 * 0 < 2
+    one true = omega arith
+    one false = omega arith
+
+-- two pins
+pub second-fits : (rows : List ℕ) (place : ℕ) {e : ℕ} → e ≡ packBits (bitsAt (getD rows 1 0 ∷ []) place) → Fits w32 (2 * e)
+second-fits rows place {e} b = record { fits = omega (arith, digit-small (getD rows 1 0) place e b) }
+
+module _ (rows : List ℕ) (place : ℕ) {pins d e : ℕ} (two : pins ≡ 2) (a : d ≡ packBits (bitsAt (getD rows 0 0 ∷ []) place))
+    (b : e ≡ packBits (bitsAt (getD rows 1 0 ∷ []) place)) where
+  pub two-packed : d + 2 * e ≡ packBits (bitsAt (firstWords rows pins) place)
+  two-packed = sum d e (oneWhere (bit (getD rows 0 0) place)) (oneWhere (bit (getD rows 1 0) place)) a b ∙ ap (λ n. packBits (bitsAt (firstWords rows n) place)) (sym two)
+    where
+      sum : (d e x y : ℕ) → d ≡ x + 2 * 0 → e ≡ y + 2 * 0 → d + 2 * e ≡ x + 2 * (y + 2 * 0)
+      sum d e x y p q = omega arith
+
+  pub two-sum : Fits w32 (d + 2 * e)
+  two-sum = record { fits = omega (arith, digit-small (getD rows 0 0) place d a, digit-small (getD rows 1 0) place e b) }
+
+  pub two-small : d + 2 * e < 256
+  two-small = omega (arith, digit-small (getD rows 0 0) place d a, digit-small (getD rows 1 0) place e b)
+
+pub ruleset two-pin-cases = (second-fits, two-packed, two-sum, two-small, needs)
+
 pub record Packing (rows : List ℕ) (pins place byte k : ℕ) : Type 0 where
   pub within : k ≤ pins
   pub small : byte < 2 ^ (pins - k)
@@ -45,11 +75,7 @@ module _ (rows : List ℕ) (pins place : ℕ) where
     pack-few few l = let m : pins - k ≤ 7 = omega arith in lt-of-lt-of-le (x .small) (pow-mono m)
 
     pub digit-few : (d : ℕ) → d ≡ packBits (bitsAt (getD rows (k - 1) 0 ∷ []) place) → d < 2
-    digit-few d e = rw e (one (bit (getD rows (k - 1) 0) place))
-      where
-        one : (b : Bool) → oneWhere b + 2 * 0 < 2
-        one true = omega arith
-        one false = omega arith
+    digit-few d e = digit-small (getD rows (k - 1) 0) place d e
 
     pub pack-step : 0 < k → (d : ℕ) → d ≡ packBits (bitsAt (getD rows (k - 1) 0 ∷ []) place) → Packing rows pins place (2 * byte + d) (k - 1)
     pack-step l d e =

@@ -22,7 +22,7 @@ pub record InputsSpanned (inputs : ℕ) (spans : List ℕ) (input : ℕ) : Type 
   pub within : input ≤ inputs
   pub spanned : InputSpans spans input
 
-pub spans-start : {inputs : ℕ} {spans : List ℕ} → inputs ≤ 64 → length spans ≡ 1666 → Ascending spans 1536 → Ascending spans 1601 → InputsSpanned inputs spans 0
+pub spans-start : {inputs : ℕ} {spans : List ℕ} → inputs ≤ 64 → length spans ≡ 1668 → Ascending spans 1536 → Ascending spans 1602 → InputsSpanned inputs spans 0
 spans-start h room up down = record {
   few = h;
   within = omega arith;
@@ -34,13 +34,13 @@ module _ {inputs : ℕ} {spans : List ℕ} {input : ℕ} (x : InputsSpanned inpu
   spans-end h = let e : input ≡ inputs = omega (arith, x .within) in subst (λ n. InputSpans spans n) e (x .spanned)
 
   module _ (l : input < inputs) where
-    pub input-place : input < 1666
+    pub input-place : input < 1668
     input-place = omega (arith, x .few)
 
-    pub input-end-place : 512 + input < 1666
+    pub input-end-place : 512 + input < 1668
     input-end-place = omega (arith, x .few)
 
-    pub input-shift-place : 1024 + input < 1666
+    pub input-shift-place : 1024 + input < 1668
     input-shift-place = omega (arith, x .few)
 
     abbrev now : List ℕ

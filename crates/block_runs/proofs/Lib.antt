@@ -2,6 +2,7 @@ pub mod BitRunLaws
 pub mod PinSpanSteps
 pub mod WorkingSteps
 pub mod SectionLaws
+pub mod WholeOutputLaws
 pub mod SectionCases
 pub mod HeldLaws
 pub mod SpanCases

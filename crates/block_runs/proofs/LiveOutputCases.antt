@@ -36,10 +36,10 @@ place-fits x h = record { fits = omega arith }
 pub place-bytes : (x : ℕ) → x < 4224 → Fits w64 (x * 8)
 place-bytes x h = record { fits = omega arith }
 
-pub span-fits : (x : ℕ) → x < 1666 → Fits w64 x
+pub span-fits : (x : ℕ) → x < 1668 → Fits w64 x
 span-fits x h = record { fits = omega arith }
 
-pub span-bytes : (x : ℕ) → x < 1666 → Fits w64 (x * 8)
+pub span-bytes : (x : ℕ) → x < 1668 → Fits w64 (x * 8)
 span-bytes x h = record { fits = omega arith }
 
 -- The loop: the runs of the outputs that are not left stand in the second quarter, joined
@@ -97,13 +97,13 @@ module _ {places : List ℕ} {outs : ℕ} {spans ws₀ : List ℕ} where
       pub offset-place : 4096 + trailingZeros 64 left < 4224
       offset-place = omega (arith, output-in)
 
-      pub first-place : outNet places (trailingZeros 64 left) < 1666
+      pub first-place : outNet places (trailingZeros 64 left) < 1668
       first-place = omega (arith, output-ready .isNet)
 
-      pub end-place : 512 + outNet places (trailingZeros 64 left) < 1666
+      pub end-place : 512 + outNet places (trailingZeros 64 left) < 1668
       end-place = omega (arith, output-ready .isNet)
 
-      pub shift-place : 1024 + outNet places (trailingZeros 64 left) < 1666
+      pub shift-place : 1024 + outNet places (trailingZeros 64 left) < 1668
       shift-place = omega (arith, output-ready .isNet)
 
       pub sum-fits : Fits w64 (outShift places spans (trailingZeros 64 left))

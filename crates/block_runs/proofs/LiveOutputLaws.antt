@@ -3,7 +3,7 @@
 use mathlib.Core.Path.{_≡_, refl, ap, ap₂, sym, _∙_, subst⁻¹}
 use mathlib.Core.Bool.{Bool, true, false, _&&_}
 use mathlib.Core.List.{List, []}
-use Prim.Native.Nat.{ℕ, zero, suc, _+_, _*_, _≤_, _<_}
+use Prim.Native.Nat.{ℕ, zero, suc, _+_, _-_, _*_, _≤_, _<_}
 use native.Mathlib.Omega.{arith}
 use borrow.Author.Tests.{ltb-true, leb-true, lt-ltb, le-ltb}
 use lib.Dec.{leb, ltb}
@@ -16,19 +16,19 @@ use Rattle.model.specs.Detect.{detectsNumber}
 use Rattle.model.specs.Runs.{Run, runsOf, runsFrom, Separated}
 use Rattle.model.specs.Store.{maxRuns}
 use Rattle.model.proofs.BoolLaws.{cases}
-use Rattle.model.proofs.NumberLaws.{output-net, length-outputCounts, outputCounts-at, countsBefore-le}
+use Rattle.model.proofs.NumberLaws.{output-net, length-outputCounts, outputCounts-at, countsBefore-le, countsBefore-suc}
 use Rattle.model.proofs.ReadLaws.{Limits}
 use Rattle.model.proofs.WellFormed.{WellFormed}
-use Rattle.runs.specs.RunLists.{onlyIf, addRuns, shiftRuns}
+use Rattle.runs.specs.RunLists.{onlyIf, addRuns, shiftRuns, runsInWords}
 use Rattle.run_union.proofs.AddRunLaws.{addRuns-append}
 use Rattle.intervals.specs.Edges.{Case, detected}
 use Rattle.intervals.specs.Nets.{setRuns}
 use Rattle.intervals.proofs.DetectedLaws.{out-part}
 use Rattle.block.specs.Block.{liveNet}
 use Rattle.block_marks.specs.Marks.{PlaceTable, ListedEdge}
-use Rattle.block_runs.specs.Spans.{shiftOf, standing, SpanIs}
+use Rattle.block_runs.specs.Spans.{firstOf, endOf, shiftOf, standing, SpanIs}
 use Rattle.block_runs.specs.PinSpans.{bitRuns}
-use Rattle.block_runs.specs.LiveOutputs.{outNet, runsOfOutput, runsOfOutputs, OutputReady, OutputsReady}
+use Rattle.block_runs.specs.LiveOutputs.{outNet, outShift, runsOfOutput, runsOfOutputs, OutputReady, EndsBefore, OutputsReady}
 use Rattle.block_runs.proofs.BitRunLaws.{shift-shift}
 use Rattle.block_runs.proofs.LiveRunLaws.{shift-most, dead-set, live-set, set-counted}
 
@@ -41,6 +41,13 @@ same-part false b xs ys f g = refl
 and-both : (a b : Bool) → (a && b) ≡ true → (a ≡ true) × (b ≡ true)
 and-both true b e = (refl, e)
 and-both false b e = absurd (mathlib.Core.Bool.false≢true e)
+
+-- no run of some that are shifted ends over the highest number
+shifted-most : (k n b : ℕ) (ws : List ℕ) (m i : ℕ) → Separated n b (shiftRuns k (runsInWords ws i m)) → (j : ℕ) → i ≤ j → j < i + m → getD ws (2 * j + 1) 0 + k ≤ n
+shifted-most k n b ws zero i u j h l = absurd (omega arith)
+shifted-most k n b ws (suc m) i u j h l = cases (i + 1) j
+    (λ d. shifted-most k n (getD ws (2 * i + 1) 0 + k + 2) ws m (i + 1) (u .3) j d (omega arith))
+    (λ d. let e : j ≡ i = omega arith in omega (arith, u .2, ap (λ p. getD ws (2 * p + 1) 0) e))
 
 module _ (K : Case) where
   abbrev N : Netlist
@@ -118,17 +125,23 @@ module _ (K : Case) where
     outputs-detect = outputs-so-far 64 (omega arith) ∙ ap (runsOf D) (all-before 64 (omega (arith, many, lim .fewOutputs)))
 
     -- what the loop asks
-    output-at : (o : ℕ) → o < 64 → bit outs o ≡ true → OutputReady places spans ws o
-    output-at o l t =
+    is-live : (o : ℕ) → o < 64 → bit outs o ≡ true → (o < length (N .outputs)) × (N .inputs ≤ outputNet N o) × (live (outputNet N o) ≡ true)
+    is-live o l t =
         let net = outputNet N o in
         let first = and-both (ltb o (length (N .outputs))) (leb (N .inputs) net && live net) (sym (listed .outsAre o l) ∙ t) in
         let second = and-both (leb (N .inputs) net) (live net) (first .1) in
-        let h = ltb-true o (length (N .outputs)) (first .0) in
+        (ltb-true o (length (N .outputs)) (first .0), leb-true (N .inputs) net (second .0), second .1)
+
+    output-at : (o : ℕ) → o < 64 → bit outs o ≡ true → OutputReady places spans ws o
+    output-at o l t =
+        let net = outputNet N o in
+        let there = is-live o l t in
+        let h = there .0 in
         let e : outNet places o ≡ net = placed .outNet o h in
-        let at = subst⁻¹ (λ n. SpanIs K spans ws maxRuns n) e (spanned net (output-net N w o h) (second .1)) in
-        let below = shift-counted (ap live e ∙ second .1) at in
+        let at = subst⁻¹ (λ n. SpanIs K spans ws maxRuns n) e (spanned net (output-net N w o h) (there .2)) in
+        let below = shift-counted (ap live e ∙ there .2) at in
         let sum = countsBefore-le (outputCounts N) o (omega (arith, many)) in
-        let gate = outputCounts-at N w o h (leb-true (N .inputs) net (second .0)) in
+        let gate = outputCounts-at N w o h (there .1) in
         record {
           isNet = omega (arith, e, output-net N w o h, lim .fewNets);
           ordered = at .ordered;
@@ -137,5 +150,29 @@ module _ (K : Case) where
           sound = at .sound;
         }
 
+    before-mono : (o p : ℕ) → o ≤ p → p ≤ length (outputCounts N) → before o ≤ before p
+    before-mono o zero h l = let e : o ≡ 0 = omega arith in omega (arith, ap before e)
+    before-mono o (suc p) h l = cases o p
+        (λ k. omega (arith, before-mono o p k (omega arith), countsBefore-suc (outputCounts N) p l))
+        (λ k. let e : o ≡ suc p = omega arith in omega (arith, ap before e))
+
+    ends-before : (o p q : ℕ) → o < p → p ≤ q → q < 64 → bit outs o ≡ true → bit outs q ≡ true → EndsBefore places spans ws o p
+    ends-before o p q l m few t u =
+        let h = is-live o (omega arith) t in
+        let k = is-live q few u in
+        let net = outputNet N o in
+        let e : outNet places o ≡ net = placed .outNet o (h .0) in
+        let at = subst⁻¹ (λ n. SpanIs K spans ws maxRuns n) e (spanned net (output-net N w o (h .0)) (h .2)) in
+        let counted = subst⁻¹ (λ (s : List Run). Separated (getD (counts N) (outNet places o) 0) 1 s) (at .runs) (set-counted K (outNet places o)) in
+        record {
+          each = λ i a b.
+              let most = shifted-most (shiftOf spans (outNet places o)) (getD (counts N) (outNet places o) 0) 1 ws
+              (endOf spans (outNet places o) - firstOf spans (outNet places o)) (firstOf spans (outNet places o)) counted i a (omega (arith, at .ordered)) in
+              let gate = outputCounts-at N w o (h .0) (h .1) in
+              let more = countsBefore-suc (outputCounts N) o (omega (arith, h .0, many)) in
+              let mono = before-mono (suc o) p (omega arith) (omega (arith, k .0, many)) in
+              omega (arith, most, ap (λ n. getD (counts N) n 0) e, gate, more, mono, placed .outOffset o (h .0), placed .outOffset p (omega (arith, k .0)));
+        }
+
     pub outputs-ready : 4 * maxRuns ≤ length ws → OutputsReady places outs spans ws
-    outputs-ready room = record { room = room; each = output-at }
+    outputs-ready room = record { room = room; each = output-at; inOrder = ends-before }

@@ -206,7 +206,7 @@ module _ {K : Case} {table places : List ℕ} {inputs : ℕ} {spans ws : List �
     pub entry-runs : entryRuns table places entry spans ws ≡ setRuns K net
     entry-runs = ap₂ (λ n b. byteRuns table places (8 * n) b spans ws) entry-net entry-byte ∙ set-bytes
 
-    pub entry-ready : length spans ≡ 1666 → made ≤ maxRuns → 2 * maxRuns ≤ length ws → EntryReady table places entry spans ws made
+    pub entry-ready : length spans ≡ 1668 → made ≤ maxRuns → 2 * maxRuns ≤ length ws → EntryReady table places entry spans ws made
     entry-ready spanRoom used room = record {
       isNet = omega (arith, entry-net, g .high, lim .fewNets);
       spanRoom = spanRoom;

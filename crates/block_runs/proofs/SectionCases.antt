@@ -24,10 +24,8 @@ use Rattle.block.proofs.WordBitLaws.{zero-bit}
 use Rattle.block.proofs.WordLaws.{same-place}
 use Rattle.block_runs.specs.Spans.{Ascending}
 use Rattle.block_runs.specs.LiveOutputs.{OutputReady, OutputsReady}
-use Rattle.block_runs.specs.Sections.{SectionIn, SpanHeld, OutputHeld, OutputsHeld}
-
-no-answer : {A : Type 0} → false ≡ true → A
-no-answer e = absurd (mathlib.Core.Bool.false≢true e)
+use Rattle.block_runs.specs.Sections.{SectionIn, SpanHeld, OutputHeld, OutputsHeld, Asked}
+use Rattle.block_runs.proofs.WholeOutputLaws.{no-answer, whole-held}
 
 not-not : (b : Bool) → not b ≡ false → b ≡ true
 not-not true e = refl
@@ -101,7 +99,7 @@ pub held-not : {places : List ℕ} {outs : ℕ} {spans ws held : List ℕ} → f
 held-not = no-answer
 
 pub record HeldSoFar (places : List ℕ) (outs : ℕ) (spans : List ℕ) (base : ℕ) (ws held : List ℕ) (left : ℕ) : Type 0 where
-  pub few : base ≤ 1601
+  pub few : base ≤ 1602
   pub ready : OutputsReady places outs spans ws
   pub ascending : Ascending spans base
   pub last : getD spans (base + 64) 0 ≤ length held / 2
@@ -110,16 +108,16 @@ pub record HeldSoFar (places : List ℕ) (outs : ℕ) (spans : List ℕ) (base :
   pub done : (o : ℕ) → o < 64 → bit outs o ≡ true → bit left o ≡ false → OutputHeld places spans ws held o
 
 module _ {places : List ℕ} {outs : ℕ} {spans : List ℕ} {base : ℕ} {ws held : List ℕ} where
-  pub held-begin : outs < 2 ^ 64 → base ≤ 1601 → OutputsReady places outs spans ws → Ascending spans base → getD spans (base + 64) 0 ≤ length held / 2
-      → HeldSoFar places outs spans base ws held outs
-  held-begin s b r a l = record {
+  pub held-begin : base ≤ 1602 → OutputsReady places outs spans ws → Ascending spans base → getD spans (base + 64) 0 ≤ length held / 2
+      → {left : ℕ} → Asked places outs held left → HeldSoFar places outs spans base ws held left
+  held-begin b r a l q = record {
     few = b;
     ready = r;
     ascending = a;
     last = l;
-    small = s;
-    within = λ o e. e;
-    done = λ o h t f. no-answer (sym f ∙ t);
+    small = q .small;
+    within = q .within;
+    done = λ o h t f. whole-held r h t (q .others o h t f);
   }
 
   module _ {left : ℕ} (x : HeldSoFar places outs spans base ws held left) where
@@ -133,7 +131,7 @@ module _ {places : List ℕ} {outs : ℕ} {spans : List ℕ} {base : ℕ} {ws he
       pub held-fits : Fits w64 (trailingZeros 64 left)
       held-fits = record { fits = omega (arith, held-in) }
 
-      pub held-few : base ≤ 1601
+      pub held-few : base ≤ 1602
       held-few = x .few
 
       pub held-room : 4 * maxRuns ≤ length ws

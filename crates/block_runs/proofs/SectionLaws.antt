@@ -27,15 +27,15 @@ ascending-same {base} same a =
 -- ---- sections that are all 0
 
 pub record Cleared (spans : List ℕ) (o : ℕ) : Type 0 where
-  pub room : length spans ≡ 1666
-  pub within : o ≤ 130
+  pub room : length spans ≡ 1668
+  pub within : o ≤ 132
   pub zeros : (k : ℕ) → k < o → getD spans (1536 + k) 0 ≡ 0
 
-pub cleared-none : {spans : List ℕ} → length spans ≡ 1666 → Cleared spans 0
+pub cleared-none : {spans : List ℕ} → length spans ≡ 1668 → Cleared spans 0
 cleared-none l = record { room = l; within = omega arith; zeros = λ k h. absurd (omega arith) }
 
 module _ {spans : List ℕ} {o : ℕ} (x : Cleared spans o) where
-  pub cleared-more : o < 130 → Cleared (set spans (1536 + o) 0) (o + 1)
+  pub cleared-more : o < 132 → Cleared (set spans (1536 + o) 0) (o + 1)
   cleared-more h = record {
     room = length-set spans (1536 + o) 0 ∙ x .room;
     within = omega arith;
@@ -49,13 +49,13 @@ module _ {spans : List ℕ} {o : ℕ} (x : Cleared spans o) where
       minus : (a b : ℕ) → 1536 + b ≡ 1536 + a → b ≡ a
       minus a b e = omega arith
 
-  module _ (h : 130 ≤ o) where
-    zero-at : (k : ℕ) → 1536 ≤ k → k < 1666 → getD spans k 0 ≡ 0
+  module _ (h : 132 ≤ o) where
+    zero-at : (k : ℕ) → 1536 ≤ k → k < 1668 → getD spans k 0 ≡ 0
     zero-at k l m =
         let e : 1536 + (k - 1536) ≡ k = omega arith in
         ap (λ j. getD spans j 0) (sym e) ∙ x .zeros (k - 1536) (omega arith)
 
-    cleared-all : (base : ℕ) → 1536 ≤ base → base ≤ 1601 → Ascending spans base
+    cleared-all : (base : ℕ) → 1536 ≤ base → base ≤ 1602 → Ascending spans base
     cleared-all base l m = record {
       next = λ k p. (let here = zero-at (base + k) (omega arith) (omega arith) in omega (arith, here));
       most = λ k p. (let here = zero-at (base + k) (omega arith) (omega arith) in omega (arith, here));
@@ -64,10 +64,10 @@ module _ {spans : List ℕ} {o : ℕ} (x : Cleared spans o) where
     pub cleared-rising : Ascending spans 1536
     cleared-rising = cleared-all 1536 (omega arith) (omega arith)
 
-    pub cleared-falling : Ascending spans 1601
-    cleared-falling = cleared-all 1601 (omega arith) (omega arith)
+    pub cleared-falling : Ascending spans 1602
+    cleared-falling = cleared-all 1602 (omega arith) (omega arith)
 
-  pub cleared-room : length spans ≡ 1666
+  pub cleared-room : length spans ≡ 1668
   cleared-room = x .room
 
 pub ruleset clear-cases = (cleared-none, cleared-more, cleared-rising, cleared-falling, cleared-room, needs)
@@ -76,14 +76,14 @@ pub ruleset clear-cases = (cleared-none, cleared-more, cleared-rising, cleared-f
 
 -- those before `output` are found, the last of them begins at run `at` at the latest; nothing else of the spans has changed
 pub record Found (spans₀ : List ℕ) (base : ℕ) (spans : List ℕ) (at output : ℕ) : Type 0 where
-  pub base-is : (base ≡ 1536) ⊎ (base ≡ 1601)
-  pub room : length spans ≡ 1666
+  pub base-is : (base ≡ 1536) ⊎ (base ≡ 1602)
+  pub room : length spans ≡ 1668
   pub last : (k : ℕ) → k < output → getD spans (base + k) 0 ≤ at
   pub next : (k : ℕ) → k + 1 < output → getD spans (base + k) 0 ≤ getD spans (base + k + 1) 0
   pub below : (k : ℕ) → k < base → getD spans k 0 ≡ getD spans₀ k 0
   pub above : (k : ℕ) → base + 64 < k → getD spans k 0 ≡ getD spans₀ k 0
 
-base-most : {base : ℕ} → (base ≡ 1536) ⊎ (base ≡ 1601) → base ≤ 1601
+base-most : {base : ℕ} → (base ≡ 1536) ⊎ (base ≡ 1602) → base ≤ 1602
 base-most b = ⊎-elim (λ e. omega arith) (λ e. omega arith) b
 
 found-more : {spans₀ : List ℕ} {base : ℕ} {spans : List ℕ} {at output : ℕ} → Found spans₀ base spans at output → {new : ℕ} → at ≤ new → output ≤ 64
@@ -124,8 +124,45 @@ pub record Finding (spans₀ : List ℕ) (base count : ℕ) (spans : List ℕ) (
   pub most : at ≤ count
   pub found : Found spans₀ base spans at output
 
+-- the word after the sections of an edge, written first
+pub first-written : (spans : List ℕ) (base new : ℕ) → (base ≡ 1536) ⊎ (base ≡ 1602) → (inputs : ℕ) → inputs ≤ 64 → InputSpans spans inputs
+    → InputSpans (set spans (base + 65) new) inputs
+first-written spans base new b inputs few i = record {
+  room = length-set spans (base + 65) new ∙ i .room;
+  rising = ascending-same (λ k p q. there k (apart k p q)) (i .rising);
+  falling = ascending-same (λ k p q. there k (beyond k p q)) (i .falling);
+  firsts = λ j h. there j (low j (omega arith)) ∙ i .firsts j h;
+  ends = λ j h. there (512 + j) (low (512 + j) (omega arith)) ∙ i .ends j h;
+  shifts = λ j h. there (1024 + j) (low (1024 + j) (omega arith)) ∙ i .shifts j h;
+}
+  where
+    there : (k : ℕ) → (k ≡ base + 65 → ⊥) → getD (set spans (base + 65) new) k 0 ≡ getD spans k 0
+    there k d = getD-set-other spans (base + 65) k new 0 d
+
+    low : (k : ℕ) → k < 1536 → k ≡ base + 65 → ⊥
+    low k l e = ⊎-elim (λ (z : base ≡ 1536). omega arith) (λ (z : base ≡ 1602). omega arith) b
+
+    apart : (k : ℕ) → 1536 ≤ k → k ≤ 1536 + 64 → k ≡ base + 65 → ⊥
+    apart k l m e = ⊎-elim (λ (z : base ≡ 1536). omega arith) (λ (z : base ≡ 1602). omega arith) b
+
+    beyond : (k : ℕ) → 1602 ≤ k → k ≤ 1602 + 64 → k ≡ base + 65 → ⊥
+    beyond k l m e = ⊎-elim (λ (z : base ≡ 1536). omega arith) (λ (z : base ≡ 1602). omega arith) b
+
+pub first-room : (spans : List ℕ) (base new : ℕ) → length spans ≡ 1668 → length (set spans (base + 65) new) ≡ 1668
+first-room spans base new l = length-set spans (base + 65) new ∙ l
+
+module _ {base : ℕ} (b : (base ≡ 1536) ⊎ (base ≡ 1602)) where
+  pub first-place : base + 65 < 1668
+  first-place = omega (arith, base-most b)
+
+  pub first-fits : Fits w64 (base + 65)
+  first-fits = record { fits = omega (arith, base-most b) }
+
+  pub first-bytes : Fits w64 ((base + 65) * 8)
+  first-bytes = record { fits = omega (arith, base-most b) }
+
 module _ {spans₀ : List ℕ} {base count : ℕ} where
-  pub finding-none : length spans₀ ≡ 1666 → (base ≡ 1536) ⊎ (base ≡ 1601) → Finding spans₀ base count spans₀ 0 0
+  pub finding-none : length spans₀ ≡ 1668 → (base ≡ 1536) ⊎ (base ≡ 1602) → Finding spans₀ base count spans₀ 0 0
   finding-none l b = record {
     within = omega arith;
     most = omega arith;
@@ -143,10 +180,10 @@ module _ {spans₀ : List ℕ} {base count : ℕ} where
     pub finding-most : at ≤ count
     finding-most = x .most
 
-    pub finding-base : base ≤ 1601
+    pub finding-base : base ≤ 1602
     finding-base = base-most (x .found .base-is)
 
-    pub finding-place : (k : ℕ) → k ≤ 64 → base + k < 1666
+    pub finding-place : (k : ℕ) → k ≤ 64 → base + k < 1668
     finding-place k h = omega (arith, finding-base)
 
     pub finding-fits : (k : ℕ) → k ≤ 64 → Fits w64 (base + k)
@@ -166,7 +203,7 @@ module _ {spans₀ : List ℕ} {base count : ℕ} where
           subst (λ n. Found spans₀ base (set spans (base + n) count) count (n + 1)) e y
 
       same-below : (k : ℕ) → k < 1536 → getD (set spans (base + 64) count) k 0 ≡ getD spans₀ k 0
-      same-below k p = done .below k (⊎-elim (λ (e : base ≡ 1536). omega arith) (λ (e : base ≡ 1601). omega arith) (done .base-is))
+      same-below k p = done .below k (⊎-elim (λ (e : base ≡ 1536). omega arith) (λ (e : base ≡ 1602). omega arith) (done .base-is))
 
       these : Ascending (set spans (base + 64) count) base
       these = record {
@@ -175,7 +212,7 @@ module _ {spans₀ : List ℕ} {base count : ℕ} where
             omega (arith, last, done .last o (omega arith)));
       }
 
-      pub finding-room : length (set spans (base + 64) count) ≡ 1666
+      pub finding-room : length (set spans (base + 64) count) ≡ 1668
       finding-room = done .room
 
       pub finding-done : (inputs : ℕ) → inputs ≤ 64 → InputSpans spans₀ inputs → InputSpans (set spans (base + 64) count) inputs
@@ -183,15 +220,20 @@ module _ {spans₀ : List ℕ} {base count : ℕ} where
         room = done .room;
         rising = ⊎-elim
             (λ (e : base ≡ 1536). subst (λ b. Ascending (set spans (base + 64) count) b) e these)
-            (λ (e : base ≡ 1601). ascending-same (λ k p q. done .below k (omega arith)) (i .rising))
+            (λ (e : base ≡ 1602). ascending-same (λ k p q. done .below k (omega arith)) (i .rising))
             (done .base-is);
         falling = ⊎-elim
             (λ (e : base ≡ 1536). ascending-same (λ k p q. done .above k (omega arith)) (i .falling))
-            (λ (e : base ≡ 1601). subst (λ b. Ascending (set spans (base + 64) count) b) e these)
+            (λ (e : base ≡ 1602). subst (λ b. Ascending (set spans (base + 64) count) b) e these)
             (done .base-is);
         firsts = λ j h. same-below j (omega arith) ∙ i .firsts j h;
         ends = λ j h. same-below (512 + j) (omega arith) ∙ i .ends j h;
         shifts = λ j h. same-below (1024 + j) (omega arith) ∙ i .shifts j h;
       }
 
-pub ruleset find-cases = (finding-none, finding-most, finding-base, finding-place, finding-fits, finding-bytes, finding-more, finding-room, finding-done, needs)
+pub finding-all : (spans₁ : List ℕ) (new : ℕ) {base count : ℕ} {spans : List ℕ} {at output : ℕ} → Finding (set spans₁ (base + 65) new) base count spans at output → 64 ≤ output
+    → (inputs : ℕ) → inputs ≤ 64 → InputSpans spans₁ inputs → InputSpans (set spans (base + 64) count) inputs
+finding-all spans₁ new {base = base} x h inputs few i = finding-done x h inputs few (first-written spans₁ base new (x .found .base-is) inputs few i)
+
+pub ruleset find-cases =
+    (finding-none, finding-most, finding-base, finding-place, finding-fits, finding-bytes, finding-more, finding-room, finding-all, first-room, first-place, first-fits, first-bytes, needs)

@@ -64,11 +64,11 @@ module _ (spans : List ℕ) (net first end shift : ℕ) where
     pub span-past : (k : ℕ) → 1536 ≤ k → getD (withSpan spans net first end shift) k 0 ≡ getD spans k 0
     span-past k h = elsewhere k (λ e. far k net (omega arith) e) (λ e. far k (512 + net) (omega arith) e) (λ e. far k (1024 + net) (omega arith) e)
 
-    module _ (room : length spans ≡ 1666) where
-      long : length (set spans net first) ≡ 1666
+    module _ (room : length spans ≡ 1668) where
+      long : length (set spans net first) ≡ 1668
       long = length-set spans net first ∙ room
 
-      longer : length (set (set spans net first) (512 + net) end) ≡ 1666
+      longer : length (set (set spans net first) (512 + net) end) ≡ 1668
       longer = length-set (set spans net first) (512 + net) end ∙ long
 
       pub span-first : firstOf (withSpan spans net first end shift) net ≡ first

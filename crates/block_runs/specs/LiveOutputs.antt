@@ -39,10 +39,15 @@ pub record OutputReady (places spans ws : List ℕ) (o : ℕ) : Type 0 where
   pub small : outShift places spans o ≤ 2 ^ 62
   pub sound : Sound (2 ^ 62) (standing spans ws (outNet places o))
 
--- those of each output of a word, and there is room in the second quarter
+-- the runs of an output, shifted, end no later than the paths before output p do
+pub record EndsBefore (places spans ws : List ℕ) (o p : ℕ) : Type 0 where
+  pub each : (i : ℕ) → firstOf spans (outNet places o) ≤ i → i < endOf spans (outNet places o) → getD ws (2 * i + 1) 0 + outShift places spans o ≤ getD places (4096 + p) 0
+
+-- those of each output of a word, each before the outputs after it up to another of the word; and there is room in the second quarter
 pub record OutputsReady (places : List ℕ) (outs : ℕ) (spans ws : List ℕ) : Type 0 where
   pub room : 4 * maxRuns ≤ length ws
   pub each : (o : ℕ) → o < 64 → bit outs o ≡ true → OutputReady places spans ws o
+  pub inOrder : (o p q : ℕ) → o < p → p ≤ q → q < 64 → bit outs o ≡ true → bit outs q ≡ true → EndsBefore places spans ws o p
 
 -- the runs of a record's listed nets stand, by their spans: Full exactly where the working runs are over 1,024, and else the live outputs add the detected runs
 pub record SpansListed (K : Case) (places : List ℕ) (outs : ℕ) (spans′ ws ws′ : List ℕ) (r : Added) : Type 0 where

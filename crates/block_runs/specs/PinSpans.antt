@@ -55,7 +55,7 @@ pub record ByteReady (table places spans ws : List ℕ) (made first byte : ℕ) 
 -- a list's entry: 256 net + byte of active pins
 pub record EntryReady (table places : List ℕ) (entry : ℕ) (spans ws : List ℕ) (made : ℕ) : Type 0 where
   pub isNet : entry / 256 < 512
-  pub spanRoom : length spans ≡ 1666
+  pub spanRoom : length spans ≡ 1668
   pub byte : ByteReady table places spans ws made (8 * (entry / 256)) (entry % 256)
 
 abbrev pub entryRuns : List ℕ → List ℕ → ℕ → List ℕ → List ℕ → List Run

@@ -46,9 +46,9 @@ pub record Ascending (spans : List ℕ) (base : ℕ) : Type 0 where
 
 -- every input has the run at run place 0, which is 1 to 1 where it makes the edge; after the spans stand the sections of the rising and of the falling edge
 pub record InputSpans (spans : List ℕ) (inputs : ℕ) : Type 0 where
-  pub room : length spans ≡ 1666
+  pub room : length spans ≡ 1668
   pub rising : Ascending spans 1536
-  pub falling : Ascending spans 1601
+  pub falling : Ascending spans 1602
   pub firsts : (j : ℕ) → j < inputs → firstOf spans j ≡ 0
   pub ends : (j : ℕ) → j < inputs → endOf spans j ≡ 1
   pub shifts : (j : ℕ) → j < inputs → shiftOf spans j ≡ 0

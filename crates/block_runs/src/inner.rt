@@ -11,8 +11,8 @@ use crate::sections::clear_sections;
 use runs::inner::Added;
 
 // The spans of the inputs, the same for every record and edge: each has the run at run place 0. The sections of both edges are empty until they are found.
-pub fn input_spans(spans: &mut [u64; 1666], inputs: usize)
-    requires { ⌜ (inputs ≤ 64) × (length (now spans) ≡ 1666) ⌝ }
+pub fn input_spans(spans: &mut [u64; 1668], inputs: usize)
+    requires { ⌜ (inputs ≤ 64) × (length (now spans) ≡ 1668) ⌝ }
     ensures { λ _. ⌜ InputSpans (now (spans .exit)) inputs ⌝ }
 {
     clear_sections(spans);
@@ -32,7 +32,7 @@ pub fn listed_spans(
     entries: &[u32],
     edges: u64,
     inputs: usize,
-    spans: &mut [u64; 1666],
+    spans: &mut [u64; 1668],
     words: &mut [u64],
 ) -> Added
     requires { ⌜ SomeListedAt (now table) (now places) (now entries) edges inputs (now spans) (now words) ⌝ }

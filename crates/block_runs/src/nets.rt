@@ -21,7 +21,7 @@ pub(crate) enum Grown {
 }
 
 // Writes where the runs of a net stand.
-fn put_span(spans: &mut [u64; 1666], net: usize, first: usize, end: usize, shift: u64)
+fn put_span(spans: &mut [u64; 1668], net: usize, first: usize, end: usize, shift: u64)
     requires { ⌜ net < 512 ⌝ }
     ensures { λ _. ⌜ now (spans .exit) ≡ withSpan (now (spans .entry)) net first end shift ⌝ }
 {
@@ -36,7 +36,7 @@ fn one_pin(
     places: &[u64; 4224],
     at: usize,
     net: usize,
-    spans: &mut [u64; 1666],
+    spans: &mut [u64; 1668],
 ) -> usize
     requires { ⌜ (net < 512) × (at < 4096) × (sourceAt (now table) at < 512) × (shiftAt (now table) (now places) (now spans) at ≤ 2 ^ 62) ⌝ }
     requires { ⌜ (firstOf (now spans) (sourceAt (now table) at) ≤ endOf (now spans) (sourceAt (now table) at)) × (endOf (now spans) (sourceAt (now table) at) ≤ maxRuns) ⌝ }
@@ -59,7 +59,7 @@ fn add_pin(
     table: &[u16; 5120],
     places: &[u64; 4224],
     at: usize,
-    spans: &[u64; 1666],
+    spans: &[u64; 1668],
     words: &mut [u64],
     made: usize,
     count: usize,
@@ -90,7 +90,7 @@ fn more_pins(
     places: &[u64; 4224],
     first: usize,
     byte: u64,
-    spans: &[u64; 1666],
+    spans: &[u64; 1668],
     words: &mut [u64],
     made: usize,
 ) -> Added
@@ -122,7 +122,7 @@ fn net_span(
     table: &[u16; 5120],
     places: &[u64; 4224],
     entry: u32,
-    spans: &mut [u64; 1666],
+    spans: &mut [u64; 1668],
     words: &mut [u64],
     made: usize,
 ) -> Grown
@@ -155,7 +155,7 @@ pub(crate) fn net_spans(
     table: &[u16; 5120],
     places: &[u64; 4224],
     entries: &[u32],
-    spans: &mut [u64; 1666],
+    spans: &mut [u64; 1668],
     words: &mut [u64],
 ) -> Added
     requires { ⌜ SomeNetsListed (now table) (now places) (now entries) (now spans) (now words) ⌝ }

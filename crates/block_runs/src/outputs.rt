@@ -7,7 +7,7 @@ use run_union::inner::append_shifted;
 use runs::inner::Added;
 
 // Makes the runs of the detected path numbers, output by output, in the second quarter of the words. `outs` has a bit for each output at a live gate's net.
-pub fn out_runs(places: &[u64; 4224], outs: u64, spans: &[u64; 1666], words: &mut [u64]) -> Added
+pub fn out_runs(places: &[u64; 4224], outs: u64, spans: &[u64; 1668], words: &mut [u64]) -> Added
     requires { ⌜ OutputsReady (now places) outs (now spans) (now words) ⌝ }
     ensures { λ r. ⌜ Adds (now (words .entry)) (now (words .exit)) maxRuns maxRuns
         (runsOfOutputs (now (places .entry)) outs (now (spans .entry)) (now (words .entry))) r ⌝ }

@@ -10,21 +10,22 @@ ghost use Rattle.runs.specs.RunLists.{Sound, run, runsInWords};
 ghost use Rattle.runs.specs.Answers.{RunInside};
 ghost use Rattle.block_runs.specs.Spans.{Ascending, InputSpans};
 ghost use Rattle.block_runs.specs.LiveOutputs.{OutputReady, OutputsReady};
-ghost use Rattle.block_runs.specs.Sections.{SpanHeld, OutputHeld, OutputsHeld, SectionIn};
+ghost use Rattle.block_runs.specs.Sections.{SpanHeld, OutputHeld, OutputsHeld, SectionIn, Asked};
 use runs::inner::first_reaching;
 
-// The places among the spans where the sections of each edge stand: output o's begins at place o, and the last ends at place 64.
+// The places among the spans where the sections of each edge stand: output o's begins at place o, and the last ends at place 64. At place 65 a bit for each of the
+// first outputs whose path numbers all lie in the first held run.
 pub const RISING_SECTIONS: usize = 1536;
 
-pub const FALLING_SECTIONS: usize = 1601;
+pub const FALLING_SECTIONS: usize = 1602;
 
 // The sections of both edges, empty.
-pub(crate) fn clear_sections(spans: &mut [u64; 1666])
-    requires { ⌜ length (now spans) ≡ 1666 ⌝ }
-    ensures { λ _. ⌜ (length (now (spans .exit)) ≡ 1666) × Ascending (now (spans .exit)) 1536 × Ascending (now (spans .exit)) 1601 ⌝ }
+pub(crate) fn clear_sections(spans: &mut [u64; 1668])
+    requires { ⌜ length (now spans) ≡ 1668 ⌝ }
+    ensures { λ _. ⌜ (length (now (spans .exit)) ≡ 1668) × Ascending (now (spans .exit)) 1536 × Ascending (now (spans .exit)) 1602 ⌝ }
 {
     let mut o = 0;
-    while o < 130 {
+    while o < 132 {
         spans[1536 + o] = 0;
         o += 1;
     }
@@ -54,18 +55,38 @@ fn section_begin(
     at
 }
 
+// A bit for each of the first outputs that the first held run may hold wholly: those whose numbers end before an output that begins in it. What is found is
+// asked again where it is used.
+fn whole_outputs(places: &[u64; 4224], outputs: usize, held: &[u64]) -> u64 {
+    if held.len() < 2 {
+        return 0;
+    }
+    let high = held[1];
+    let mut whole: u64 = 0;
+    let mut output = 1;
+    while output < 64 && places[4096 + output] <= high {
+        if outputs <= output {
+            return whole;
+        }
+        whole = whole | (1u64 << ((output - 1) as u64));
+        output += 1;
+    }
+    whole
+}
+
 // Finds the sections of the runs that an edge holds. What it finds is only where a search begins and ends.
 pub fn find_sections(
     places: &[u64; 4224],
     outputs: usize,
     held: &[u64],
-    spans: &mut [u64; 1666],
+    spans: &mut [u64; 1668],
     base: usize,
 )
-    requires { ⌜ (length (now spans) ≡ 1666) × ((base ≡ 1536) ⊎ (base ≡ 1601)) ⌝ }
-    ensures { λ _. ⌜ (length (now (spans .exit)) ≡ 1666)
+    requires { ⌜ (length (now spans) ≡ 1668) × ((base ≡ 1536) ⊎ (base ≡ 1602)) ⌝ }
+    ensures { λ _. ⌜ (length (now (spans .exit)) ≡ 1668)
         × ((inputs : ℕ) → inputs ≤ 64 → InputSpans (now (spans .entry)) inputs → InputSpans (now (spans .exit)) inputs) ⌝ }
 {
+    spans[base + 65] = whole_outputs(places, outputs, held);
     let mut at = 0;
     let mut output = 0;
     while output < 64 {
@@ -125,12 +146,12 @@ fn span_inside(
 fn output_inside(
     places: &[u64; 4224],
     output: usize,
-    spans: &[u64; 1666],
+    spans: &[u64; 1668],
     base: usize,
     words: &[u64],
     held: &[u64],
 ) -> bool
-    requires { ⌜ (output < 64) × (base ≤ 1601) × SectionIn (now spans) (base + output) (length (now held) / 2) ⌝ }
+    requires { ⌜ (output < 64) × (base ≤ 1602) × SectionIn (now spans) (base + output) (length (now held) / 2) ⌝ }
     requires { ⌜ OutputReady (now places) (now spans) (now words) output × (4 * maxRuns ≤ length (now words)) ⌝ }
     ensures { λ r. ⌜ (r ≡ true → OutputHeld (now (places .entry)) (now (spans .entry)) (now (words .entry)) (now (held .entry)) output) ⌝ }
 {
@@ -148,22 +169,49 @@ fn output_inside(
     )
 }
 
+// The live outputs that are left to ask. Those of `whole` are not asked where they come before an output that begins in the first held run, and this begins with
+// number 1: their runs end before that output's. On long files these are most outputs, and none of their runs is looked at.
+fn past_whole(places: &[u64; 4224], outs: u64, whole: u64, held: &[u64]) -> u64
+    ensures { λ r. ⌜ Asked (now (places .entry)) outs (now (held .entry)) r ⌝ }
+{
+    let first = u64::trailing_zeros(!whole);
+    if 63 < first {
+        return outs;
+    }
+    if whole >> (first as u64) != 0 {
+        return outs;
+    }
+    if outs >> (first as u64) == 0 {
+        return outs;
+    }
+    if held.len() < 2 {
+        return outs;
+    }
+    if 1 < held[0] {
+        return outs;
+    }
+    if held[1] < places[4096 + first as usize] {
+        return outs;
+    }
+    outs & !whole
+}
+
 // Whether every run of the live outputs lies in a held run; the answer false promises nothing.
 pub fn outputs_inside(
     places: &[u64; 4224],
     outs: u64,
-    spans: &[u64; 1666],
+    spans: &[u64; 1668],
     base: usize,
     words: &[u64],
     held: &[u64],
 ) -> bool
-    requires { ⌜ (base ≤ 1601) × OutputsReady (now places) outs (now spans) (now words) × Ascending (now spans) base ⌝ }
+    requires { ⌜ (base ≤ 1602) × OutputsReady (now places) outs (now spans) (now words) × Ascending (now spans) base ⌝ }
     ensures { λ r. ⌜ (r ≡ true → OutputsHeld (now (places .entry)) outs (now (spans .entry)) (now (words .entry)) (now (held .entry))) ⌝ }
 {
     if ((held.len() / 2) as u64) < spans[base + 64] {
         return false;
     }
-    let mut left = outs;
+    let mut left = past_whole(places, outs, spans[base + 65], held);
     while left != 0 {
         let output = u64::trailing_zeros(left) as usize;
         if !output_inside(places, output, spans, base, words, held) {

@@ -18,7 +18,7 @@ pub record EdgeReady (K : Case) (table places entries : List ℕ) (marks : EdgeM
   pub listed : ListedAt K table places entries (marks .edges) (marks .outs) (marks .inputs) spans ws
   pub soundHeld : Sound (pathTotal (K .netlist)) (heldRuns held)
   pub fewHeld : length held / 2 ≤ maxRuns
-  pub sections : (marks .base ≡ 1536) ⊎ (marks .base ≡ 1601)
+  pub sections : (marks .base ≡ 1536) ⊎ (marks .base ≡ 1602)
   pub high : 2 * maxRuns ≤ marks .target
   pub room : 2 * (marks .target + maxRuns) ≤ length ws
 

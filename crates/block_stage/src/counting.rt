@@ -143,7 +143,7 @@ pub fn count_block(
     let inputs = batch.inputs;
     let outputs = batch.outputs;
     let records = batch.records;
-    let mut spans = [0u64; 1666];
+    let mut spans = [0u64; 1668];
     begin_spans(places, inputs, outputs, store, &mut spans);
     let mut answers = [0u64; 192];
     let mut held = totals_of(store);

@@ -28,7 +28,7 @@ pub(crate) fn cover_edge(
     entries: &[u32],
     marks: EdgeMarks,
     held: &[u64],
-    spans: &mut [u64; 1666],
+    spans: &mut [u64; 1668],
     words: &mut [u64],
 ) -> EdgeAnswer
     requires { ⌜ SomeEdgeReady (now table) (now places) (now entries) marks (now held) (now spans) (now words) ⌝ }

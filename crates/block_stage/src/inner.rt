@@ -39,7 +39,7 @@ pub fn apply_block(
     let inputs = batch.inputs;
     let outputs = batch.outputs;
     let records = batch.records;
-    let mut spans = [0u64; 1666];
+    let mut spans = [0u64; 1668];
     begin_spans(places, inputs, outputs, store, &mut spans);
     let mut t = 0;
     while t < records {

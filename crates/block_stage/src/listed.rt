@@ -55,7 +55,7 @@ pub(crate) fn cover_listed(
     downs: &[u32],
     edges: RecordEdges,
     store: &[u64],
-    spans: &mut [u64; 1666],
+    spans: &mut [u64; 1668],
     words: &mut [u64],
 ) -> BothAnswer
     requires { ⌜ SomeListedBoth (now table) (now places) (now ups) (now downs) edges (now store) (now spans) (now words) ⌝ }
@@ -109,7 +109,7 @@ pub(crate) fn apply_listed(
     downs: &[u32],
     edges: RecordEdges,
     store: &mut [u64],
-    spans: &mut [u64; 1666],
+    spans: &mut [u64; 1668],
     work: &mut [u64],
 ) -> StageAnswer
     requires { ⌜ SomeListedBoth (now table) (now places) (now ups) (now downs) edges (now store) (now spans) (now work) ⌝ }

@@ -21,9 +21,9 @@ pub(crate) fn begin_spans(
     inputs: usize,
     outputs: usize,
     store: &[u64],
-    spans: &mut [u64; 1666],
+    spans: &mut [u64; 1668],
 )
-    requires { ⌜ (inputs ≤ 64) × FewRuns (now store) × (length (now spans) ≡ 1666) ⌝ }
+    requires { ⌜ (inputs ≤ 64) × FewRuns (now store) × (length (now spans) ≡ 1668) ⌝ }
     ensures { λ _. ⌜ InputSpans (now (spans .exit)) inputs ⌝ }
 {
     input_spans(spans, inputs);
@@ -49,11 +49,11 @@ fn renew_edge(
     outputs: usize,
     change: Change,
     held: &[u64],
-    spans: &mut [u64; 1666],
+    spans: &mut [u64; 1668],
     base: usize,
 )
-    requires { ⌜ (length (now spans) ≡ 1666) × ((base ≡ 1536) ⊎ (base ≡ 1601)) ⌝ }
-    ensures { λ _. ⌜ (length (now (spans .exit)) ≡ 1666)
+    requires { ⌜ (length (now spans) ≡ 1668) × ((base ≡ 1536) ⊎ (base ≡ 1602)) ⌝ }
+    ensures { λ _. ⌜ (length (now (spans .exit)) ≡ 1668)
         × ((inputs : ℕ) → inputs ≤ 64 → InputSpans (now (spans .entry)) inputs → InputSpans (now (spans .exit)) inputs) ⌝ }
 {
     if let Change::Kept = change {
@@ -68,9 +68,9 @@ pub(crate) fn renew_sections(
     outputs: usize,
     answer: BothAnswer,
     store: &[u64],
-    spans: &mut [u64; 1666],
+    spans: &mut [u64; 1668],
 )
-    requires { ⌜ FewRuns (now store) × (length (now spans) ≡ 1666) ⌝ }
+    requires { ⌜ FewRuns (now store) × (length (now spans) ≡ 1668) ⌝ }
     ensures { λ _. ⌜ ((inputs : ℕ) → inputs ≤ 64 → InputSpans (now (spans .entry)) inputs → InputSpans (now (spans .exit)) inputs) ⌝ }
 {
     match answer {

@@ -16,11 +16,14 @@ fn bit_of(word: u64, place: u64) -> u32
     ((word >> place) & 1) as u32
 }
 
-// The pins that are active in a record, a bit for each.
+// The pins that are active in a record, a bit for each. Nearly every gate has two pins, which want no loop.
 fn byte_of(rows: &[u64; 8], pins: usize, place: u64) -> u32
     requires { ⌜ (pins ≤ 8) × (place < 64) ⌝ }
     ensures { λ r. ⌜ (r ≡ packBits (bitsAt (firstWords (now (rows .entry)) pins) place)) × (r < 256) ⌝ }
 {
+    if pins == 2 {
+        return bit_of(rows[0], place) + 2 * bit_of(rows[1], place);
+    }
     let mut byte: u32 = 0;
     let mut k = pins;
     while 0 < k {

@@ -9,7 +9,7 @@ abbrev Inv-loop : tie.InvT-loop
 Inv-loop spans₀ o₀ spans o = Cleared spans o
 
 abbrev μ-loop : tie.MeasureT-loop
-μ-loop spans₀ o₀ spans o = 130 - o
+μ-loop spans₀ o₀ spans o = 132 - o
 
 loop-holds : tie.Need-loop-holds Inv-loop μ-loop
 loop-holds c = search clear-cases

@@ -1,4 +1,5 @@
--- `block_runs::sections::find_sections` meets its contract. The invariant, `Finding`: the sections so far ascend, and nothing else has changed.
+-- `block_runs::sections::find_sections` meets its contract. The invariant, `Finding`: the sections so far ascend, and nothing else has changed since the word
+-- after them was written.
 -- Assumes nothing.
 use Prim.Native.Nat.{_-_, _/_}
 use lib.ListN.{length}
@@ -12,11 +13,8 @@ Inv-loop places outputs held spans₀ base at₀ output₀ spans at output = Fin
 abbrev μ-loop : tie.MeasureT-loop
 μ-loop places outputs held spans₀ base at₀ output₀ spans at output = 64 - output
 
-loop-holds : tie.Need-loop-holds Inv-loop μ-loop
-loop-holds c = search find-cases
-
-section-begin-requires : tie.Need-section-begin-requires Inv-loop μ-loop
-section-begin-requires c κs = search find-cases
+whole-outputs-requires : tie.Need-whole-outputs-requires Inv-loop μ-loop
+whole-outputs-requires c κs = search find-cases
 
 add-spans : tie.Need-add-spans Inv-loop μ-loop
 add-spans c = search find-cases
@@ -27,14 +25,11 @@ mul-spans c = search find-cases
 element-write-spans : tie.Need-element-write-spans Inv-loop μ-loop
 element-write-spans c = search find-cases
 
-add-output : tie.Need-add-output Inv-loop μ-loop
-add-output c = search find-cases
+loop-holds : tie.Need-loop-holds Inv-loop μ-loop
+loop-holds c = search find-cases
 
-loop-less : tie.Need-loop-less Inv-loop μ-loop
-loop-less c = search find-cases
-
-loop-again : tie.Need-loop-again Inv-loop μ-loop
-loop-again c = search find-cases
+section-begin-requires : tie.Need-section-begin-requires Inv-loop μ-loop
+section-begin-requires c κs = search find-cases
 
 add-spans-2 : tie.Need-add-spans-2 Inv-loop μ-loop
 add-spans-2 c = search find-cases
@@ -45,6 +40,24 @@ mul-spans-2 c = search find-cases
 element-write-spans-2 : tie.Need-element-write-spans-2 Inv-loop μ-loop
 element-write-spans-2 c = search find-cases
 
+add-output : tie.Need-add-output Inv-loop μ-loop
+add-output c = search find-cases
+
+loop-less : tie.Need-loop-less Inv-loop μ-loop
+loop-less c = search find-cases
+
+loop-again : tie.Need-loop-again Inv-loop μ-loop
+loop-again c = search find-cases
+
+add-spans-3 : tie.Need-add-spans-3 Inv-loop μ-loop
+add-spans-3 c = search find-cases
+
+mul-spans-3 : tie.Need-mul-spans-3 Inv-loop μ-loop
+mul-spans-3 c = search find-cases
+
+element-write-spans-3 : tie.Need-element-write-spans-3 Inv-loop μ-loop
+element-write-spans-3 c = search find-cases
+
 returns : tie.Need-returns Inv-loop μ-loop
 returns c = (search find-cases, search find-cases)
 
@@ -54,15 +67,19 @@ find-sections-spec =
     (tie.spec
     Inv-loop
     μ-loop
-    loop-holds
-    section-begin-requires
+    whole-outputs-requires
     add-spans
     mul-spans
     element-write-spans
-    add-output
-    loop-less
-    loop-again
+    loop-holds
+    section-begin-requires
     add-spans-2
     mul-spans-2
     element-write-spans-2
+    add-output
+    loop-less
+    loop-again
+    add-spans-3
+    mul-spans-3
+    element-write-spans-3
     returns)

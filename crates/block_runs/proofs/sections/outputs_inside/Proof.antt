@@ -22,6 +22,18 @@ element-copy-out-if1 c = search held-cases
 returns : tie.Need-returns Inv-loop μ-loop
 returns c = search held-cases
 
+add-past-whole : tie.Need-add-past-whole Inv-loop μ-loop
+add-past-whole c = search held-cases
+
+mul-past-whole : tie.Need-mul-past-whole Inv-loop μ-loop
+mul-past-whole c = search held-cases
+
+element-copy-out-past-whole : tie.Need-element-copy-out-past-whole Inv-loop μ-loop
+element-copy-out-past-whole c = search held-cases
+
+past-whole-requires : tie.Need-past-whole-requires Inv-loop μ-loop
+past-whole-requires c κs = search held-cases
+
 loop-holds : tie.Need-loop-holds Inv-loop μ-loop
 loop-holds c = search held-cases
 
@@ -56,6 +68,10 @@ outputs-inside-spec =
     mul-if1
     element-copy-out-if1
     returns
+    add-past-whole
+    mul-past-whole
+    element-copy-out-past-whole
+    past-whole-requires
     loop-holds
     cast-output
     output-inside-requires
