@@ -30,7 +30,7 @@
  *  83  class of tests neither 1 nor 2
  *  33  test file not whole records, or over 4,294,967,295 of them
  *  30  test record's length                     31  test record's mark
- *  32  spare bit set
+ *  32  spare bit set                            85  a pair without a changed input
  *  40  store: number of runs over 1,024         41  a run out of range or not after the one before
  *  42  word past the last run not zero
  *  84  coverage by length: a path to an output has more than 63 gates
@@ -89,7 +89,7 @@ uint32_t genduwal_empty(uint64_t *store, size_t store_len);
 /* Adds the faults that one test record detects in a class to a store of 4,098 words. answer: new rising faults, new falling faults, rising
  * faults then held, falling faults then held. work is at least 8,192 words; the first 8,192 may hold anything afterwards, later ones stay as
  * they were. A refused call leaves the store as it was. A store does not remember classes: calls on one store may be of unlike classes.
- * Refusals: 1, 2, 10 to 15, 17 to 21, 83, 30 to 32, 40 to 42, 50, 51. */
+ * Refusals: 1, 2, 10 to 15, 17 to 21, 83, 30 to 32, 85, 40 to 42, 50, 51. */
 uint32_t genduwal_test(const uint8_t *netlist, size_t netlist_len, const uint8_t *test, size_t test_len, uint32_t test_class,
                        uint64_t *store, size_t store_len, uint64_t *work, size_t work_len, uint64_t answer[4]);
 
@@ -129,7 +129,7 @@ uint32_t genduwal_write_report(const uint8_t *netlist, size_t netlist_len, const
  * accepts (returns 0) if the report is the one that the writer gives for the store then reached and the number of records. store is 4,098
  * words, of any content; work is at least 8,192 words, used as by a test. An accepting call leaves the store that the tests reach, one
  * refused with a number over 2 leaves it all zeros.
- * Refusals: 1, 2, 10 to 15, 17 to 21, 83, 31 to 33, 50, 51, 70 to 72. */
+ * Refusals: 1, 2, 10 to 15, 17 to 21, 83, 33, then for one record after another 31, 32, 85, 50, 51, and then 70 to 72. */
 uint32_t genduwal_audit(const uint8_t *netlist, size_t netlist_len, const uint8_t *tests, size_t tests_len, const uint8_t *report,
                         size_t report_len, uint32_t test_class, uint64_t *store, size_t store_len, uint64_t *work, size_t work_len);
 
@@ -152,7 +152,7 @@ uint32_t genduwal_audit_begin(const uint8_t *netlist, size_t netlist_len, uint32
 /* A piece: takes its records in their order; bytes after the last whole record are not looked at. answer: the number of records, all taken.
  * work is at least 8,192 words, used as by a test, and only once 40 to 42 are passed. A call refused with 1 or 2 leaves the store as it was,
  * with any other number all zeros.
- * Refusals: 1, 2, 10 to 15, 17 to 21, 83, 40 to 42, then for one record after another 31, 32, 50, 51. */
+ * Refusals: 1, 2, 10 to 15, 17 to 21, 83, 40 to 42, then for one record after another 31, 32, 85, 50, 51. */
 uint32_t genduwal_audit_piece(const uint8_t *netlist, size_t netlist_len, const uint8_t *piece, size_t piece_len, uint32_t test_class,
                               uint64_t *store, size_t store_len, uint64_t *work, size_t work_len, uint64_t answer[1]);
 

@@ -117,7 +117,15 @@ fn changed(bytes: &[u8], at: usize, change: u8) -> Vec<u8> {
     copy
 }
 
-/// The refused audits of a load: 83, 33, 31, 32, 70, 71, 72 and a netlist cut short.
+/// A copy of some records in which V2 of the record at a place of the file is its V1.
+fn padded(tests: &[u8], at: usize, record_bytes: usize) -> Vec<u8> {
+    let mut copy = tests.to_vec();
+    let vector = (record_bytes - 2) / 2;
+    copy.copy_within(at + 2..at + 2 + vector, at + 2 + vector);
+    copy
+}
+
+/// The refused audits of a load: 83, 33, 31, 32, 85, 70, 71, 72 and a netlist cut short.
 pub fn refused_audits(both: &mut Both, load: &Load, report: &[u8], class: u32) {
     let (netlist, tests) = (&load.netlist[..], &load.tests[..]);
     let middle = load.record_bytes * (load.records / 2);
@@ -128,6 +136,7 @@ pub fn refused_audits(both: &mut Both, load: &Load, report: &[u8], class: u32) {
     assert_eq!(both.audit(netlist, &changed(tests, middle, 1), report, class), 31);
     assert_eq!(both.audit(netlist, &changed(tests, middle + 1, 0x80), report, class), 31);
     assert_eq!(both.audit(netlist, &changed(tests, spare, 0x80), report, class), 32);
+    assert_eq!(both.audit(netlist, &padded(tests, middle, load.record_bytes), report, class), 85);
     assert_eq!(both.audit(netlist, tests, &report[..33], class), 70);
     assert_eq!(both.audit(netlist, tests, &changed(report, 0, 1), class), 70);
     assert_eq!(both.audit(netlist, tests, &more_runs, class), 71);
@@ -160,7 +169,7 @@ pub fn wrong_lengths(both: &mut Both, load: &Load, report: &[u8]) {
     both.twin.work.push(0);
 }
 
-/// The test call on records and stores with one thing wrong: 83, 30, 31, 32, 40, 41, 42.
+/// The test call on records and stores with one thing wrong: 83, 30, 31, 32, 85, 40, 41, 42.
 pub fn refused_tests(both: &mut Both, load: &Load, store: &[u64], random: &mut Random) {
     let record = &load.tests[..load.record_bytes];
     both.set_stores(store);
@@ -168,6 +177,7 @@ pub fn refused_tests(both: &mut Both, load: &Load, store: &[u64], random: &mut R
     assert_eq!(both.test(&load.netlist, &record[1..], 1), Err(30));
     assert_eq!(both.test(&load.netlist, &changed(record, 0, 1), 1), Err(31));
     assert_eq!(both.test(&load.netlist, &changed(record, record.len() - 1, 0x80), 1), Err(32));
+    assert_eq!(both.test(&load.netlist, &padded(record, 0, record.len()), 1), Err(85));
     for _ in 0..2000 {
         let mut broken = store.to_vec();
         let at = [0, 1, 2, 3, 2050, random.below(broken.len())][random.below(6)];

@@ -79,14 +79,20 @@ pub fn record(inputs: usize, v1: u64, v2: u64) -> Vec<u8> {
     record
 }
 
-/// The next record of a mixed load: in turn a random pair, a pair that differs in one to three inputs, and a repeat of an earlier record.
+/// The next record of a mixed load: in turn a random pair, a pair that differs in one to three inputs, and a repeat of an earlier record. A random
+/// pair of equal vectors, which is no test (85), is drawn again.
 fn propose(turn: usize, inputs: usize, earlier: &[Vec<u8>], random: &mut Random) -> Vec<u8> {
     let v2 = random.next();
     if turn % 3 == 2 && !earlier.is_empty() {
         return earlier[random.below(earlier.len())].clone();
     }
     if turn % 3 == 0 {
-        return record(inputs, random.next(), v2);
+        let used = u64::MAX >> (64 - inputs);
+        let mut v1 = random.next();
+        while (v1 ^ v2) & used == 0 {
+            v1 = random.next();
+        }
+        return record(inputs, v1, v2);
     }
     let moves = 1 + random.below(3);
     let moved = (0..moves).fold(0, |moved, _| moved | 1 << random.below(inputs));
@@ -116,7 +122,7 @@ pub fn all_take(memories: &mut Memories, netlist: &[u8], record: &[u8]) -> bool 
     taken
 }
 
-/// A record that each class's store takes: of the mixed kinds, or of one moved input, or else a repeat of a taken record.
+/// A record that each class's store takes: of the mixed kinds, or of one moved input, or else, after the first, a repeat of a taken record.
 fn next_taken(
     netlist: &[u8],
     inputs: usize,
@@ -125,7 +131,10 @@ fn next_taken(
     memories: &mut Memories,
     random: &mut Random,
 ) -> Vec<u8> {
-    for attempt in 0..8 {
+    for attempt in 0.. {
+        if 8 <= attempt && !taken.is_empty() {
+            break;
+        }
         let next = if attempt < 4 {
             propose(turn, inputs, taken, random)
         } else {
@@ -136,10 +145,7 @@ fn next_taken(
             return next;
         }
     }
-    match taken {
-        [] => record(inputs, 0, 0),
-        _ => taken[random.below(taken.len())].clone(),
-    }
+    taken[random.below(taken.len())].clone()
 }
 
 /// A mixed load whose records are all taken in each of some classes, in their order: for the audit, which ends at the first refused record.

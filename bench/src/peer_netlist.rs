@@ -222,6 +222,9 @@ impl Netlist {
             u64::from_le_bytes(word)
         };
         let (v1, v2) = (word(&record[2..2 + bytes]), word(&record[2 + bytes..]));
-        if self.inputs < 64 && (v1 | v2) >> self.inputs != 0 { Err(32) } else { Ok((v1, v2)) }
+        if self.inputs < 64 && (v1 | v2) >> self.inputs != 0 {
+            return Err(32);
+        }
+        if v1 == v2 { Err(85) } else { Ok((v1, v2)) }
     }
 }

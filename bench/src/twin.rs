@@ -396,7 +396,10 @@ impl Circuit {
         let (v1, v2) = vectors.split_at(vectors.len() / 2);
         let (v1, v2) = (vector(v1), vector(v2));
         let spare = !(u64::MAX >> (64 - self.inputs));
-        if (v1 | v2) & spare != 0 { Err(32) } else { Ok((v1, v2)) }
+        if (v1 | v2) & spare != 0 {
+            return Err(32);
+        }
+        if v1 == v2 { Err(85) } else { Ok((v1, v2)) }
     }
 
     /// The open pins of all gates in a class.

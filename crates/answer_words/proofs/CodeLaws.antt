@@ -48,6 +48,7 @@ code-refused why.BenchName = refl
 code-refused why.BenchCount = refl
 code-refused why.UnknownClass = refl
 code-refused why.PathTooLong = refl
+code-refused why.UnchangedPair = refl
 
 pub code-zero : codeAnswer 0 ≡ value tt
 unfolding codeAnswer

@@ -15,6 +15,7 @@ use Rattle.model.specs.Demand3 as demand
 use Rattle.model.specs.Demand3.{Call, State, start, testIn, next, afterCalls, leftBy, NoRefusal, StoreTrue}
 use Rattle.model.proofs.AnswerLaws.{not-refused, value-inj, steps}
 use Rattle.model.proofs.ReportsHold.{demand-3}
+use Rattle.model.proofs.UnchangedHolds.{unchanged-pairs}
 use Rattle.coverage.specs.TestCall.{testedOf}
 use Rattle.store.specs.Answers.{totalsOf}
 use Rattle.store.specs.declared.TotalsAnswer.{TotalsAnswer}
@@ -23,7 +24,7 @@ use Rattle.report.specs.Answers.{writtenOf}
 use Rattle.report.specs.declared.WriteAnswer.{WriteAnswer}
 use Rattle.report.specs.declared.WriteAnswer.the-variants as write
 use Rattle.file_judging.specs.FileJudging.{auditedOf}
-use Rattle.audit.specs.Promised.{MadeCall, TakenCall, Promised, lastStore, withTaken, takenTests, TotalsTrue, ListTrue, CallsTrue}
+use Rattle.audit.specs.Promised.{MadeCall, TakenCall, Promised, lastStore, withTaken, takenTests, TotalsTrue, ListTrue, CallsTrue, PaddingRefused}
 use Rattle.file_judging.specs.declared.AuditAnswer.{AuditAnswer}
 use Rattle.file_judging.specs.declared.AuditAnswer.the-variants as audit
 
@@ -146,4 +147,11 @@ calls-true = record {
   );
   acceptedNames = λ r netlist class testFile report ws ws′ found left a q.
       demand-3 .acceptedNames netlist class testFile report ws found (sym (a .answer) ∙ ap auditedOf q);
+}
+
+-- Ticket 8
+pub padding-refused : PaddingRefused
+padding-refused = record {
+  notAccepted = λ r netlist class testFile report ws ws′ found left a N e rec m u q.
+      unchanged-pairs .notAccepted netlist N e class testFile report ws found rec m u (sym (a .answer) ∙ ap auditedOf q);
 }

@@ -1,8 +1,8 @@
--- Demand 3 of the values that the calls return: each test call, the totals call, the writer and the audit meets its promise.
+-- Demand 3 of the values that the calls return: each test call, the totals call, the writer and the audit meets its promise. Then ticket 8 of these.
 -- Assumes nothing.
 use mathlib.Core.Path.{_≡_}
 use mathlib.Core.Logic.{_↔_}
-use mathlib.Core.List.{List, [], _∷_, _++_, map}
+use mathlib.Core.List.{List, [], _∷_, _++_, map, List·Memᴰ}
 use Prim.Native.Nat.{ℕ, _≤_}
 use lib.Dec.{T}
 use lib.ListN.{length, drop}
@@ -16,6 +16,7 @@ use Rattle.model.specs.Store.{emptyStore, storeRuns}
 use Rattle.model.specs.Calls.{FaultCounts, totalsCall}
 use Rattle.model.specs.Report.{fileRecords, reportBufferBytes}
 use Rattle.model.specs.Demand3.{Call, testIn, knownClass, CountOf, Detected, RunsOfDetected, detectedBy, NoRefusal, Returned, WhollyTaken, FileCalls, testsOf, TrueReport, NamesDetected, Acceptable}
+use Rattle.model.specs.Unchanged.{Unchanged}
 use Rattle.coverage.specs.TestCall.{testedOf}
 use Rattle.test_call.specs.TestPromise.{TestTrue}
 use Rattle.coverage.specs.declared.TestAnswer.{TestAnswer}
@@ -108,3 +109,9 @@ pub record CallsTrue : Type 0 where
   pub acceptedNames : (r : AuditAnswer) (netlist : List ℕ) (class : ℕ) (testFile report ws ws′ found left : List ℕ)
       → AuditTrue r netlist class testFile report ws ws′ found left
       → r ≡ audit.Accepted → (N : Netlist) → readNetlist netlist ≡ value N → NamesDetected N (testsOf N (classOf class) testFile) report
+
+-- Pairs that change nothing, of the value that the audit returns: a report whose list of tests holds one is not accepted
+pub record PaddingRefused : Type 0 where
+  pub notAccepted : (r : AuditAnswer) (netlist : List ℕ) (class : ℕ) (testFile report ws ws′ found left : List ℕ)
+      → AuditTrue r netlist class testFile report ws ws′ found left → (N : Netlist) → readNetlist netlist ≡ value N
+      → (rec : List ℕ) → List·Memᴰ rec (fileRecords N testFile) → Unchanged N rec → r ≡ audit.Accepted → ⊥

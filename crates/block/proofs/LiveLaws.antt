@@ -3,7 +3,6 @@
 use mathlib.Core.Path.{_≡_, refl, ap, sym, _∙_, subst}
 use mathlib.Core.Bool.{Bool, true, false, _&&_, _||_}
 use mathlib.Core.List.{List, [], _∷_}
-use mathlib.Core.Logic.{⊎-elim}
 use Prim.Native.Nat.{ℕ, zero, suc, _+_, _≤_, _<_}
 use native.Mathlib.Omega.{arith}
 use lib.Dec.{T, eqb}
@@ -13,7 +12,8 @@ use Rattle.model.specs.Netlist.{Netlist, nets, counts, pinsOf, pinNet, pinCount
 use Rattle.model.specs.Path.{Edge, countsBefore, split}
 use Rattle.model.specs.Detect.{Test, openPin, hasEdge, inNetSet}
 use Rattle.model.specs.Runs.{Run, addNumber, runsFrom, runsOf}
-use Rattle.model.proofs.BoolLaws.{and-left, and-right, both, or-cases, or-left, or-right}
+use Rattle.model.proofs.BoolLaws.{and-left, and-right, both}
+use Rattle.model.proofs.ListLaws.{some-of, any-of}
 use Rattle.model.proofs.WellFormed.{WellFormed}
 use Rattle.model.proofs.NetLaws.{count-input, count-gate}
 use Rattle.model.proofs.NumberLaws.{splits, countsBefore-le, length-pinCounts, pinCounts-at}
@@ -26,30 +26,6 @@ same-test true true f g = refl
 same-test true false f g = absurd (f tt)
 same-test false true f g = absurd (g tt)
 same-test false false f g = refl
-
--- some number of a stretch passes the test
-record Some (f : ℕ → Bool) (k n : ℕ) : Type 0 where
-  place : ℕ
-  low : k ≤ place
-  high : place < k + n
-  passes : T (f place)
-
-some-of : (f : ℕ → Bool) (n k : ℕ) → T (anyOf f (numbersFrom k n)) → Some f k n
-some-of f zero k t = absurd t
-some-of f (suc n) k t =
-    ⊎-elim (λ u. record { place = k; low = omega arith; high = omega arith; passes = u })
-    (λ u. let s = some-of f n (suc k) u in record { place = s .place; low = omega (arith, s .low); high = omega (arith, s .high); passes = s .passes })
-    (or-cases (f k) (anyOf f (numbersFrom (suc k) n)) t)
-
-any-of : (f : ℕ → Bool) (n k i : ℕ) → k ≤ i → i < k + n → T (f i) → T (anyOf f (numbersFrom k n))
-any-of f zero k i a b t = absurd (none k i a b)
-  where
-    none : (k i : ℕ) → k ≤ i → i < k + 0 → ⊥
-    none k i a b = omega arith
-any-of f (suc n) k i a b t =
-    ⊎-elim (λ e. or-left (f k) (anyOf f (numbersFrom (suc k) n)) (subst (λ j. T (f j)) (sym e) t))
-    (λ l. or-right (f k) (anyOf f (numbersFrom (suc k) n)) (any-of f n (suc k) i l (omega arith) t))
-    (native.Mathlib.Nat.eq-or-lt-of-le a)
 
 module _ (N : Netlist) (w : WellFormed N) (t : Test) (e : Edge) where
   pub live-input : (net : ℕ) → net < N .inputs → liveNet N t e net ≡ hasEdge t e net

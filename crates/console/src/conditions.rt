@@ -21,8 +21,11 @@ pub fn print_condition(fd: i32, why: Refusal) {
         | Refusal::OutputNet
         | Refusal::BytesLeftOver
         | Refusal::TotalOverLimit => print_outputs(fd, why),
-        Refusal::RecordLength | Refusal::RecordMark | Refusal::SpareBit | Refusal::TestFileLength =>
-            print_tests(fd, why),
+        Refusal::RecordLength
+        | Refusal::RecordMark
+        | Refusal::SpareBit
+        | Refusal::UnchangedPair
+        | Refusal::TestFileLength => print_tests(fd, why),
         Refusal::RunCount
         | Refusal::RunRange
         | Refusal::WordPastRuns
@@ -100,6 +103,7 @@ fn print_tests(fd: i32, why: Refusal) {
         Refusal::RecordLength => print(fd, b"A test record has the wrong length.\n"),
         Refusal::RecordMark => print(fd, b"A test record does not begin with its mark.\n"),
         Refusal::SpareBit => print(fd, b"A test record has a spare bit set.\n"),
+        Refusal::UnchangedPair => print(fd, b"The pair of a test record changes no input.\n"),
         Refusal::TestFileLength => print(
             fd,
             b"The test file is no whole number of records, or has over 4,294,967,295 of them.\n",

@@ -1,5 +1,5 @@
--- Document 01's listing for Q and its three tests, one with two refused records, one in class 2 and one in another class, computed from the
--- definitions.
+-- Document 01's listing for Q and its three tests, one with two refused records, one in class 2, one in another class and one with a pair that
+-- changes nothing, computed from the definitions.
 -- Assumes nothing.
 use mathlib.Core.Path.{_≡_}
 use mathlib.Core.Bool.{_&&_}
@@ -14,7 +14,7 @@ use Rattle.model.specs.Read.{readNetlist, readGates, readOutputs, testOf}
 use Rattle.model.specs.Store.{storeRuns, storeOf}
 use Rattle.model.specs.Calls.{testStage, tested}
 use Rattle.model.specs.Report.{sameBytes}
-use Rattle.model.specs.Examples.{Q, detectsNone, detectsFalling, detectsRising, hazard, riseAndFall}
+use Rattle.model.specs.Examples.{Q, detectsNone, detectsFalling, detectsRising, hazard, riseAndFall, equalPair}
 use Rattle.model.specs.Encode.{headerBytes, gateBytes, netBytes, outputBytes, testBytes}
 use Rattle.model.proofs.AnswerLaws.{same→}
 use Rattle.model.proofs.BoolLaws.{and-left, and-right}
@@ -23,7 +23,7 @@ use Rattle.coverage.specs.TestCall.{returnedBy}
 use Rattle.text.specs.Decimal.{digitsOf, decimalText, refusedText}
 use Rattle.listing_lines.specs.ListingLines.{pathsLine, refusedLine, recordLine}
 use Rattle.listing_text.specs.Listing.{recordLines, storeAfterAll, listedRecords, runLines, totalsLines, storeLines, listingOf, listingText}
-use Rattle.listing_text.specs.Example.{threeTests, eightLines, twoRefused, refusedLines, robustLines, otherClassLine}
+use Rattle.listing_text.specs.Example.{threeTests, eightLines, twoRefused, refusedLines, robustLines, otherClassLine, onePadded, paddedLines}
 
 both : T (sameBytes (listingText Q 1 threeTests) eightLines && sameBytes (listingText Q 1 twoRefused) refusedLines)
 unfolding threeTests eightLines twoRefused refusedLines Q detectsNone detectsFalling detectsRising
@@ -40,6 +40,14 @@ unfolding threeTests robustLines otherClassLine hazard riseAndFall headerBytes g
     readNetlist readGates readOutputs testOf counts outputCount pathTotal pathOf pathAt split detectsNumber detects allOpen hasEdge openPin evaluate
     workingRuns inNetSet runsOf runsFrom addNumber separatedRuns inRuns howMany howManyFrom size
 classes = tt
+
+padded : T (sameBytes (listingText Q 1 onePadded) paddedLines)
+unfolding onePadded paddedLines equalPair testBytes Q detectsNone detectsFalling
+    listingText listingOf storeLines totalsLines runLines listedRecords storeAfterAll recordLines recordLine refusedLine pathsLine
+    digitsOf decimalText refusedText storeAfter returnedBy testStage tested storeRuns storeOf
+    readNetlist readGates readOutputs testOf counts outputCount pathTotal pathOf pathAt split detectsNumber detects allOpen hasEdge openPin evaluate
+    workingRuns inNetSet runsOf runsFrom addNumber separatedRuns inRuns howMany howManyFrom size
+padded = tt
 
 -- document 01's eight lines
 pub eight-lines-hold : listingText Q 1 threeTests ≡ eightLines
@@ -62,3 +70,7 @@ pub other-class-holds : listingText Q 3 threeTests ≡ otherClassLine
 other-class-holds =
     same→ (listingText Q 3 threeTests) otherClassLine
     (and-right (sameBytes (listingText hazard 2 riseAndFall) robustLines) (sameBytes (listingText Q 3 threeTests) otherClassLine) classes)
+
+-- a pair that changes nothing is refused, and the listing goes on
+pub padded-lines-hold : listingText Q 1 onePadded ≡ paddedLines
+padded-lines-hold = same→ (listingText Q 1 onePadded) paddedLines padded

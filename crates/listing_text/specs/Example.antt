@@ -1,8 +1,8 @@
--- Document 01's listing for Q and its three tests, one with two refused records, and one of a robust test.
+-- Document 01's listing for Q and its three tests, one with two refused records, one of a robust test, and one with a pair that changes nothing.
 -- Assumes nothing.
 use mathlib.Core.List.{List, [], _∷_, _++_}
 use Prim.Native.Nat.{ℕ}
-use Rattle.model.specs.Examples.{detectsNone, detectsFalling, detectsRising}
+use Rattle.model.specs.Examples.{detectsNone, detectsFalling, detectsRising, equalPair}
 
 unfoldable pub threeTests : List ℕ
 threeTests = detectsNone ++ detectsFalling ++ detectsRising
@@ -46,3 +46,18 @@ robustLines =
 -- `refused 83`
 unfoldable pub otherClassLine : List ℕ
 otherClassLine = 0x72 ∷ 0x65 ∷ 0x66 ∷ 0x75 ∷ 0x73 ∷ 0x65 ∷ 0x64 ∷ 0x20 ∷ 0x38 ∷ 0x33 ∷ 0x0A ∷ []
+
+-- document 02, ticket 8: a test that detects none, a pair without a changed input, and a test that detects faults 4 and 6
+unfoldable pub onePadded : List ℕ
+onePadded = detectsNone ++ equalPair 2 ++ detectsFalling
+
+-- `2 refused 85`, and the listing goes on
+unfoldable pub paddedLines : List ℕ
+paddedLines =
+    0x70 ∷ 0x61 ∷ 0x74 ∷ 0x68 ∷ 0x73 ∷ 0x20 ∷ 0x33 ∷ 0x0A
+    ∷ 0x31 ∷ 0x20 ∷ 0x30 ∷ 0x20 ∷ 0x30 ∷ 0x0A
+    ∷ 0x32 ∷ 0x20 ∷ 0x72 ∷ 0x65 ∷ 0x66 ∷ 0x75 ∷ 0x73 ∷ 0x65 ∷ 0x64 ∷ 0x20 ∷ 0x38 ∷ 0x35 ∷ 0x0A
+    ∷ 0x33 ∷ 0x20 ∷ 0x30 ∷ 0x20 ∷ 0x32 ∷ 0x0A
+    ∷ 0x46 ∷ 0x20 ∷ 0x32 ∷ 0x20 ∷ 0x33 ∷ 0x0A
+    ∷ 0x72 ∷ 0x69 ∷ 0x73 ∷ 0x69 ∷ 0x6E ∷ 0x67 ∷ 0x20 ∷ 0x30 ∷ 0x0A
+    ∷ 0x66 ∷ 0x61 ∷ 0x6C ∷ 0x6C ∷ 0x69 ∷ 0x6E ∷ 0x67 ∷ 0x20 ∷ 0x32 ∷ 0x0A ∷ []

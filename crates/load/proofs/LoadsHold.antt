@@ -9,7 +9,7 @@ use lib.Dec.{T}
 use lib.ListN.{length, getD, take, drop, length-append, length-map}
 use lib.Seq.{take-at, drop-at}
 use Rattle.model.specs.Base.{value, checks}
-use Rattle.model.specs.Detect.{Class, Test, hasEdge}
+use Rattle.model.specs.Detect.{Class, nonRobust, Test, hasEdge}
 use Rattle.model.specs.Netlist.{Netlist}
 use Rattle.model.specs.Path.{Edge}
 use Rattle.model.specs.Read.{recordLength, testOf, testRules}
@@ -21,7 +21,7 @@ use Rattle.load.specs.Passes.{MovesOnly, inputAt, edgeAt, placeAt, loadF
 use Rattle.load.specs.Passes.{stateAfterCalls}
 use Rattle.load.proofs.SizeLaws.{Wide, length-record, test-wide, after-add}
 use Rattle.load.proofs.PackedVectorLaws.{judgedPair, record-passes, record-back}
-use Rattle.load.proofs.MoveLaws.{TestAt, test-moves, vectorTests, vectors-length, vectors-at, vectors-bytes}
+use Rattle.load.proofs.MoveLaws.{TestAt, edge-differs, test-moves, vectorTests, vectors-length, vectors-at, vectors-bytes}
 
 abbrev noTest : Pair
 noTest = record { v1 = []; v2 = [] }
@@ -96,28 +96,33 @@ module _ (N : Netlist) where
           ap (λ (z : List (List ℕ)). getD z i []) file-is
           ∙ getD-map-in recordBytes (vectorTests (N .inputs) vectors s) i noTest [] inside
 
-      passed : checks (testRules N (recordAt N vectors s i)) ≡ value tt
-      passed =
-          ap (λ (z : List ℕ). checks (testRules N z)) record-is
-          ∙ record-passes N (getD (vectorTests (N .inputs) vectors s) i noTest) wide
-
       some : (n k : ℕ) → i < k * (2 * n) → 0 < 2 * n
       some zero k l = absurd (let z : k * (2 * 0) ≡ 0 = omega arith in omega arith)
       some (suc n) k l = omega arith
 
-      moved : (c : Class)
-          → MovesOnly (testOf N c (recordAt N vectors s i)) (edgeAt (placeAt N i)) (inputAt (placeAt N i))
-      moved c =
+      pair-moves : (c : Class)
+          → MovesOnly (judgedPair c (getD (vectorTests (N .inputs) vectors s) i noTest)) (edgeAt (placeAt N i)) (inputAt (placeAt N i))
+      pair-moves c =
           let p : ℕ = i % (2 * N .inputs) in
           let t : Pair = getD (vectorTests (N .inputs) vectors s) i noTest in
           let a : TestAt (N .inputs) (i % (2 * N .inputs)) t = vectors-at (N .inputs) vectors s i noTest h in
           let below : i % (2 * N .inputs) < 2 * N .inputs = mod-lt i {m = 2 * N .inputs} (some (N .inputs) vectors h) in
           let l = a .long in
-          let m : MovesOnly (judgedPair c (inputTest (a .vector) (inputAt p) (edgeAt p))) (edgeAt p) (inputAt p) =
-          test-moves c (a .vector) (inputAt p) (omega arith) (edgeAt p) in
-          let back : testOf N c (recordAt N vectors s i) ≡ judgedPair c (inputTest (a .vector) (inputAt p) (edgeAt p)) =
-          ap (testOf N c) record-is ∙ record-back N t wide c ∙ ap (judgedPair c) (a .is) in
-          subst (λ (x : Test). MovesOnly x (edgeAt p) (inputAt p)) (sym back) m
+          subst (λ (x : Pair). MovesOnly (judgedPair c x) (edgeAt p) (inputAt p)) (sym (a .is))
+          (test-moves c (a .vector) (inputAt p) (omega arith) (edgeAt p))
+
+      passed : checks (testRules N (recordAt N vectors s i)) ≡ value tt
+      passed =
+          let t : Pair = getD (vectorTests (N .inputs) vectors s) i noTest in
+          ap (λ (z : List ℕ). checks (testRules N z)) record-is
+          ∙ record-passes N t wide (edge-differs (judgedPair nonRobust t) (edgeAt (placeAt N i)) (inputAt (placeAt N i)) (pair-moves nonRobust .moves))
+
+      moved : (c : Class)
+          → MovesOnly (testOf N c (recordAt N vectors s i)) (edgeAt (placeAt N i)) (inputAt (placeAt N i))
+      moved c =
+          let t : Pair = getD (vectorTests (N .inputs) vectors s) i noTest in
+          let back : testOf N c (recordAt N vectors s i) ≡ judgedPair c t = ap (testOf N c) record-is ∙ record-back N t wide c in
+          subst (λ (x : Test). MovesOnly x (edgeAt (placeAt N i)) (inputAt (placeAt N i))) (sym back) (pair-moves c)
 
 -- Every record of a load, on every netlist with as many inputs, passes the test checks and moves exactly one input, in every class
 pub load-passes : (N : Netlist) (vectors s : ℕ) → LoadPasses N vectors s

@@ -29,6 +29,12 @@ no-fall : (b : Bool) → T (b && not b) → ⊥
 no-fall true t = t
 no-fall false t = t
 
+-- so the vectors of a test that makes one differ
+pub edge-differs : (t : Test) (e : Edge) (j : ℕ) → T (hasEdge t e j) → t .v1 ≡ t .v2 → ⊥
+unfolding hasEdge
+edge-differs t rising j m q = no-rise (getD (t .v2) j false) (subst (λ (v : List Bool). T (not (getD v j false) && getD (t .v2) j false)) q m)
+edge-differs t falling j m q = no-fall (getD (t .v2) j false) (subst (λ (v : List Bool). T (getD v j false && not (getD (t .v2) j false))) q m)
+
 -- two vectors that differ in input j at the most, in a class
 module _ (c : Class) (v : List Bool) (j : ℕ) where
   abbrev around : Bool → Bool → Test

@@ -16,6 +16,8 @@ use Rattle.model.specs.Encode.{testBytes}
 use Rattle.model.specs.Netlist.{Netlist}
 use Rattle.model.specs.Read.{vectorBytes, marked, inputBit, vector, spareZero, recordLength, v1Part, v2Part, testOf}
 use Rattle.model.specs.Read.{testRules}
+use Rattle.model.specs.Unchanged.{rulesBefore}
+use Rattle.model.proofs.UnchangedHolds.{unchanged-pairs}
 use Rattle.model.proofs.AnswerLaws.{→checks}
 use Rattle.model.proofs.BoolLaws.{both, false→not, eq→eqb}
 use Rattle.model.proofs.ListLaws.{getD-map-in, length-numbersFrom, numbersFrom-at}
@@ -103,9 +105,18 @@ module _ (N : Netlist) (t : Pair) (w : Wide (N .inputs) t) where
   unfolding recordBytes testBytes
   mark = tt
 
-  -- passes the checks 30 to 32
-  pub record-passes : checks (testRules N (recordBytes t)) ≡ value tt
-  record-passes =
+  -- its vectors are read back
+  first-back : vector (N .inputs) (v1Part N (recordBytes t)) ≡ t .v1
+  first-back =
+      ap (vector (N .inputs)) first-part ∙ ap (λ n. vector n (packed (t .v1) ++ packed (t .v2))) (sym (w .first)) ∙ packed-back (t .v1) (packed (t .v2))
+
+  second-back : vector (N .inputs) (v2Part N (recordBytes t)) ≡ t .v2
+  second-back =
+      ap (vector (N .inputs)) second-part ∙ ap (λ n. vector n (packed (t .v2) ++ [])) (sym (w .second)) ∙ packed-back (t .v2) []
+
+  -- passes the checks 30 to 32 and, if its vectors differ, 85
+  pub record-passes : (t .v1 ≡ t .v2 → ⊥) → checks (testRules N (recordBytes t)) ≡ value tt
+  record-passes differ =
       let rec : List ℕ = recordBytes t in
       let long : T (eqb (length rec) (recordLength N)) =
       eq→eqb (length rec) (recordLength N) (length-record (N .inputs) t w) in
@@ -113,14 +124,10 @@ module _ (N : Netlist) (t : Pair) (w : Wide (N .inputs) t) where
       rw (first-part) (subst (λ (n : ℕ). T (spareZero n (packed (t .v1) ++ packed (t .v2)))) (w .first) (packed-spare (t .v1) (packed (t .v2)))) in
       let two : T (spareZero (N .inputs) (v2Part N rec)) =
       rw (second-part) (subst (λ (n : ℕ). T (spareZero n (packed (t .v2) ++ []))) (w .second) (packed-spare (t .v2) [])) in
-      →checks (testRules N rec) (long, (mark, (both (spareZero (N .inputs) (v1Part N rec)) (spareZero (N .inputs) (v2Part N rec)) one two, tt)))
+      unchanged-pairs .others N rec (λ u. differ (sym first-back ∙ u ∙ second-back))
+      ∙ →checks (rulesBefore N rec) (long, (mark, (both (spareZero (N .inputs) (v1Part N rec)) (spareZero (N .inputs) (v2Part N rec)) one two, tt)))
 
   -- and is read as that test, in every class
   pub record-back : (c : Class) → testOf N c (recordBytes t) ≡ judgedPair c t
   unfolding testOf
-  record-back c =
-      let one : vector (N .inputs) (v1Part N (recordBytes t)) ≡ t .v1 =
-      ap (vector (N .inputs)) first-part ∙ ap (λ n. vector n (packed (t .v1) ++ packed (t .v2))) (sym (w .first)) ∙ packed-back (t .v1) (packed (t .v2)) in
-      let two : vector (N .inputs) (v2Part N (recordBytes t)) ≡ t .v2 =
-      ap (vector (N .inputs)) second-part ∙ ap (λ n. vector n (packed (t .v2) ++ [])) (sym (w .second)) ∙ packed-back (t .v2) [] in
-      ap₂ (λ (x y : List Bool). record { v1 = x; v2 = y; class = c }) one two
+  record-back c = ap₂ (λ (x y : List Bool). record { v1 = x; v2 = y; class = c }) first-back second-back

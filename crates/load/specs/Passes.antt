@@ -39,8 +39,8 @@ loadFile N vectors s = fileRecords N (vectorRecords (N .inputs) vectors s)
 abbrev pub recordAt : Netlist → ℕ → ℕ → ℕ → List ℕ
 recordAt N vectors s i = getD (loadFile N vectors s) i []
 
--- A load for the inputs of a netlist is whole records, two for each vector and input. Each passes the test checks 30 to 32 on that netlist and, in
--- every class, moves exactly one input: the one that the order says, in the edge that the order says
+-- A load for the inputs of a netlist is whole records, two for each vector and input. Each passes the test checks, 30 to 32 and 85, on that netlist
+-- and, in every class, moves exactly one input: the one that the order says, in the edge that the order says
 pub record LoadPasses (N : Netlist) (vectors s : ℕ) : Type 0 where
   pub whole : length (vectorRecords (N .inputs) vectors s) ≡ length (loadFile N vectors s) * recordLength N
   pub count : length (loadFile N vectors s) ≡ vectors * (2 * N .inputs)

@@ -18,9 +18,9 @@ use Rattle.model.specs.Report.{sameBytes, reportHead, reportRecord, test
 use Rattle.model.specs.Demand3.{afterCalls}
 use Rattle.model.specs.Encode.{headerBytes, netBytes, gateBytes, outputBytes, testBytes}
 use Rattle.model.specs.SinglePin.{readGatesBy, readNetlistBy}
-use Rattle.model.specs.Examples.{Row, row, further, requested, robustRows, reply, faultIf, faultList, enoughWork, firstRuns, netCounts}
+use Rattle.model.specs.Examples.{Row, row, further, requested, robustRows, unchangedRows, reply, faultIf, faultList, enoughWork, firstRuns, netCounts}
 use Rattle.model.specs.Examples.{Q, detectsNone, detectsFalling, detectsRising, chain, spread, aRises, reportOfThree, outputsBytes, oneGate, besideOnePin, bRises, withOutputs, halves}
-use Rattle.model.specs.Examples.{twice, aFalls, hazard, riseAndFall, carry, carryTest, callIn, steadyOf}
+use Rattle.model.specs.Examples.{twice, aFalls, hazard, riseAndFall, carry, carryTest, callIn, steadyOf, equalPair, tooManyRuns, twoBytes}
 use Rattle.model.proofs.ListLaws.{allOf-at}
 use Rattle.model.proofs.AnswerLaws.{same→}
 
@@ -61,6 +61,13 @@ unfolding requested right same row Q oneGate besideOnePin bRises withOutputs hal
     openPin evaluate faultNumber testOf
 all-requested = tt
 
+all-unchanged : T (allOf right unchangedRows)
+unfolding unchangedRows equalPair tooManyRuns twoBytes right same row Q detectsNone detectsFalling detectsRising reportOfThree enoughWork firstRuns
+    outputBytes headerBytes gateBytes netBytes testBytes reply readNetlist readGates readOutputs counts outputCount pathTotal pathOf pathAt split
+    detectsNumber detects allOpen hasEdge openPin evaluate testOf workingRuns inNetSet runsOf runsFrom addNumber testCall testStage tested storeRuns
+    separatedRuns inRuns howMany howManyFrom auditCall testAll storeOf reportRecord reportHead size
+all-unchanged = tt
+
 abbrev pub noRow : Row
 noRow = record { netlist = []; question = netCounts; answer = refused 10 }
 
@@ -80,3 +87,8 @@ requested-hold = rows-hold requested all-requested
 -- The examples of robust tests hold
 pub robust-hold : (i : ℕ) → i < length robustRows → reply (getD robustRows i noRow .netlist) (getD robustRows i noRow .question) ≡ getD robustRows i noRow .answer
 robust-hold = rows-hold robustRows all-robust
+
+-- The examples of pairs that change nothing hold
+pub unchanged-hold : (i : ℕ) → i < length unchangedRows
+    → reply (getD unchangedRows i noRow .netlist) (getD unchangedRows i noRow .question) ≡ getD unchangedRows i noRow .answer
+unchanged-hold = rows-hold unchangedRows all-unchanged

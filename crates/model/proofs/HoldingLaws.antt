@@ -16,7 +16,7 @@ use Rattle.model.specs.Read.{testRules, testOf}
 use Rattle.model.specs.Store.{ByEdge, byEdge, ofEdge, storeWords, maxRuns, emptyStore, storeRuns, runsByEdge, storeOf, bothEdges, storeRules, runCount, firstWord}
 use Rattle.model.specs.Calls.{Tested, storeLeft, tested, testStage, stageRules, workRules, heldThen, newThen, runsThen}
 use Rattle.model.proofs.BoolLaws.{and-left, and-right}
-use Rattle.model.proofs.AnswerLaws.{AllPass, checks→, →checks, then-first, then-second, value-inj, pass-both}
+use Rattle.model.proofs.AnswerLaws.{AllPass, checks→, →checks, then-first, then-second, value-inj, pass-first, pass-second, pass-both}
 use Rattle.model.proofs.RunLaws.{runs-separated, runs-test, runs-same, runs-none, separated→, →separated, runs-of-runs}
 use Rattle.model.proofs.RunSizeLaws.{runs-size, howMany-same}
 use Rattle.model.proofs.StoreLaws.{runs-store, length-store, length-runsAt, store-passes, store-runs, empty-store, at-both}
@@ -109,10 +109,12 @@ stage-taken N c rec ws p = rw (→checks (stageRules N c rec ws) p) refl
 
 module _ (N : Netlist) (c : Class) (rec ws : List ℕ) (D : Sets) (x : Holding N ws D) where
   pub test-part : AllPass (stageRules N c rec ws) → AllPass (testRules N rec)
-  test-part p = (p .0, (p .1 .0, (p .1 .1 .0, tt)))
+  test-part p = pass-first (testRules N rec) (storeRules (pathTotal N) ws ++ workRules N (runsByEdge ws) (testOf N c rec)) p
 
   work-part : AllPass (stageRules N c rec ws) → AllPass (workRules N (runsByEdge ws) (testOf N c rec))
-  work-part p = p .1 .1 .1 .1 .1 .1
+  work-part p =
+      let works = workRules N (runsByEdge ws) (testOf N c rec) in
+      pass-second (storeRules (pathTotal N) ws) works (pass-second (testRules N rec) (storeRules (pathTotal N) ws ++ works) p)
 
   -- the rules of Work, over the sets
   pub work-few : AllPass (stageRules N c rec ws) → (e : Edge) → workingRuns N (testOf N c rec) e ≤ maxRuns

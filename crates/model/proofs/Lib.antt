@@ -28,3 +28,4 @@ pub mod ExamplesHold
 pub mod ReportsHold
 pub mod WiresHold
 pub mod ClassesHold
+pub mod UnchangedHolds

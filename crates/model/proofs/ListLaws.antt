@@ -1,16 +1,17 @@
--- Lists: tests of all their elements, elements by place, parts, and consecutive numbers.
+-- Lists: tests of all and of some of their elements, elements by place, parts, and consecutive numbers.
 -- Assumes nothing.
-use mathlib.Core.Path.{_≡_, refl, ap, sym, _∙_}
+use mathlib.Core.Path.{_≡_, refl, ap, sym, subst, _∙_}
 use mathlib.Core.Bool.{Bool, true}
 use mathlib.Core.List.{List, [], _∷_, _++_, map}
-use Prim.Native.Nat.{ℕ, zero, suc, _+_, _<_}
+use mathlib.Core.Logic.{⊎-elim}
+use Prim.Native.Nat.{ℕ, zero, suc, _+_, _≤_, _<_}
 use native.Mathlib.Nat.{le-of-suc-le-suc, not-suc-le-zero, zero-add, suc-add}
 use native.Mathlib.Omega.{arith}
 use lib.Dec.{T}
 use lib.ListN.{length, getD, take, drop, replicate}
 use lib.Seq.{take-nil}
-use Rattle.model.specs.Base.{allOf, numbersFrom}
-use Rattle.model.proofs.BoolLaws.{and-left, and-right, both}
+use Rattle.model.specs.Base.{allOf, anyOf, numbersFrom}
+use Rattle.model.proofs.BoolLaws.{and-left, and-right, both, or-cases, or-left, or-right}
 
 module _ {A : Type 0} (P : A → Bool) (x : A) (xs : List A) where
   pub allOf-head : T (allOf P (x ∷ xs)) → T (P x)
@@ -58,3 +59,27 @@ pub numbersFrom-at : (n k i : ℕ) → i < n → getD (numbersFrom k n) i 0 ≡ 
 numbersFrom-at zero k i h = absurd (not-suc-le-zero h)
 numbersFrom-at (suc n) k zero h = omega arith
 numbersFrom-at (suc n) k (suc i) h = omega (arith, numbersFrom-at n (suc k) i (le-of-suc-le-suc h))
+
+-- some number of a stretch passes the test
+pub record Some (f : ℕ → Bool) (k n : ℕ) : Type 0 where
+  pub place : ℕ
+  pub low : k ≤ place
+  pub high : place < k + n
+  pub passes : T (f place)
+
+pub some-of : (f : ℕ → Bool) (n k : ℕ) → T (anyOf f (numbersFrom k n)) → Some f k n
+some-of f zero k t = absurd t
+some-of f (suc n) k t =
+    ⊎-elim (λ u. record { place = k; low = omega arith; high = omega arith; passes = u })
+    (λ u. let s = some-of f n (suc k) u in record { place = s .place; low = omega (arith, s .low); high = omega (arith, s .high); passes = s .passes })
+    (or-cases (f k) (anyOf f (numbersFrom (suc k) n)) t)
+
+pub any-of : (f : ℕ → Bool) (n k i : ℕ) → k ≤ i → i < k + n → T (f i) → T (anyOf f (numbersFrom k n))
+any-of f zero k i a b t = absurd (none k i a b)
+  where
+    none : (k i : ℕ) → k ≤ i → i < k + 0 → ⊥
+    none k i a b = omega arith
+any-of f (suc n) k i a b t =
+    ⊎-elim (λ e. or-left (f k) (anyOf f (numbersFrom (suc k) n)) (subst (λ j. T (f j)) (sym e) t))
+    (λ l. or-right (f k) (anyOf f (numbersFrom (suc k) n)) (any-of f n (suc k) i l (omega arith) t))
+    (native.Mathlib.Nat.eq-or-lt-of-le a)

@@ -1,10 +1,11 @@
 -- Examples as questions with their answers: `further` is one list of test calls and its audit; `requested` has small examples of document 02's
--- tickets, worked out by hand, `robustRows` those of robust tests. proofs/ExamplesHold.antt has the theorems over them.
+-- tickets, worked out by hand, `robustRows` those of robust tests, `unchangedRows` those of pairs that change nothing.
+-- proofs/ExamplesHold.antt has the theorems over them.
 -- Document 01's table of those marked * is in crate `starred`.
 -- Assumes nothing.
 use mathlib.Core.Bool.{Bool, true, false}
 use mathlib.Core.List.{List, [], _∷_, _++_, map}
-use Prim.Native.Nat.{ℕ, zero, suc, _+_, _^_}
+use Prim.Native.Nat.{ℕ, zero, suc, _+_, _-_, _^_}
 use lib.ListN.{length, replicate, take, drop}
 use Rattle.model.specs.Base.{Answer, refused, value, _>>=_, _>>_, checks, numbersFrom, littleEndian}
 use Rattle.model.specs.Netlist.{Netlist, counts, pathTotal}
@@ -12,7 +13,7 @@ use Rattle.model.specs.Path.{Edge, rising, falling, pathOf, faultNumber}
 use Rattle.model.specs.Detect.{Class, nonRobust, robust, Test, Evaluation, evaluate, detectsNumber}
 use Rattle.model.specs.Runs.{workingRuns}
 use Rattle.model.specs.Read.{readNetlist, testRules, testOf}
-use Rattle.model.specs.Store.{headWords, emptyStore, firstWord}
+use Rattle.model.specs.Store.{headWords, storeWords, maxRuns, emptyStore, firstWord}
 use Rattle.model.specs.Calls.{testCall, wordsOf, workWords}
 use Rattle.model.specs.Report.{auditCall}
 use Rattle.model.specs.Demand3.{Call, start, afterCalls}
@@ -29,6 +30,7 @@ pub data Question : Type 0 where
   faultsOf : Class → List ℕ → Question
   risingWork : Class → List ℕ → Question
   newRising : ℕ → List ℕ → Question
+  newRisingOn : List ℕ → List ℕ → Question
   listed : List Call → Question
   audited : ℕ → List ℕ → List ℕ → Question
 
@@ -66,6 +68,8 @@ reply netlist (steadyNets rec) = readNetlist netlist >>= λ N. checks (testRules
 reply netlist (faultsOf c rec) = readNetlist netlist >>= λ N. checks (testRules N rec) >> value (faultList N (testOf N c rec) (numbersFrom 1 (pathTotal N)))
 reply netlist (risingWork c rec) = readNetlist netlist >>= λ N. checks (testRules N rec) >> value (workingRuns N (testOf N c rec) rising ∷ [])
 reply netlist (newRising class rec) = testCall netlist class rec emptyStore enoughWork >>= λ r. value (r .returned .newFaults .onRising ∷ [])
+-- as `newRising` in class 1, on a store
+reply netlist (newRisingOn ws rec) = testCall netlist 1 rec ws enoughWork >>= λ r. value (r .returned .newFaults .onRising ∷ [])
 reply netlist (listed calls) = readNetlist netlist >>= λ N. value (firstRuns (afterCalls netlist N start calls .store))
 reply netlist (audited class testFile report) = auditCall netlist class testFile report emptyStore enoughWork >>= λ left. value (firstRuns left)
 
@@ -225,4 +229,32 @@ requested =
     ∷ row (withOutputs (0 ∷ 1 ∷ 3 ∷ [])) (faultsOf nonRobust detectsRising) (value (5 ∷ []))
     ∷ row (withOutputs (0 ∷ 3 ∷ 1 ∷ [])) paths (refused 19)
     ∷ row halves paths (value (2 ^ 62 ∷ []))
+    ∷ []
+
+-- V1 and V2 are this byte
+unfoldable pub equalPair : ℕ → List ℕ
+equalPair v = testBytes (v ∷ []) (v ∷ [])
+
+-- a store that states one run too many: 40
+unfoldable pub tooManyRuns : List ℕ
+tooManyRuns = suc maxRuns ∷ replicate (storeWords - 1) 0
+
+-- nine inputs, so that a vector has two bytes; a buffer of the last is the output
+unfoldable pub twoBytes : List ℕ
+twoBytes = headerBytes 9 1 1 ++ gateBytes 1 (8 ∷ []) ++ outputBytes 9
+
+-- Ticket 8: a pair without a changed input is 85 in both classes, after 83 and a spare bit (Q's inputs are bits 0 and 1), before the store's
+-- checks; an input of the second byte is a changed one, too; a report whose list holds such a pair is refused, whatever number it states
+unfoldable pub unchangedRows : List Row
+unchangedRows =
+    row Q (newRising 1 (equalPair 3)) (refused 85)
+    ∷ row Q (newRising 2 (equalPair 0)) (refused 85)
+    ∷ row Q (newRising 3 (equalPair 3)) (refused 83)
+    ∷ row Q (newRising 1 (equalPair 7)) (refused 32)
+    ∷ row Q (newRisingOn tooManyRuns (equalPair 3)) (refused 85)
+    ∷ row Q (newRisingOn tooManyRuns detectsRising) (refused 40)
+    ∷ row twoBytes (newRising 1 (testBytes (0 ∷ 0 ∷ []) (0 ∷ 1 ∷ []))) (value (1 ∷ []))
+    ∷ row twoBytes (newRising 1 (testBytes (0 ∷ 1 ∷ []) (0 ∷ 1 ∷ []))) (refused 85)
+    ∷ row Q (audited 1 (detectsNone ++ detectsFalling ++ equalPair 3 ++ detectsRising) (reportOfThree 4)) (refused 85)
+    ∷ row Q (audited 1 (detectsNone ++ detectsFalling ++ equalPair 3 ++ detectsRising) (reportOfThree 3)) (refused 85)
     ∷ []

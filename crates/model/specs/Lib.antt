@@ -13,6 +13,7 @@ pub mod Numbering
 pub mod Demand3
 pub mod Wires
 pub mod Classes
+pub mod Unchanged
 pub mod Encode
 pub mod Examples
 pub mod Refusals

@@ -1,11 +1,11 @@
 -- The netlist file and a test record, with the refusals of document 01 in its order: each part of a file is read from its mark on.
 -- Assumes nothing.
-use mathlib.Core.Bool.{Bool, _&&_, _||_, not}
+use mathlib.Core.Bool.{Bool, _&&_, _||_, not, Bool·beq}
 use mathlib.Core.List.{List, [], _∷_, _++_, map}
 use Prim.Native.Nat.{ℕ, zero, suc, _+_, _-_, _*_, _/_, _%_}
 use lib.Dec.{ltb, leb, eqb}
 use lib.ListN.{length, getD, drop, replicate}
-use Rattle.model.specs.Base.{Answer, value, _>>=_, _>>_, Rule, checks, allOf, numbersFrom, field, bit}
+use Rattle.model.specs.Base.{Answer, value, _>>=_, _>>_, Rule, checks, allOf, anyOf, numbersFrom, field, bit}
 use Rattle.model.specs.Netlist.{Netlist, Gate, Kind, buffer, inverter, and, nand, or, nor, xor, xnor, maxNets, maxCount, gateCount, netByNet, atNets, outputCount}
 use Rattle.model.specs.Detect.{Class, nonRobust, robust, Test}
 
@@ -123,6 +123,14 @@ vector i bs = map (inputBit bs) (numbersFrom 0 i)
 abbrev pub spareZero : ℕ → List ℕ → Bool
 spareZero i bs = allOf (λ j. not (inputBit bs j)) (numbersFrom i (8 * vectorBytes i - i))
 
+-- an input is changed: it has another value in V2 than in V1
+abbrev pub isChanged : List ℕ → List ℕ → ℕ → Bool
+isChanged v1 v2 j = not (Bool·beq (inputBit v1 j) (inputBit v2 j))
+
+-- some of the `i` inputs is changed
+abbrev pub someChange : ℕ → List ℕ → List ℕ → Bool
+someChange i v1 v2 = anyOf (isChanged v1 v2) (numbersFrom 0 i)
+
 abbrev pub recordLength : Netlist → ℕ
 recordLength N = 2 + 2 * vectorBytes (N .inputs)
 
@@ -145,10 +153,11 @@ classRule class = (83, within 1 2 class)
 unfoldable pub testOf : Netlist → Class → List ℕ → Test
 testOf N c bs = record { v1 = vector (N .inputs) (v1Part N bs); v2 = vector (N .inputs) (v2Part N bs); class = c }
 
--- Test, for a single call
+-- Test, for a single call; 85: a pair without a changed input
 abbrev pub testRules : Netlist → List ℕ → List Rule
 testRules N bs =
     (30, eqb (length bs) (recordLength N))
     ∷ (31, marked 0x54 0x50 bs)
     ∷ (32, spareZero (N .inputs) (v1Part N bs) && spareZero (N .inputs) (v2Part N bs))
+    ∷ (85, someChange (N .inputs) (v1Part N bs) (v2Part N bs))
     ∷ []

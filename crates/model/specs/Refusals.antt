@@ -40,3 +40,4 @@ refusalNumber why.BenchName = 81
 refusalNumber why.BenchCount = 82
 refusalNumber why.UnknownClass = 83
 refusalNumber why.PathTooLong = 84
+refusalNumber why.UnchangedPair = 85

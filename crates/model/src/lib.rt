@@ -67,6 +67,7 @@ pub enum Refusal {
     BenchCount,
     UnknownClass,
     PathTooLong,
+    UnchangedPair,
 }
 
 // Class 1 or 2.
@@ -116,5 +117,6 @@ pub fn refusal_number(why: Refusal) -> u32
         Refusal::BenchCount => 82,
         Refusal::UnknownClass => 83,
         Refusal::PathTooLong => 84,
+        Refusal::UnchangedPair => 85,
     }
 }

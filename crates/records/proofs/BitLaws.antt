@@ -134,3 +134,32 @@ word-bit (b ∷ bs) s j h =
     ap (λ x. bit (fromLittleEndian (b ∷ bs)) x) i ∙ w ∙ word-bit bs (λ k. s (suc k)) (j - 8) (omega arith)
     ∙ ap₂ (λ x y. eqb (getD (b ∷ bs) x 0 / 2 ^ y % 2) 1) d m)
     (le-or-lt (suc j) 8)
+
+-- a digit from its test
+digit-same : (x y : ℕ) → x < 2 → y < 2 → eqb x 1 ≡ eqb y 1 → x ≡ y
+digit-same zero zero h l e = refl
+digit-same zero (suc zero) h l e = absurd (mathlib.Core.Bool.false≢true e)
+digit-same zero (suc (suc y)) h l e = absurd (omega arith)
+digit-same (suc zero) zero h l e = absurd (mathlib.Core.Bool.true≢false e)
+digit-same (suc zero) (suc zero) h l e = refl
+digit-same (suc zero) (suc (suc y)) h l e = absurd (omega arith)
+digit-same (suc (suc x)) y h l e = absurd (omega arith)
+
+-- numbers of `n` bits are equal when their bits are
+pub bits-same : (n a b : ℕ) → a < 2 ^ n → b < 2 ^ n → ((i : ℕ) → i < n → bit a i ≡ bit b i) → a ≡ b
+bits-same zero a b h l e = omega arith
+bits-same (suc n) a b h l e =
+    let high : a / 2 ≡ b / 2 = bits-same n (a / 2) (b / 2) (half a h) (half b l) (λ i m. shifted a i ∙ e (suc i) (omega arith) ∙ sym (shifted b i)) in
+    let low : a % 2 ≡ b % 2 = digit-same (a % 2) (b % 2) (below-two a) (below-two b) (lowest a ∙ e 0 (omega arith) ∙ sym (lowest b)) in
+    omega arith
+  where
+    half : (x : ℕ) → x < 2 ^ suc n → x / 2 < 2 ^ n
+    half x h = let q : x < 2 ^ n * 2 = rw native.Mathlib.Nat.pow-suc at h in omega arith
+
+    shifted : (x i : ℕ) → bit (x / 2) i ≡ bit x (suc i)
+    shifted x i =
+        let q : 1 + i ≡ suc i = omega arith in
+        ap (λ y. eqb (y % 2) 1) (shr-shr x 1 i) ∙ ap (bit x) q
+
+    lowest : (x : ℕ) → eqb (x % 2) 1 ≡ bit x 0
+    lowest x = let q : x / 1 ≡ x = omega arith in rw q refl

@@ -1,6 +1,6 @@
 -- A test record: its checks, its vectors as words, and the edges of its inputs.
 -- Assumes nothing.
-use mathlib.Core.Path.{_≡_, refl, ap, sym, _∙_}
+use mathlib.Core.Path.{_≡_, refl, ap, ap₂, sym, _∙_}
 use mathlib.Core.Bool.{Bool, true, false, _&&_, not}
 use mathlib.Core.List.{List, [], _∷_}
 use Prim.Native.Nat.{ℕ, suc, _+_, _-_, _*_, _/_, _%_, _^_, _≤_, _<_}
@@ -8,14 +8,14 @@ use native.Mathlib.Nat.{zero-add}
 use native.Mathlib.Omega.{arith}
 use borrow.Author.Needs.{needs}
 use borrow.Author.Tests.{eq-eqb, ne-eqb, not-true, not-false}
-use lib.Dec.{eqb, leb}
+use lib.Dec.{T, eqb, leb}
 use lib.ListN.{length, getD, take, drop, length-drop}
 use lib.Seq.{drop-cons, getD-take, getD-drop, length-take-le}
-use Rattle.model.specs.Base.{refused, value, checks, bit, fromLittleEndian, numbersFrom}
+use Rattle.model.specs.Base.{Answer, refused, value, checks, bit, fromLittleEndian, numbersFrom}
 use Rattle.model.specs.Netlist.{Netlist}
-use Rattle.model.specs.Read.{marked, vectorBytes, inputBit, vector, spareZero, recordLength, v1Part, v2Part, testOf}
+use Rattle.model.specs.Read.{marked, vectorBytes, inputBit, vector, spareZero, someChange, recordLength, v1Part, v2Part, testOf}
 use Rattle.model.specs.declared.Refusal.the-variants as why
-use Rattle.model.proofs.BoolLaws.{le-true}
+use Rattle.model.proofs.BoolLaws.{le-true, true→T}
 use Rattle.records.proofs.PartLaws.{part-rest}
 use Rattle.model.proofs.ListLaws.{getD-map-in, take-bytes, length-numbersFrom, numbersFrom-at}
 use Rattle.test_records.specs.Records.{RecordTrue, VectorsTrue, EdgesTrue}
@@ -63,21 +63,31 @@ module _ {part : List ℕ} {bytes : ℕ} (few : bytes ≤ 8) (inside : bytes ≤
       let m : k ≡ 0 = omega arith in
       rw (n, m) at (r .read)
 
--- the place Test for three tests
-test-30 : (a b c : Bool) → a ≡ false → refused 30 ≡ checks ((30, a) ∷ (31, b) ∷ (32, c) ∷ [])
-test-30 a b c e = rw e refl
+-- the place Test for four tests
+abbrev place : Bool → Bool → Bool → Bool → Answer (Unit {0})
+place a b c d = checks ((30, a) ∷ (31, b) ∷ (32, c) ∷ (85, d) ∷ [])
 
-test-31 : (a b c : Bool) → a ≡ true → b ≡ false → refused 31 ≡ checks ((30, a) ∷ (31, b) ∷ (32, c) ∷ [])
-test-31 a b c e f = rw (e, f) refl
+test-30 : (a b c d : Bool) → a ≡ false → refused 30 ≡ place a b c d
+test-30 a b c d e = rw e refl
 
-test-32 : (a b c : Bool) → a ≡ true → b ≡ true → c ≡ false → refused 32 ≡ checks ((30, a) ∷ (31, b) ∷ (32, c) ∷ [])
-test-32 a b c e f g = rw (e, f, g) refl
+test-31 : (a b c d : Bool) → a ≡ true → b ≡ false → refused 31 ≡ place a b c d
+test-31 a b c d e f = rw (e, f) refl
 
-test-none : (a b c : Bool) → a ≡ true → b ≡ true → c ≡ true → value tt ≡ checks ((30, a) ∷ (31, b) ∷ (32, c) ∷ [])
-test-none a b c e f g = rw (e, f, g) refl
+test-32 : (a b c d : Bool) → a ≡ true → b ≡ true → c ≡ false → refused 32 ≡ place a b c d
+test-32 a b c d e f g = rw (e, f, g) refl
+
+test-85 : (a b c d : Bool) → a ≡ true → b ≡ true → c ≡ true → d ≡ false → refused 85 ≡ place a b c d
+test-85 a b c d e f g h = rw (e, f, g, h) refl
+
+test-none : (a b c d : Bool) → a ≡ true → b ≡ true → c ≡ true → d ≡ true → value tt ≡ place a b c d
+test-none a b c d e f g h = rw (e, f, g, h) refl
 
 and-known : (a b : Bool) → a ≡ true → a && b ≡ b
 and-known a b e = rw e refl
+
+-- a test that the code made and went on
+pub test-passed : {a b : Bool} → a ≡ b → not a ≡ false → T b
+test-passed {a} e h = true→T _ (sym e ∙ not-false a h)
 
 module _ (inputs : ℕ) (test : List ℕ) (bytes : ℕ) (eb : bytes ≡ vectorBytes inputs) where
   -- the tests of the place Test
@@ -90,10 +100,13 @@ module _ (inputs : ℕ) (test : List ℕ) (bytes : ℕ) (eb : bytes ≡ vectorBy
   noSpare : Netlist → Bool
   noSpare N = spareZero (N .inputs) (v1Part N test) && spareZero (N .inputs) (v2Part N test)
 
+  changes : Netlist → Bool
+  changes N = someChange (N .inputs) (v1Part N test) (v2Part N test)
+
   pub wrong-length : (length test ≡ 2 + 2 * bytes → ⊥) → RecordTrue (Refused why.RecordLength) inputs test
-  unfolding rightLength rightMark noSpare
+  unfolding rightLength rightMark noSpare changes
   wrong-length h = record {
-    answer = λ N e. test-30 (rightLength N) rightMark (noSpare N)
+    answer = λ N e. test-30 (rightLength N) rightMark (noSpare N) (changes N)
         (ne-eqb (length test) (recordLength N) (λ q. h (q ∙ ap (λ i. 2 + 2 * vectorBytes i) e ∙ ap (λ b. 2 + 2 * b) (sym eb))));
   }
 
@@ -105,9 +118,9 @@ module _ (inputs : ℕ) (test : List ℕ) (bytes : ℕ) (eb : bytes ≡ vectorBy
     mark-is = and-known (leb 2 (length test)) (marked 0x54 0x50 test) (le-true 2 (length test) (omega arith))
 
     pub wrong-mark : (m : Bool) → m ≡ (leb 2 (length test) && marked 0x54 0x50 test) → not m ≡ true → RecordTrue (Refused why.RecordMark) inputs test
-    unfolding rightLength rightMark noSpare
+    unfolding rightLength rightMark noSpare changes
     wrong-mark m em h = record {
-      answer = λ N e. test-31 (rightLength N) rightMark (noSpare N) (length-right N e) (sym (em ∙ mark-is) ∙ not-true m h);
+      answer = λ N e. test-31 (rightLength N) rightMark (noSpare N) (changes N) (length-right N e) (sym (em ∙ mark-is) ∙ not-true m h);
     }
 
     module _ (m : Bool) (em : m ≡ (leb 2 (length test) && marked 0x54 0x50 test)) (hm : not m ≡ false)
@@ -119,11 +132,11 @@ module _ (inputs : ℕ) (test : List ℕ) (bytes : ℕ) (eb : bytes ≡ vectorBy
       first-is N e = ap (λ i. spareZero i (drop 2 test)) e ∙ ap (spareZero inputs) (sym (part-rest 2 test)) ∙ sym e₁
 
       pub spare-first : not z₁ ≡ true → RecordTrue (Refused why.SpareBit) inputs test
-      unfolding rightLength rightMark noSpare
+      unfolding rightLength rightMark noSpare changes
       spare-first h = record {
         answer = λ N e.
             let f : spareZero (N .inputs) (v1Part N test) ≡ false = first-is N e ∙ not-true z₁ h in
-            test-32 (rightLength N) rightMark (noSpare N) (length-right N e) mark-right (rw f refl);
+            test-32 (rightLength N) rightMark (noSpare N) (changes N) (length-right N e) mark-right (rw f refl);
       }
 
       module _ (h₁ : not z₁ ≡ false) (z₂ : Bool) (e₂ : z₂ ≡ spareZero inputs (take (length test - (2 + bytes)) (drop (2 + bytes) test))) where
@@ -134,16 +147,31 @@ module _ (inputs : ℕ) (test : List ℕ) (bytes : ℕ) (eb : bytes ≡ vectorBy
             ∙ ap (spareZero inputs) (sym (part-rest (2 + bytes) test)) ∙ sym e₂
 
         pub spare-second : not z₂ ≡ true → RecordTrue (Refused why.SpareBit) inputs test
-        unfolding rightLength rightMark noSpare
+        unfolding rightLength rightMark noSpare changes
         spare-second h = record {
-          answer = λ N e. test-32 (rightLength N) rightMark (noSpare N) (length-right N e) mark-right (both-are N e ∙ not-true z₂ h);
+          answer = λ N e. test-32 (rightLength N) rightMark (noSpare N) (changes N) (length-right N e) mark-right (both-are N e ∙ not-true z₂ h);
         }
 
-        pub record-legal : not z₂ ≡ false → RecordTrue Legal inputs test
-        unfolding rightLength rightMark noSpare
-        record-legal h = record {
-          answer = λ N e. test-none (rightLength N) rightMark (noSpare N) (length-right N e) mark-right (both-are N e ∙ not-false z₂ h);
-        }
+        module _ (h₂ : not z₂ ≡ false) (d : Bool)
+            (e₃ : d ≡ someChange inputs (take (length test - 2) (drop 2 test)) (take (length test - (2 + bytes)) (drop (2 + bytes) test))) where
+          change-is : (N : Netlist) → N .inputs ≡ inputs → someChange (N .inputs) (v1Part N test) (v2Part N test) ≡ d
+          change-is N e =
+              ap (λ i. someChange i (drop 2 test) (drop (2 + vectorBytes i) test)) e ∙ ap (λ b. someChange inputs (drop 2 test) (drop (2 + b) test)) (sym eb)
+              ∙ ap₂ (someChange inputs) (sym (part-rest 2 test)) (sym (part-rest (2 + bytes) test)) ∙ sym e₃
+
+          pub pair-unchanged : not d ≡ true → RecordTrue (Refused why.UnchangedPair) inputs test
+          unfolding rightLength rightMark noSpare changes
+          pair-unchanged h = record {
+            answer = λ N e. test-85 (rightLength N) rightMark (noSpare N) (changes N) (length-right N e) mark-right (both-are N e ∙ not-false z₂ h₂)
+                (change-is N e ∙ not-true d h);
+          }
+
+          pub record-legal : not d ≡ false → RecordTrue Legal inputs test
+          unfolding rightLength rightMark noSpare changes
+          record-legal h = record {
+            answer = λ N e. test-none (rightLength N) rightMark (noSpare N) (changes N) (length-right N e) mark-right (both-are N e ∙ not-false z₂ h₂)
+                (change-is N e ∙ not-false d h);
+          }
 
 -- the value of an input in a vector
 vector-at : (i : ℕ) (bs : List ℕ) (j : ℕ) → j < i → getD (vector i bs) j false ≡ inputBit bs j
@@ -176,4 +204,4 @@ module _ {test : List ℕ} {inputs bytes : ℕ} (small : (i : ℕ) → getD test
         ∙ ap (λ i. getD (vector i (drop (2 + vectorBytes i) test)) j false) (sym e);
   }
 
-pub ruleset record-cases = (wrong-length, wrong-mark, spare-first, spare-second, record-legal, needs)
+pub ruleset record-cases = (wrong-length, wrong-mark, spare-first, spare-second, pair-unchanged, record-legal, needs)

@@ -2,9 +2,10 @@
 // Each caller proves what a function requires.
 ghost use mathlib.Core.Path.{_≡_};
 ghost use Prim.Native.Nat.{_+_, _*_, _<_, _≤_};
+ghost use lib.Dec.{T};
 ghost use lib.ListN.{length, take};
 ghost use Rattle.model.specs.Base.{fromLittleEndian};
-ghost use Rattle.model.specs.Read.{vectorBytes};
+ghost use Rattle.model.specs.Read.{vectorBytes, spareZero, someChange};
 ghost use Rattle.test_records.specs.Records.{RecordTrue, VectorsTrue, EdgesTrue};
 use model::Refusal;
 use records::inner::begins_with;
@@ -45,7 +46,24 @@ pub fn record_length(inputs: usize) -> usize
     2 + 2 * vector_bytes(inputs)
 }
 
-// The checks 30 to 32.
+// Whether some input of a pair is changed. With spare bits of zero an input is changed exactly where a byte is.
+fn some_change(v1: &[u8], v2: &[u8], inputs: usize) -> bool
+    requires { ⌜ (inputs ≤ 64) × (vectorBytes inputs ≤ length (now v1)) × (vectorBytes inputs ≤ length (now v2))
+        × T (spareZero inputs (now v1)) × T (spareZero inputs (now v2)) ⌝ }
+    ensures { λ r. ⌜ r ≡ someChange inputs (now (v1 .entry)) (now (v2 .entry)) ⌝ }
+{
+    let bytes = vector_bytes(inputs);
+    let mut k = 0;
+    while k < bytes {
+        if v1[k] != v2[k] {
+            return true;
+        }
+        k += 1;
+    }
+    false
+}
+
+// The checks 30 to 32, then 85.
 pub fn check_record(test: &[u8], inputs: usize) -> RecordAnswer
     requires { ⌜ (1 ≤ inputs) × (inputs ≤ 64) ⌝ }
     ensures { λ r. ⌜ RecordTrue r inputs (now (test .entry)) ⌝ }
@@ -65,6 +83,10 @@ pub fn check_record(test: &[u8], inputs: usize) -> RecordAnswer
     let v2_zero = spare_zero(&test[2 + bytes..], inputs);
     if !v2_zero {
         return RecordAnswer::Refused(Refusal::SpareBit);
+    }
+    let changed = some_change(&test[2..], &test[2 + bytes..], inputs);
+    if !changed {
+        return RecordAnswer::Refused(Refusal::UnchangedPair);
     }
     RecordAnswer::Legal
 }

@@ -16,9 +16,10 @@ abbrev pub verdictText : Answer (Unit {0}) → List ℕ
 verdictText (value u) = acceptedText
 verdictText (refused number) = refusedText number
 
--- the numbers that one record of a test file can be refused with in an audit, which asked for 33 before: its mark, a spare bit, 50 and 51
+-- the numbers that one record of a test file can be refused with in an audit, which asked for 33 before: its mark, a spare bit, a pair
+-- without a changed input, 50 and 51
 abbrev pub ofRecord : ℕ → Bool
-ofRecord number = eqb number 31 || eqb number 32 || eqb number 50 || eqb number 51
+ofRecord number = eqb number 31 || eqb number 32 || eqb number 85 || eqb number 50 || eqb number 51
 
 -- the texts `judged in class `, `1 (non-robust)` and `2 (robust)`
 abbrev pub judgedText : List ℕ

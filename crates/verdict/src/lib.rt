@@ -44,6 +44,9 @@ pub fn is_of_record(why: Refusal) -> bool
     if number == refusal_number(Refusal::SpareBit) {
         return true;
     }
+    if number == refusal_number(Refusal::UnchangedPair) {
+        return true;
+    }
     if number == refusal_number(Refusal::WorkingRuns) {
         return true;
     }

@@ -1,4 +1,4 @@
--- `verdict::is_of_record` meets its contract: each test says whether the number is that of one of the four cases.
+-- `verdict::is_of_record` meets its contract: each test says whether the number is that of one of the five cases.
 -- Assumes nothing.
 use borrow.Author.Needs.{needs}
 use Rattle.verdict.proofs.OfRecordCases.{record-cases}
@@ -32,6 +32,12 @@ refusal-number-requires-5 c κs = search needs
 returns-4 : tie.Need-returns-4
 returns-4 c = search record-cases
 
+refusal-number-requires-6 : tie.Need-refusal-number-requires-6
+refusal-number-requires-6 c κs = search needs
+
+returns-5 : tie.Need-returns-5
+returns-5 c = search record-cases
+
 pub is-of-record-spec : {M : Type 1} → statement M
 is-of-record-spec =
     tie.close
@@ -44,4 +50,6 @@ is-of-record-spec =
     refusal-number-requires-4
     returns-3
     refusal-number-requires-5
-    returns-4)
+    returns-4
+    refusal-number-requires-6
+    returns-5)

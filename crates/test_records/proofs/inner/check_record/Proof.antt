@@ -1,6 +1,7 @@
 -- `test_records::inner::check_record` meets its contract: each return is one case of the place Test.
 -- Assumes nothing.
-use Rattle.test_records.proofs.RecordCases.{record-cases}
+use native.Mathlib.Omega.{arith}
+use Rattle.test_records.proofs.RecordCases.{record-cases, test-passed}
 use borrow.Author.Needs.{needs}
 use Rattle.test_records.proofs.inner.check_record.Statement.{statement}
 use Rattle.test_records.proofs.inner.check_record.Tie as tie
@@ -56,8 +57,46 @@ spare-zero-requires-2 c κs = search needs
 returns-4 : tie.Need-returns-4
 returns-4 c = search record-cases
 
+sub-some-change : tie.Need-sub-some-change
+sub-some-change c = search needs
+
+part-some-change-start : tie.Need-part-some-change-start
+part-some-change-start c = search needs
+
+part-some-change-end : tie.Need-part-some-change-end
+part-some-change-end c = search needs
+
+add-some-change : tie.Need-add-some-change
+add-some-change c = search needs
+
+sub-some-change-2 : tie.Need-sub-some-change-2
+sub-some-change-2 c = search needs
+
+part-some-change-start-2 : tie.Need-part-some-change-start-2
+part-some-change-start-2 c = search needs
+
+part-some-change-end-2 : tie.Need-part-some-change-end-2
+part-some-change-end-2 c = search needs
+
+some-change-requires : tie.Need-some-change-requires
+some-change-requires c κs =
+    let second = c .before .before in
+    let first = second .before .before .before in
+    let start = first .before .before .before .before .before .before .before .before in
+    let bytes = first .before .before .before .before .before .before .vector-bytes .ensures .0 in
+    let long = first .before .before .before .before .before .if1 .left in (
+      start .pre .1,
+      omega (arith, bytes, long, c .before .some-change-arg .given .2),
+      omega (arith, bytes, long, c .some-change-arg2 .given .2),
+      test-passed (first .before .spare-zero .ensures) (first .if3 .left),
+      test-passed (second .before .spare-zero2 .ensures) (second .if4 .left),
+    )
+
 returns-5 : tie.Need-returns-5
 returns-5 c = search record-cases
+
+returns-6 : tie.Need-returns-6
+returns-6 c = search record-cases
 
 pub check-record-spec : {M : Type 1} → statement M
 check-record-spec =
@@ -80,4 +119,13 @@ check-record-spec =
     part-spare-zero-end-2
     spare-zero-requires-2
     returns-4
-    returns-5)
+    sub-some-change
+    part-some-change-start
+    part-some-change-end
+    add-some-change
+    sub-some-change-2
+    part-some-change-start-2
+    part-some-change-end-2
+    some-change-requires
+    returns-5
+    returns-6)
