@@ -18,7 +18,7 @@
  * genduwal_path_to_number up to 68,000 (a path of 511 gates), the others up to 16,000.
  *
  * Refusals, in the order in which they are looked for:
- *   1  store not 4,098 words                     2  working memory under 8,192 words
+ *   1  store not 4,099 words                     2  working memory under 8,192 words
  *   3  path buffer under 513 words               4  report buffer under 32,802 bytes, netlist buffer under 10,484 bytes
  *   4  buffer of a load under 2,304 bytes       11  inputs of a load not 1 to 64
  *  10  netlist: header cut off or its mark      11  inputs, gates, nets or outputs out of range
@@ -31,8 +31,9 @@
  *  33  test file not whole records, or over 4,294,967,295 of them
  *  30  test record's length                     31  test record's mark
  *  32  spare bit set                            85  a pair without a changed input
- *  40  store: number of runs over 1,024         41  a run out of range or not after the one before
- *  42  word past the last run not zero
+ *  40  store: a number of runs over 1,024, tests taken over 4,294,967,295
+ *  41  a run out of range or not after the one before, or runs and no tests taken
+ *  42  word past the last run not zero          86  a test on a store with 4,294,967,295 tests taken
  *  84  coverage by length: a path to an output has more than 63 gates
  *  50  over 1,024 working runs of an edge       51  the store would have over 1,024 runs of an edge
  *  60  no such path or fault number             61  words are not a path of the netlist
@@ -59,7 +60,7 @@ extern "C" {
 
 /* Words of a store, least words of working memory and of a path buffer, least bytes of a report buffer and of a buffer for a netlist file,
  * words of a survey. */
-#define GENDUWAL_STORE_WORDS 4098
+#define GENDUWAL_STORE_WORDS 4099
 #define GENDUWAL_WORK_WORDS 8192
 #define GENDUWAL_PATH_WORDS 513
 #define GENDUWAL_REPORT_BYTES 32802
@@ -82,29 +83,33 @@ extern "C" {
  * Refusals: 10 to 15, 17 to 21. */
 uint32_t genduwal_survey(const uint8_t *netlist, size_t netlist_len, uint64_t answer[516]);
 
-/* Empties a store, of any words: all 4,098 words become zero.
+/* A store is 4,099 words: the number of rising runs, of falling runs and of tests taken, then 1,024 places of two words for rising runs and as
+ * many for falling ones.
+ *
+ * Empties a store, of any words: all 4,099 words become zero.
  * Refusals: 1. */
 uint32_t genduwal_empty(uint64_t *store, size_t store_len);
 
-/* Adds the faults that one test record detects in a class to a store of 4,098 words. answer: new rising faults, new falling faults, rising
- * faults then held, falling faults then held. work is at least 8,192 words; the first 8,192 may hold anything afterwards, later ones stay as
- * they were. A refused call leaves the store as it was. A store does not remember classes: calls on one store may be of unlike classes.
- * Refusals: 1, 2, 10 to 15, 17 to 21, 83, 30 to 32, 85, 40 to 42, 50, 51. */
+/* Adds the faults that one test record detects in a class to a store of 4,099 words and counts the test in the third. answer: new rising
+ * faults, new falling faults, rising faults then held, falling faults then held. work is at least 8,192 words; the first 8,192 may hold
+ * anything afterwards, later ones stay as they were. A refused call leaves the store as it was. A store does not remember classes: calls on
+ * one store may be of unlike classes.
+ * Refusals: 1, 2, 10 to 15, 17 to 21, 83, 30 to 32, 85, 40 to 42, 86, 50, 51. */
 uint32_t genduwal_test(const uint8_t *netlist, size_t netlist_len, const uint8_t *test, size_t test_len, uint32_t test_class,
                        uint64_t *store, size_t store_len, uint64_t *work, size_t work_len, uint64_t answer[4]);
 
-/* The faults that a store of 4,098 words holds. answer: rising faults, falling faults.
+/* The faults that a store of 4,099 words holds. answer: rising faults, falling faults.
  * Refusals: 1, 10 to 15, 17 to 21, 40 to 42. */
 uint32_t genduwal_totals(const uint8_t *netlist, size_t netlist_len, const uint64_t *store, size_t store_len, uint64_t answer[2]);
 
-/* Coverage by length: how many paths of each number of gates there are, and how many of their faults a store of 4,098 words holds. answer: for
+/* Coverage by length: how many paths of each number of gates there are, and how many of their faults a store of 4,099 words holds. answer: for
  * rising 64 numbers of paths, of 0 to 63 gates, then 64 of faults held; the same for falling. A path has the same length for both edges, so
  * words 128 to 191 are words 0 to 63; no path has 0 gates. The paths add up to those of the survey, the faults to those of genduwal_totals.
  * A net that leads to no output has no path, however deep it lies.
  * Refusals: 1, 10 to 15, 17 to 21, 40 to 42, 84. */
 uint32_t genduwal_lengths(const uint8_t *netlist, size_t netlist_len, const uint64_t *store, size_t store_len, uint64_t answer[256]);
 
-/* Whether a store of 4,098 words holds a fault: path i has faults 2i - 1 (rising) and 2i (falling). answer: 1 if it does, else 0.
+/* Whether a store of 4,099 words holds a fault: path i has faults 2i - 1 (rising) and 2i (falling). answer: 1 if it does, else 0.
  * Refusals: 1, 10 to 15, 17 to 21, 40 to 42, 60. */
 uint32_t genduwal_holds(const uint8_t *netlist, size_t netlist_len, const uint64_t *store, size_t store_len, uint64_t fault,
                         uint64_t answer[1]);
@@ -119,16 +124,16 @@ uint32_t genduwal_path_to_number(const uint8_t *netlist, size_t netlist_len, con
  * Refusals: 3, 10 to 15, 17 to 21, 60. */
 uint32_t genduwal_number_to_path(const uint8_t *netlist, size_t netlist_len, uint64_t number, uint16_t *path, size_t path_len);
 
-/* Writes the report of a store of 4,098 words and a number of tests. report is at least 32,802 bytes; those past the record, or all of them
- * if the call is refused, stay as they were. answer: the record's length in bytes.
+/* Writes the report of a store of 4,099 words; its number of tests is the store's third word. report is at least 32,802 bytes; those past the
+ * record, or all of them if the call is refused, stay as they were. answer: the record's length in bytes.
  * Refusals: 1, 4, 10 to 15, 17 to 21, 40 to 42. */
-uint32_t genduwal_write_report(const uint8_t *netlist, size_t netlist_len, const uint64_t *store, size_t store_len, uint32_t tests,
-                               uint8_t *report, size_t report_len, uint64_t answer[1]);
+uint32_t genduwal_write_report(const uint8_t *netlist, size_t netlist_len, const uint64_t *store, size_t store_len, uint8_t *report,
+                               size_t report_len, uint64_t answer[1]);
 
 /* Judges a report: empties the store unread, takes the test records, which lie end to end in tests, in their order, all in one class, and
- * accepts (returns 0) if the report is the one that the writer gives for the store then reached and the number of records. store is 4,098
- * words, of any content; work is at least 8,192 words, used as by a test. An accepting call leaves the store that the tests reach, one
- * refused with a number over 2 leaves it all zeros.
+ * accepts (returns 0) if the report is the one that the writer gives for the store then reached and the number of records. store is 4,099
+ * words, of any content; work is at least 8,192 words, used as by a test. An accepting call leaves the store that the tests reach, which
+ * counts the records, one refused with a number over 2 leaves it all zeros.
  * Refusals: 1, 2, 10 to 15, 17 to 21, 83, 33, then for one record after another 31, 32, 85, 50, 51, and then 70 to 72. */
 uint32_t genduwal_audit(const uint8_t *netlist, size_t netlist_len, const uint8_t *tests, size_t tests_len, const uint8_t *report,
                         size_t report_len, uint32_t test_class, uint64_t *store, size_t store_len, uint64_t *work, size_t work_len);
@@ -143,7 +148,7 @@ uint32_t genduwal_audit(const uint8_t *netlist, size_t netlist_len, const uint8_
  *
  * The netlist is the same in all calls, and the class in the beginning and in all pieces.
  *
- * The beginning: empties the store unread. store is 4,098 words, of any content; work is at least 8,192 words, of which none is read. A call
+ * The beginning: empties the store unread. store is 4,099 words, of any content; work is at least 8,192 words, of which none is read. A call
  * refused with 1 or 2 leaves the store as it was, any other leaves it all zeros.
  * Refusals: 1, 2, 10 to 15, 17 to 21, 83. */
 uint32_t genduwal_audit_begin(const uint8_t *netlist, size_t netlist_len, uint32_t test_class, uint64_t *store, size_t store_len,
@@ -152,7 +157,7 @@ uint32_t genduwal_audit_begin(const uint8_t *netlist, size_t netlist_len, uint32
 /* A piece: takes its records in their order; bytes after the last whole record are not looked at. answer: the number of records, all taken.
  * work is at least 8,192 words, used as by a test, and only once 40 to 42 are passed. A call refused with 1 or 2 leaves the store as it was,
  * with any other number all zeros.
- * Refusals: 1, 2, 10 to 15, 17 to 21, 83, 40 to 42, then for one record after another 31, 32, 85, 50, 51. */
+ * Refusals: 1, 2, 10 to 15, 17 to 21, 83, 40 to 42, then for one record after another 31, 32, 85, 86, 50, 51. */
 uint32_t genduwal_audit_piece(const uint8_t *netlist, size_t netlist_len, const uint8_t *piece, size_t piece_len, uint32_t test_class,
                               uint64_t *store, size_t store_len, uint64_t *work, size_t work_len, uint64_t answer[1]);
 

@@ -72,7 +72,7 @@ impl Case {
         let stores = [0, 1].map(|place| memories[place].1.store.clone());
         let reports = [0, 1].map(|place| {
             let mut report = vec![0; twin::REPORT_BYTES];
-            let length = twin::write_report(netlist, &stores[place], load.records as u32, &mut report);
+            let length = twin::write_report(netlist, &stores[place], &mut report);
             report.truncate(length.expect("a report"));
             report
         });

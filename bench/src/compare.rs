@@ -64,11 +64,11 @@ impl Both {
     }
 
     /// The writer on the stores as they are: the report, or the refusal.
-    pub fn report(&mut self, netlist: &[u8], tests: u32, bytes: usize) -> Result<Vec<u8>, u32> {
+    pub fn report(&mut self, netlist: &[u8], bytes: usize) -> Result<Vec<u8>, u32> {
         let mut reports = (vec![0xA5; bytes], vec![0xA5; bytes]);
         let lengths = (
-            verified::write_report(netlist, &self.verified.store, tests, &mut reports.0),
-            twin::write_report(netlist, &self.twin.store, tests, &mut reports.1),
+            verified::write_report(netlist, &self.verified.store, &mut reports.0),
+            twin::write_report(netlist, &self.twin.store, &mut reports.1),
         );
         assert_eq!(lengths.0, lengths.1, "lengths of the reports differ");
         assert!(reports.0 == reports.1, "reports differ");
@@ -107,7 +107,7 @@ pub fn true_report(both: &mut Both, load: &Load, class: u32) -> Vec<u8> {
     for record in load.records() {
         both.test(&load.netlist, record, class).expect("a taken record");
     }
-    both.report(&load.netlist, load.records as u32, twin::REPORT_BYTES).expect("a report")
+    both.report(&load.netlist, twin::REPORT_BYTES).expect("a report")
 }
 
 /// A copy of some bytes with one changed.
@@ -157,10 +157,10 @@ pub fn wrong_lengths(both: &mut Both, load: &Load, report: &[u8]) {
     both.set_stores(&[7; twin::STORE_WORDS - 1]);
     assert_eq!(both.test(&load.netlist, record, 1), Err(1));
     assert_eq!(both.audit(&load.netlist, &load.tests, report, 1), 1);
-    assert_eq!(both.report(&load.netlist, 1, twin::REPORT_BYTES), Err(1));
+    assert_eq!(both.report(&load.netlist, twin::REPORT_BYTES), Err(1));
     assert_eq!(verified::empty(&mut both.verified.store), Err(1));
     both.set_stores(&[0; twin::STORE_WORDS]);
-    assert_eq!(both.report(&load.netlist, 1, twin::REPORT_BYTES - 1), Err(4));
+    assert_eq!(both.report(&load.netlist, twin::REPORT_BYTES - 1), Err(4));
     both.verified.work.pop();
     both.twin.work.pop();
     assert_eq!(both.test(&load.netlist, record, 1), Err(2));
@@ -169,7 +169,7 @@ pub fn wrong_lengths(both: &mut Both, load: &Load, report: &[u8]) {
     both.twin.work.push(0);
 }
 
-/// The test call on records and stores with one thing wrong: 83, 30, 31, 32, 85, 40, 41, 42.
+/// The test call on records and stores with one thing wrong: 83, 30, 31, 32, 85, 40, 41, 42, 86.
 pub fn refused_tests(both: &mut Both, load: &Load, store: &[u64], random: &mut Random) {
     let record = &load.tests[..load.record_bytes];
     both.set_stores(store);
@@ -180,11 +180,12 @@ pub fn refused_tests(both: &mut Both, load: &Load, store: &[u64], random: &mut R
     assert_eq!(both.test(&load.netlist, &padded(record, 0, record.len()), 1), Err(85));
     for _ in 0..2000 {
         let mut broken = store.to_vec();
-        let at = [0, 1, 2, 3, 2050, random.below(broken.len())][random.below(6)];
-        broken[at] = [0, 1, 2, broken[at] + 1, broken[at].wrapping_sub(1), 1025, u64::MAX][random.below(7)];
+        let at = [0, 1, 2, 3, 4, 2051, random.below(broken.len())][random.below(7)];
+        let full = u64::from(u32::MAX);
+        broken[at] = [0, 1, 2, broken[at] + 1, broken[at].wrapping_sub(1), 1025, full, full + 1, u64::MAX][random.below(9)];
         both.set_stores(&broken);
         let _ = both.test(&load.netlist, record, 1);
-        let _ = both.report(&load.netlist, 3, twin::REPORT_BYTES);
+        let _ = both.report(&load.netlist, twin::REPORT_BYTES);
         both.same_stores("after a test on a broken store");
     }
 }

@@ -4,10 +4,11 @@
 //! A refusal is the papers' number.
 
 use crate::peer_netlist::{Gate, NETS, Netlist, TWO_PINS, gate_rule, place};
-use crate::peer_store::{Store, compare};
+use crate::peer_store::{Store, TESTS, compare};
 
 pub const RUNS: usize = 1024;
-const STORE_WORDS: usize = 4098;
+pub const MAX_TESTS: u64 = u32::MAX as u64;
+const STORE_WORDS: usize = 4099;
 
 /// A list of runs: low and high in turn.
 pub type Runs = [u64; 2 * RUNS];
@@ -123,6 +124,9 @@ impl Judge {
 
     /// One record on a store: the new faults of each edge.
     fn test(&mut self, netlist: &Netlist, (v1, v2): (u64, u64), store: &mut Store) -> Result<[u64; 2], u32> {
+        if store.tests == MAX_TESTS {
+            return Err(86);
+        }
         self.simulate(netlist, v1, v2)?;
         self.add(netlist, store)
     }
@@ -193,6 +197,8 @@ impl Caller {
         let new = judge.test(netlist, vectors, store)?;
         if new != [0, 0] {
             store.write(words);
+        } else {
+            words[TESTS] = store.tests;
         }
         Ok([new[0], new[1], store.edges[0].faults, store.edges[1].faults])
     }

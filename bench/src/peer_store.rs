@@ -1,9 +1,13 @@
 //! The peer's store: the runs of both edges in memory, what a test adds to them, and the report.
 
-use crate::peer::{Judge, RUNS, Runs};
+use crate::peer::{Judge, MAX_TESTS, RUNS, Runs};
 use crate::peer_netlist::{Netlist, place, u16_at};
 
 const REPORT_HEAD: usize = 34;
+const HEAD_WORDS: usize = 3;
+
+/// The word with the number of tests taken.
+pub const TESTS: usize = 2;
 
 /// The runs of one edge, and how many faults they hold.
 pub struct Edge {
@@ -53,25 +57,30 @@ impl Edge {
     }
 }
 
-/// Both edges of a store.
+/// Both edges of a store, and the tests taken.
 pub struct Store {
     pub edges: [Edge; 2],
+    pub tests: u64,
 }
 
 impl Store {
     pub fn empty() -> Store {
-        Store { edges: [0, 1].map(|_| Edge { len: 0, faults: 0, runs: Box::new([0; 2 * RUNS]) }) }
+        Store { edges: [0, 1].map(|_| Edge { len: 0, faults: 0, runs: Box::new([0; 2 * RUNS]) }), tests: 0 }
     }
 
     /// Reads the words of a store, with every check.
     pub fn read(&mut self, words: &[u64], total: u64) -> Result<(), u32> {
-        if words[0] > RUNS as u64 || words[1] > RUNS as u64 {
+        if words[0] > RUNS as u64 || words[1] > RUNS as u64 || words[TESTS] > MAX_TESTS {
             return Err(40);
         }
-        let parts = words[2..].split_at(2 * RUNS);
+        let parts = words[HEAD_WORDS..].split_at(2 * RUNS);
         let used = [words[0], words[1]].map(|runs| 2 * runs as usize);
         let [rising, falling] = &mut self.edges;
         if !rising.read(&parts.0[..used[0]], total) || !falling.read(&parts.1[..used[1]], total) {
+            return Err(41);
+        }
+        self.tests = words[TESTS];
+        if self.tests == 0 && used != [0, 0] {
             return Err(41);
         }
         // No early end, so that the words are read in vectors.
@@ -81,7 +90,8 @@ impl Store {
 
     /// Writes the words of a store.
     pub fn write(&self, words: &mut [u64]) {
-        let (counts, parts) = words.split_at_mut(2);
+        let (counts, parts) = words.split_at_mut(HEAD_WORDS);
+        counts[TESTS] = self.tests;
         for ((edge, count), part) in self.edges.iter().zip(counts).zip(parts.chunks_exact_mut(2 * RUNS)) {
             *count = edge.len as u64;
             part[..2 * edge.len].copy_from_slice(&edge.runs[..2 * edge.len]);
@@ -245,6 +255,7 @@ impl Judge {
                 news[edge] = new;
             }
         }
+        store.tests += 1;
         Ok(news)
     }
 }

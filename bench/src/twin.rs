@@ -3,11 +3,14 @@
 
 use std::ops::Range;
 
-pub const STORE_WORDS: usize = 4098;
+pub const STORE_WORDS: usize = 4099;
 pub const WORK_WORDS: usize = 8192;
 pub const REPORT_BYTES: usize = 32802;
 const MAX_NETS: usize = 512;
 const MAX_RUNS: usize = 1024;
+const HEAD_WORDS: usize = 3;
+const TESTS: usize = 2;
+const MAX_TESTS: u64 = u32::MAX as u64;
 const MAX_COUNT: u64 = 1 << 62;
 const NON_ROBUST: u32 = 1;
 const ROBUST: u32 = 2;
@@ -279,7 +282,7 @@ fn size(runs: &[Run]) -> u64 {
 
 /// The rising and the falling runs of a store.
 fn edges_of(store: &[u64]) -> [&[Run]; 2] {
-    let (places, _) = store[2..].as_chunks::<2>();
+    let (places, _) = store[HEAD_WORDS..].as_chunks::<2>();
     let (rising, falling) = places.split_at(MAX_RUNS);
     [&rising[..store[0] as usize], &falling[..store[1] as usize]]
 }
@@ -304,13 +307,13 @@ fn all_zero(words: &[u64]) -> bool {
 /// The place Store.
 fn check_store(store: &[u64], total: u64) -> Result<(), u32> {
     let most = MAX_RUNS as u64;
-    if store[0] > most || store[1] > most {
+    if store[0] > most || store[1] > most || store[TESTS] > MAX_TESTS {
         return Err(40);
     }
-    if !edges_of(store).iter().all(|runs| separated(runs, total)) {
+    if !edges_of(store).iter().all(|runs| separated(runs, total)) || (store[TESTS] == 0 && store[..2] != [0, 0]) {
         return Err(41);
     }
-    let (rising, falling) = store[2..].split_at(2 * MAX_RUNS);
+    let (rising, falling) = store[HEAD_WORDS..].split_at(2 * MAX_RUNS);
     let past_rising = &rising[2 * store[0] as usize..];
     let past_falling = &falling[2 * store[1] as usize..];
     if all_zero(past_rising) && all_zero(past_falling) { Ok(()) } else { Err(42) }
@@ -320,7 +323,7 @@ fn check_store(store: &[u64], total: u64) -> Result<(), u32> {
 fn write_edge(store: &mut [u64], edge: usize, runs: &[Run]) {
     let before = store[edge] as usize;
     store[edge] = runs.len() as u64;
-    let (places, _) = store[2 + 2 * MAX_RUNS * edge..].as_chunks_mut::<2>();
+    let (places, _) = store[HEAD_WORDS + 2 * MAX_RUNS * edge..].as_chunks_mut::<2>();
     places[..runs.len()].copy_from_slice(runs);
     if runs.len() < before {
         places[runs.len()..before].fill([0, 0]);
@@ -473,7 +476,7 @@ impl Circuit {
         self.apply(vectors, class, store, work, scratch)
     }
 
-    /// The place Work for one pair of vectors on a sound store.
+    /// 86 and the place Work for one pair of vectors on a sound store.
     fn apply(
         &self,
         (v1, v2): (u64, u64),
@@ -482,6 +485,9 @@ impl Circuit {
         work: &mut [u64],
         scratch: &mut Scratch,
     ) -> Result<(), u32> {
+        if store[TESTS] == MAX_TESTS {
+            return Err(86);
+        }
         let (runs, _) = work.as_chunks_mut::<2>();
         let (nets, rest) = runs.split_at_mut(MAX_RUNS);
         let (rising, rest) = rest.split_at_mut(MAX_RUNS);
@@ -497,6 +503,7 @@ impl Circuit {
                 write_edge(store, edge, runs);
             }
         }
+        store[TESTS] += 1;
         Ok(())
     }
 }
@@ -561,7 +568,7 @@ fn put_report(store: &[u64], tests: u32, total: u64, report: &mut [u8]) -> usize
 }
 
 /// The writer: the report's length.
-pub fn write_report(netlist: &[u8], store: &[u64], tests: u32, report: &mut [u8]) -> Result<usize, u32> {
+pub fn write_report(netlist: &[u8], store: &[u64], report: &mut [u8]) -> Result<usize, u32> {
     if store.len() != STORE_WORDS {
         return Err(1);
     }
@@ -570,7 +577,7 @@ pub fn write_report(netlist: &[u8], store: &[u64], tests: u32, report: &mut [u8]
     }
     let survey = survey(netlist)?;
     check_store(store, survey.total)?;
-    Ok(put_report(store, tests, survey.total, report))
+    Ok(put_report(store, store[TESTS] as u32, survey.total, report))
 }
 
 /// The place Report.

@@ -29,7 +29,6 @@ unsafe extern "C" {
         netlist_bytes: usize,
         store: *const u64,
         store_words: usize,
-        tests: u32,
         report: *mut u8,
         report_bytes: usize,
         answer: *mut u64,
@@ -111,7 +110,7 @@ pub fn totals(netlist: &[u8], store: &[u64]) -> Result<[u64; 2], u32> {
 }
 
 /// The writer: the report's length.
-pub fn write_report(netlist: &[u8], store: &[u64], tests: u32, report: &mut [u8]) -> Result<usize, u32> {
+pub fn write_report(netlist: &[u8], store: &[u64], report: &mut [u8]) -> Result<usize, u32> {
     let mut length = [0];
     let refusal = unsafe {
         genduwal_write_report(
@@ -119,7 +118,6 @@ pub fn write_report(netlist: &[u8], store: &[u64], tests: u32, report: &mut [u8]
             netlist.len(),
             store.as_ptr(),
             store.len(),
-            tests,
             report.as_mut_ptr(),
             report.len(),
             length.as_mut_ptr(),

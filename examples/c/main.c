@@ -100,11 +100,11 @@ static void show_fault(uint64_t fault)
     printf("fault %llu %s\n", (unsigned long long)fault, answer[0] == 1 ? "held" : "not held");
 }
 
-/* One rising run, 3 to 3, and one falling run, 2 to 3: the record has 34 + 16 + 16 = 66 bytes. */
+/* Three tests taken, one rising run, 3 to 3, and one falling run, 2 to 3: the record has 34 + 16 + 16 = 66 bytes. */
 static size_t show_report(void)
 {
     uint64_t answer[1];
-    uint32_t code = genduwal_write_report(circuit, sizeof circuit, store, GENDUWAL_STORE_WORDS, records, report, sizeof report, answer);
+    uint32_t code = genduwal_write_report(circuit, sizeof circuit, store, GENDUWAL_STORE_WORDS, report, sizeof report, answer);
     if (code != 0) {
         printf("report refused %u\n", (unsigned)code);
         return 0;

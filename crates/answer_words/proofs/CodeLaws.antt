@@ -49,6 +49,7 @@ code-refused why.BenchCount = refl
 code-refused why.UnknownClass = refl
 code-refused why.PathTooLong = refl
 code-refused why.UnchangedPair = refl
+code-refused why.TestsFull = refl
 
 pub code-zero : codeAnswer 0 ≡ value tt
 unfolding codeAnswer

@@ -1,7 +1,7 @@
 -- Demand 3 of the values that the calls return: it follows from their promises and demand 3 of the definitions.
 -- Assumes nothing.
 use mathlib.Core.Path.{_≡_, refl, ap, sym, _∙_, subst}
-use mathlib.Core.List.{List, [], _∷_, _++_, map}
+use mathlib.Core.List.{List, [], _∷_, _++_}
 use Prim.Native.Nat.{ℕ}
 use lib.ListN.{length}
 use Rattle.model.specs.Base.{Answer, refused, value, _>>=_}
@@ -12,7 +12,7 @@ use Rattle.model.specs.Read.{readNetlist, classOf}
 use Rattle.model.specs.Store.{ByEdge, emptyStore}
 use Rattle.model.specs.Calls.{Tested, testCall, testAnswer, totalsCall}
 use Rattle.model.specs.Demand3 as demand
-use Rattle.model.specs.Demand3.{Call, State, start, testIn, next, afterCalls, leftBy, NoRefusal, StoreTrue}
+use Rattle.model.specs.Demand3.{State, start, testIn, next, afterCalls, leftBy, NoRefusal, StoreTrue}
 use Rattle.model.proofs.AnswerLaws.{not-refused, value-inj, steps}
 use Rattle.model.proofs.ReportsHold.{demand-3}
 use Rattle.model.proofs.UnchangedHolds.{unchanged-pairs}
@@ -24,15 +24,13 @@ use Rattle.report.specs.Answers.{writtenOf}
 use Rattle.report.specs.declared.WriteAnswer.{WriteAnswer}
 use Rattle.report.specs.declared.WriteAnswer.the-variants as write
 use Rattle.file_judging.specs.FileJudging.{auditedOf}
+use Rattle.audit.specs.CountedCalls.{callsOf}
 use Rattle.audit.specs.Promised.{MadeCall, TakenCall, Promised, lastStore, withTaken, takenTests, TotalsTrue, ListTrue, CallsTrue, PaddingRefused}
 use Rattle.file_judging.specs.declared.AuditAnswer.{AuditAnswer}
 use Rattle.file_judging.specs.declared.AuditAnswer.the-variants as audit
 
-abbrev callsOf : List MadeCall → List Call
-callsOf ms = map (λ m. m .call) ms
-
 -- the state that a list of calls leaves, by what they answered and left
-abbrev stateOf : Netlist → State → List MadeCall → State
+abbrev pub stateOf : Netlist → State → List MadeCall → State
 stateOf N s ms = record { store = lastStore (s .store) ms; taken = takenTests N (s .taken) ms }
 
 same-taken : (a : Answer Tested) (t : Test) (ts : List Test) → demand.withTest a t ts ≡ withTaken (a >>= λ r. value (r .returned)) t ts
@@ -40,7 +38,7 @@ same-taken (refused n) t ts = refl
 same-taken (value r) t ts = refl
 
 module _ (netlist : List ℕ) (N : Netlist) where
-  state-after : (ms : List MadeCall) (s : State) → Promised netlist (s .store) ms → afterCalls netlist N s (callsOf ms) ≡ stateOf N s ms
+  pub state-after : (ms : List MadeCall) (s : State) → Promised netlist (s .store) ms → afterCalls netlist N s (callsOf ms) ≡ stateOf N s ms
   unfolding afterCalls testAnswer
   state-after [] s p = refl
   state-after (m ∷ ms) s p =
@@ -53,11 +51,11 @@ module _ (netlist : List ℕ) (N : Netlist) where
       ∙ state-after ms (record { store = m .left; taken = withTaken (testedOf (m .answer)) t (s .taken) }) (p .1)
 
   -- the calls before one of a list, and that one
-  promised-before : (before : List MadeCall) (m : MadeCall) (rest : List MadeCall) (ws : List ℕ) → Promised netlist ws (before ++ (m ∷ rest)) → Promised netlist ws before
+  pub promised-before : (before : List MadeCall) (m : MadeCall) (rest : List MadeCall) (ws : List ℕ) → Promised netlist ws (before ++ (m ∷ rest)) → Promised netlist ws before
   promised-before [] m rest ws p = tt
   promised-before (b ∷ bs) m rest ws p = (p .0, promised-before bs m rest (b .left) (p .1))
 
-  promised-at : (before : List MadeCall) (m : MadeCall) (rest : List MadeCall) (ws : List ℕ) → Promised netlist ws (before ++ (m ∷ rest))
+  pub promised-at : (before : List MadeCall) (m : MadeCall) (rest : List MadeCall) (ws : List ℕ) → Promised netlist ws (before ++ (m ∷ rest))
       → testedOf (m .answer) ≡ testAnswer netlist (m .call .class) (m .call .rec) (lastStore ws before) (m .call .work)
   promised-at [] m rest ws p = p .0 .answer
   promised-at (b ∷ bs) m rest ws p = promised-at bs m rest (b .left) (p .1)
@@ -108,6 +106,7 @@ module _ (netlist : List ℕ) (N : Netlist) where
     list-true ms p = record {
       holdsFault = state-true ms p .holdsFault;
       holdsNoOther = state-true ms p .holdsNoOther;
+      testsTrue = state-true ms p .testsTrue;
       totalsTrue = totals-true ms p;
       takenExactly = λ before m rest q. (
         taken→ before m rest (subst (λ (x : List MadeCall). Promised netlist emptyStore x) q p),

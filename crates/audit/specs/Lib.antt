@@ -2,3 +2,4 @@
 pub mod Answers
 pub mod TestFile
 pub mod Promised
+pub mod CountedCalls

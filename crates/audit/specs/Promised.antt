@@ -12,7 +12,7 @@ use Rattle.model.specs.Path.{Edge, rising, falling, Fault, valid, numberOf}
 use Rattle.model.specs.Detect.{Class, Test}
 use Rattle.model.specs.Read.{readNetlist, classOf}
 use Rattle.model.specs.Runs.{inRuns}
-use Rattle.model.specs.Store.{emptyStore, storeRuns}
+use Rattle.model.specs.Store.{emptyStore, storeRuns, testsTaken}
 use Rattle.model.specs.Calls.{FaultCounts, totalsCall}
 use Rattle.model.specs.Report.{fileRecords, reportBufferBytes}
 use Rattle.model.specs.Demand3.{Call, testIn, knownClass, CountOf, Detected, RunsOfDetected, detectedBy, NoRefusal, Returned, WhollyTaken, FileCalls, testsOf, TrueReport, NamesDetected, Acceptable}
@@ -76,6 +76,8 @@ pub record ListTrue (netlist : List ℕ) (N : Netlist) (ms : List MadeCall) : Ty
   pub holdsFault : (f : Fault) → T (valid N (f .path))
       → T (inRuns (storeRuns (lastStore emptyStore ms) (f .edge)) (numberOf N (f .path))) ↔ T (detectedBy N (takenTests N [] ms) f)
   pub holdsNoOther : (e : Edge) → RunsOfDetected N (takenTests N [] ms) e (storeRuns (lastStore emptyStore ms) e)
+  -- its third word is the number of calls taken
+  pub testsTrue : testsTaken (lastStore emptyStore ms) ≡ length (takenTests N [] ms)
   -- the totals call then gives the numbers of distinct faults so detected
   pub totalsTrue : (r : TotalsAnswer) → totalsOf r ≡ totalsCall netlist (lastStore emptyStore ms) → TotalsTrue N (takenTests N [] ms) r
   -- each call was taken exactly when no condition for refusing it holds, and a taken one returned true numbers
@@ -100,7 +102,7 @@ pub record CallsTrue : Type 0 where
       → (testFile : List ℕ) → WhollyTaken N (classOf class) testFile
       → (ms : List MadeCall) → Promised netlist emptyStore ms → FileCalls N class testFile (map (λ m. m .call) ms)
       → (found left : List ℕ) → reportBufferBytes ≤ length found
-      → (r : WriteAnswer) → WriteTrue r netlist (lastStore emptyStore ms) (length (fileRecords N testFile)) found left
+      → (r : WriteAnswer) → WriteTrue r netlist (lastStore emptyStore ms) found left
       → WrittenTrue N (classOf class) testFile found left r
   pub audits : (r : AuditAnswer) (netlist : List ℕ) (class : ℕ) (testFile report ws ws′ found left : List ℕ)
       → AuditTrue r netlist class testFile report ws ws′ found left

@@ -12,7 +12,7 @@ use Rattle.model.specs.Netlist.{Netlist, nets, gateOf, pinsOf, pinNet}
 use Rattle.model.specs.Detect.{Class, Test, Evaluation, noEvaluation, pinEvaluations, gateValue, gateSteady, isOpen, openPin}
 use Rattle.model.specs.Read.{kindOf, pinsFit}
 use Rattle.model.proofs.WellFormed.{WellFormed}
-use Rattle.model.proofs.ListLaws.{getD-map-in}
+use Rattle.model.proofs.ListLaws.{getD-map-in, any-map}
 use Rattle.model.proofs.NetLaws.{evaluate-gate}
 use Rattle.block.specs.Words.{WordIs, bitsAt, wordsAt, unequal, flipWord, pinWords, pinWord, GateIs, SeenAt, SeenIs, ValueIs}
 use Rattle.block.specs.Robust.{evaluationAt, HeldIs, SteadyIs}
@@ -35,10 +35,6 @@ any-same : (f g : ℕ → Bool) (top : ℕ) → ((i : ℕ) → i < top → f i �
 any-same f g top h [] l = refl
 any-same f g top h (p ∷ ps) l =
     ap₂ (λ x y. x || y) (h p (l 0 (omega arith))) (any-same f g top h ps (λ q m. l (suc q) (omega arith)))
-
-pub any-map : {A : Type 0} (f : A → Bool) (g : ℕ → A) (ns : List ℕ) → anyOf (λ n. f (g n)) ns ≡ anyOf f (map g ns)
-any-map f g [] = refl
-any-map f g (n ∷ ns) = ap (λ b. f (g n) || b) (any-map f g ns)
 
 module _ {N : Netlist} {table : List ℕ} {net : ℕ} {g : Gate} (w : WellFormed N) (low : N .inputs ≤ net) (high : net < nets N) (r : GateRow N table net)
     (i : GateIs table net g) (tests : ℕ → Test) (n : ℕ) (few : n ≤ 64) where

@@ -11,6 +11,7 @@ use Rattle.model.specs.Netlist.{Netlist, nets, pinsOf, pinNet}
 use Rattle.model.specs.Path.{Edge}
 use Rattle.model.specs.Detect.{Test, openPin}
 use Rattle.model.proofs.WellFormed.{WellFormed}
+use Rattle.model.proofs.ListLaws.{any-map}
 use Rattle.block.specs.Words.{WordIs, bitsAt, wordsAt, firstWords, GateIs}
 use Rattle.block.specs.Table.{GateRow}
 use Rattle.block.specs.Block.{liveNet, activePin, LiveWords}
@@ -19,7 +20,6 @@ use Rattle.block.specs.NetStates.{EdgeActive}
 use Rattle.block.specs.declared.inner.gates.Gate.{Gate}
 use Rattle.block.proofs.LiveLaws.{live-gate}
 use Rattle.block.proofs.GateTableLaws.{count-is, pin-is, lower}
-use Rattle.block.proofs.BlockNetLaws.{any-map}
 
 -- one number more
 numbers-more : (m k : ℕ) → numbersFrom k (m + 1) ≡ numbersFrom k m ++ ((k + m) ∷ [])

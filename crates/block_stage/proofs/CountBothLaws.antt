@@ -5,21 +5,22 @@ use mathlib.Core.Bool.{true, true≢false}
 use mathlib.Core.List.{List}
 use Prim.Native.Nat.{ℕ, _-_, _≤_, _^_}
 use native.Mathlib.Nat.{sub-self}
-use Rattle.model.specs.Base.{Answer, refused, value, checks, passes, after}
+use borrow.Author.Needs.{needs}
+use Rattle.model.specs.Base.{Answer, refused, value, passes, after}
 use Rattle.model.specs.Netlist.{Netlist, pathTotal}
 use Rattle.model.specs.Path.{Edge, rising, falling}
 use Rattle.model.specs.Detect.{Test}
 use Rattle.model.specs.Runs.{size, howMany}
 use Rattle.model.specs.Store.{storeRuns, runsByEdge}
-use Rattle.model.specs.Calls.{FaultCounts, Tested, storeLeft, tested, workRules, runsThen, heldThen}
+use Rattle.model.specs.Calls.{FaultCounts, Tested, storeLeft, tested, runsThen, heldThen}
+use Rattle.model.specs.declared.Refusal.{Refusal}
 use Rattle.model.proofs.AnswerLaws.{not-refused, value-inj}
 use Rattle.model.proofs.RefusalLaws.{refused-inj}
 use Rattle.store_words.specs.WordAnswers.{totalsIn, totalsBoth}
 use Rattle.store_words.specs.declared.inner.StoreTotals.{StoreTotals}
 use Rattle.store_words.proofs.SoundLaws.{edge-sound}
 use Rattle.store_writing.specs.declared.inner.Change.the-variants as change
-use Rattle.coverage.specs.Both.{bothOf}
-use Rattle.coverage.specs.Stage.{MemoryReady, BothMade, SomeBothMade, stageOf, storeAfter, workStage, StageIs}
+use Rattle.coverage.specs.Stage.{MemoryReady, BothMade, SomeBothMade, storeAfter, workStage, StageIs}
 use Rattle.coverage.specs.TestCall.{testedOf, returnedBy, TestedIs, Counting, SomeCounting}
 use Rattle.coverage.specs.declared.TestAnswer.{TestAnswer}
 use Rattle.coverage.specs.declared.TestAnswer.the-variants as test
@@ -29,8 +30,8 @@ use Rattle.coverage.specs.declared.inner.StageAnswer.{StageAnswer}
 use Rattle.coverage.specs.declared.inner.StageAnswer.the-variants as stage
 use Rattle.coverage.proofs.EdgesLaws.{memory-sound}
 use Rattle.coverage.proofs.WorkMemory.{work-result}
-use Rattle.coverage.proofs.TestCallLaws.{taken-by, then-size, size-after, count-taken}
-use Rattle.block_stage.specs.Counts.{keepsBoth, BothCounted, SomeBothCounted, totalsAfter, wordsOf, Says}
+use Rattle.coverage.proofs.TestCallLaws.{taken-by, then-size, size-after, count-refused, count-taken}
+use Rattle.block_stage.specs.Counts.{keepsBoth, countsKept, BothCounted, SomeBothCounted, totalsAfter, wordsOf, Says}
 
 -- both edges keep their runs
 kept-both : (b : BothAnswer) → true ≡ keepsBoth b → b ≡ both.Fits change.Kept change.Kept
@@ -40,9 +41,15 @@ kept-both (both.Fits (change.Made from to n) f) e = absurd (true≢false e)
 kept-both both.WorkOver e = absurd (true≢false e)
 kept-both both.StoreOver e = absurd (true≢false e)
 
-stage-taken : (r : StageAnswer) → stageOf r ≡ value tt → r ≡ stage.Taken
-stage-taken stage.Taken e = refl
-stage-taken (stage.Refused w) e = absurd (not-refused e)
+-- a stage that keeps the store's runs, case by case
+module _ (before : StoreTotals) (a : StageAnswer) where
+  pub kept-refused : (w : Refusal) → a ≡ stage.Refused w → test.Refused w ≡ countsKept before a
+  kept-refused w e = sym (ap (countsKept before) e)
+
+  pub kept-taken : a ≡ stage.Taken → test.Taken 0 0 (before .rising) (before .falling) ≡ countsKept before a
+  kept-taken e = sym (ap (countsKept before) e)
+
+pub ruleset kept-cases = (kept-refused, kept-taken, needs)
 
 -- what is handed over, and what the stage then answers
 pub some-made : {before : StoreTotals} {b : BothAnswer} {ws work : List ℕ} → SomeBothCounted before b ws work → SomeBothMade b ws work
@@ -64,27 +71,25 @@ module _ {before : StoreTotals} {b : BothAnswer} {ws ws′ work : List ℕ} {r :
       fits : b ≡ both.Fits change.Kept change.Kept
       fits = kept-both b keeps
 
-      took : r ≡ stage.Taken
-      unfolding workStage
-      took =
-          let passed : checks (workRules N (runsByEdge ws) t) ≡ value tt = sym (k .made .covers .answers) ∙ ap bothOf fits in
-          stage-taken r (writes N t found (k .made) .answer ∙ rw passed refl)
+      same-size : r ≡ stage.Taken → (e : Edge) → storeRuns ws e ≡ runsThen N (runsByEdge ws) t e → size (storeRuns ws e) ≡ size (storeRuns ws′ e)
+      same-size took e same = ap size same ∙ sym (size-after counting-both took e)
 
-      same-size : (e : Edge) → storeRuns ws e ≡ runsThen N (runsByEdge ws) t e → size (storeRuns ws e) ≡ size (storeRuns ws′ e)
-      same-size e same = ap size same ∙ sym (size-after counting-both took e)
-
-      same-totals : totalsIn before ≡ totalsBoth ws′
-      same-totals =
+      same-totals : r ≡ stage.Taken → totalsIn before ≡ totalsBoth ws′
+      same-totals took =
           k .totals
           ∙ ap₂ (λ (x y : ℕ). record { onRising = x; onFalling = y })
-          (same-size rising (k .made .covers .risingRuns change.Kept change.Kept fits))
-          (same-size falling (k .made .covers .fallingRuns change.Kept change.Kept fits))
+          (same-size took rising (k .made .covers .risingRuns change.Kept change.Kept fits))
+          (same-size took falling (k .made .covers .fallingRuns change.Kept change.Kept fits))
 
-      pub counted-kept : TestedIs (workStage N t ws) ws ws′ found work (test.Taken 0 0 (before .rising) (before .falling))
-      counted-kept =
-          subst (λ (n : ℕ). TestedIs (workStage N t ws) ws ws′ found work (test.Taken 0 n (before .rising) (before .falling))) (sub-self (before .falling))
-          (subst (λ (n : ℕ). TestedIs (workStage N t ws) ws ws′ found work (test.Taken n (before .falling - before .falling) (before .rising) (before .falling)))
-          (sub-self (before .rising)) (count-taken counting-both took same-totals))
+      pub counted-kept : {a : TestAnswer} → a ≡ countsKept before r → TestedIs (workStage N t ws) ws ws′ found work a
+      counted-kept e = subst (λ (y : TestAnswer). TestedIs (workStage N t ws) ws ws′ found work y) (sym e) (by r refl)
+        where
+          by : (s : StageAnswer) → r ≡ s → TestedIs (workStage N t ws) ws ws′ found work (countsKept before s)
+          by (stage.Refused w) q = count-refused counting-both q
+          by stage.Taken q =
+              subst (λ (n : ℕ). TestedIs (workStage N t ws) ws ws′ found work (test.Taken 0 n (before .rising) (before .falling))) (sub-self (before .falling))
+              (subst (λ (n : ℕ). TestedIs (workStage N t ws) ws ws′ found work (test.Taken n (before .falling - before .falling) (before .rising) (before .falling)))
+              (sub-self (before .rising)) (count-taken counting-both q (same-totals q)))
 
   pub counted-some : SomeBothCounted before b ws work → SomeCounting before r ws′
   counted-some h = record {

@@ -20,6 +20,8 @@ use Rattle.coverage.specs.declared.TestAnswer.{TestAnswer}
 use Rattle.coverage.specs.declared.TestAnswer.the-variants as test
 use Rattle.coverage.specs.declared.edges.BothAnswer.{BothAnswer}
 use Rattle.coverage.specs.declared.edges.BothAnswer.the-variants as both
+use Rattle.coverage.specs.declared.inner.StageAnswer.{StageAnswer}
+use Rattle.coverage.specs.declared.inner.StageAnswer.the-variants as stage
 use Rattle.block_stage.specs.declared.counting.AnswerWords.{AnswerWords}
 
 -- whether an edge's runs are kept, and those of both edges
@@ -32,6 +34,11 @@ keepsBoth (both.Fits change.Kept f) = keepsEdge f
 keepsBoth (both.Fits (change.Made from to n) f) = false
 keepsBoth both.WorkOver = false
 keepsBoth both.StoreOver = false
+
+-- what a stage that keeps the store's runs answers
+abbrev pub countsKept : StoreTotals → StageAnswer → TestAnswer
+countsKept before (stage.Refused why) = test.Refused why
+countsKept before stage.Taken = test.Taken 0 0 (before .rising) (before .falling)
 
 -- what was made of both edges of a sound store, and the faults that the store held before
 pub record BothCounted (N : Netlist) (t : Test) (ws found work : List ℕ) (b : BothAnswer) (before : StoreTotals) : Type 0 where

@@ -7,7 +7,7 @@ ghost use Rattle.model.specs.Netlist.{Netlist};
 ghost use Rattle.model.specs.Detect.{Test};
 ghost use Rattle.coverage.specs.Stage.{MemoryReady, workStage};
 ghost use Rattle.coverage.specs.TestCall.{TestedIs};
-ghost use Rattle.block_stage.specs.Counts.{keepsBoth, BothCounted, SomeBothCounted, totalsAfter, wordsOf, withAnswer, BlockCounted};
+ghost use Rattle.block_stage.specs.Counts.{keepsBoth, countsKept, BothCounted, SomeBothCounted, totalsAfter, wordsOf, withAnswer, BlockCounted};
 ghost use Rattle.block_stage.specs.BlockStage.{BlockAt, BlockReady, MemoryKept};
 use crate::listed::cover_listed;
 use crate::listed::edges_at;
@@ -16,6 +16,7 @@ use crate::spans::renew_sections;
 use block_marks::inner::Batch;
 use coverage::TestAnswer;
 use coverage::edges::BothAnswer;
+use coverage::inner::StageAnswer;
 use coverage::inner::count_answer;
 use coverage::inner::write_both;
 use model::refusal_number;
@@ -47,6 +48,21 @@ fn keeps_both(answer: BothAnswer) -> bool
     }
 }
 
+// What a stage that keeps the store's runs answers: nothing is new.
+fn count_kept(before: StoreTotals, answer: StageAnswer) -> TestAnswer
+    ensures { λ r. ⌜ r ≡ countsKept before answer ⌝ }
+{
+    match answer {
+        StageAnswer::Refused(why) => TestAnswer::Refused(why),
+        StageAnswer::Taken => TestAnswer::Taken {
+            new_rising: 0,
+            new_falling: 0,
+            held_rising: before.rising,
+            held_falling: before.falling,
+        },
+    }
+}
+
 // Writes the runs made of both edges, and counts the faults that are new and those then held. A store that keeps its runs is not counted again.
 fn count_both(
     before: StoreTotals,
@@ -60,12 +76,7 @@ fn count_both(
 {
     let stage = write_both(answer, store, work);
     if keeps_both(answer) {
-        return TestAnswer::Taken {
-            new_rising: 0,
-            new_falling: 0,
-            held_rising: before.rising,
-            held_falling: before.falling,
-        };
+        return count_kept(before, stage);
     }
     count_answer(before, stage, store)
 }

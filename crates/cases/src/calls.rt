@@ -143,12 +143,9 @@ pub(crate) fn fault(number: u64) -> Answer {
     }
 }
 
-// The writer: the length of the record. A number of tests has 32 bits.
-pub(crate) fn write(netlist: &[u8], store: &[u64], tests: u64, report: &mut [u8]) -> Answer {
-    if 4294967295 < tests {
-        return unknown();
-    }
-    let answer = report::write_report(netlist, store, (tests % 4294967296) as u32, report);
+// The writer: the length of the record.
+pub(crate) fn write(netlist: &[u8], store: &[u64], report: &mut [u8]) -> Answer {
+    let answer = report::write_report(netlist, store, report);
     match answer {
         WriteAnswer::Written(length) => one(length as u64),
         WriteAnswer::Refused(why) => refused_by(why),

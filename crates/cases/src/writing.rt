@@ -60,28 +60,22 @@ fn ask_path(numbers: Numbers, netlist: &[u8], length: usize, cells: &mut [u64]) 
 }
 
 // The writer, from cells and back.
-fn write_in(
-    tests: u64,
-    netlist: &[u8],
-    store: &[u64],
-    report: &mut [u8],
-    cells: &mut [u64],
-) -> Answer {
+fn write_in(netlist: &[u8], store: &[u64], report: &mut [u8], cells: &mut [u64]) -> Answer {
     let length = cells.len();
     if report.len() < length {
         return unknown();
     }
     load_bytes(cells, report);
-    let answer = calls::write(netlist, store, tests, &mut report[0..length]);
+    let answer = calls::write(netlist, store, &mut report[0..length]);
     save_bytes(report, cells);
     answer
 }
 
-// `write`, with a number of tests: the report goes into cells.
+// `write`: the report goes into cells.
 fn ask_write(numbers: Numbers, netlist: &[u8], store: &[u64], cells: &mut [u64]) -> Answer {
     let mut report = io::large_buffer();
-    if are(numbers, 1) {
-        return write_in(number_at(numbers, 0), netlist, store, &mut report, cells);
+    if are(numbers, 0) {
+        return write_in(netlist, store, &mut report, cells);
     }
     unknown()
 }

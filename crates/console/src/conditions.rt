@@ -29,6 +29,7 @@ pub fn print_condition(fd: i32, why: Refusal) {
         Refusal::RunCount
         | Refusal::RunRange
         | Refusal::WordPastRuns
+        | Refusal::TestsFull
         | Refusal::WorkingRuns
         | Refusal::StoreRuns => print_store_and_work(fd, why),
         Refusal::NoSuchNumber | Refusal::NotAPath => print_questions(fd, why),
@@ -42,7 +43,7 @@ pub fn print_condition(fd: i32, why: Refusal) {
 // The conditions of lent memory.
 fn print_memory(fd: i32, why: Refusal) {
     match why {
-        Refusal::StoreLength => print(fd, b"The store has not 4,098 words.\n"),
+        Refusal::StoreLength => print(fd, b"The store has not 4,099 words.\n"),
         Refusal::WorkLength => print(fd, b"The working memory has under 8,192 words.\n"),
         Refusal::PathBufferLength => print(fd, b"The path buffer has under 513 words.\n"),
         Refusal::ReportBufferLength => print(fd, b"The report buffer has under 32,802 bytes.\n"),
@@ -115,11 +116,21 @@ fn print_tests(fd: i32, why: Refusal) {
 // The conditions of the store and the work.
 fn print_store_and_work(fd: i32, why: Refusal) {
     match why {
-        Refusal::RunCount => print(fd, b"The store states over 1,024 runs of an edge.\n"),
-        Refusal::RunRange => print(fd, b"The store has a run out of range or out of order.\n"),
+        Refusal::RunCount => print(
+            fd,
+            b"The store states over 1,024 runs of an edge or over 4,294,967,295 tests.\n",
+        ),
+        Refusal::RunRange => print(
+            fd,
+            b"The store has a run out of range or out of order, or runs and no tests.\n",
+        ),
         Refusal::WordPastRuns => print(
             fd,
             b"The store has a word past its last run that is not zero.\n",
+        ),
+        Refusal::TestsFull => print(
+            fd,
+            b"The store has 4,294,967,295 tests and counts no more.\n",
         ),
         Refusal::WorkingRuns => print(fd, b"A test makes over 1,024 working runs of an edge.\n"),
         Refusal::StoreRuns => print(

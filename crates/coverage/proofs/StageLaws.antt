@@ -1,14 +1,14 @@
 -- One record: the rules of the places Test and Store before the place Work.
 -- Assumes nothing.
 use mathlib.Core.Path.{_≡_, refl, ap, sym, _∙_}
-use mathlib.Core.List.{List, append-assoc}
+use mathlib.Core.List.{List, _∷_, append-assoc}
 use Prim.Native.Nat.{ℕ}
 use Rattle.model.specs.Base.{Answer, refused, value, _>>_, Rule, checks}
 use Rattle.model.specs.Netlist.{Netlist, pathTotal}
 use Rattle.model.specs.Detect.{Class}
 use Rattle.model.specs.Read.{testRules, testOf}
-use Rattle.model.specs.Store.{storeRules, runsByEdge}
-use Rattle.model.specs.Calls.{workRules, Tested, tested, testStage}
+use Rattle.model.specs.Store.{storeRules, testsTaken, runsByEdge}
+use Rattle.model.specs.Calls.{testsRule, workRules, Tested, tested, testStage}
 use Rattle.model.proofs.AnswerLaws.{checks→, →checks, pass-first, pass-second, then-second, checks-both}
 use Rattle.coverage.specs.Stage.{placeRules, workStage}
 
@@ -20,11 +20,11 @@ module _ (N : Netlist) (c : Class) (rec ws : List ℕ) where
   stage-after : testStage N c rec ws ≡ (checks (placeRules N rec ws) >> workStage N (testOf N c rec) ws)
   unfolding testStage workStage
   stage-after =
-      ap (λ (rs : List Rule). checks rs >> value (tested N (runsByEdge ws) (testOf N c rec)))
-      (sym (append-assoc (testRules N rec) (storeRules (pathTotal N) ws) (workRules N (runsByEdge ws) (testOf N c rec))))
-      ∙ ap (λ (x : Answer (Unit {0})). x >> value (tested N (runsByEdge ws) (testOf N c rec)))
-      (checks-both (placeRules N rec ws) (workRules N (runsByEdge ws) (testOf N c rec)))
-      ∙ then-again (checks (placeRules N rec ws)) (checks (workRules N (runsByEdge ws) (testOf N c rec))) (tested N (runsByEdge ws) (testOf N c rec))
+      let works : List Rule = testsRule ws ∷ workRules N (runsByEdge ws) (testOf N c rec) in
+      let made : Tested = tested N (testsTaken ws) (runsByEdge ws) (testOf N c rec) in
+      ap (λ (rs : List Rule). checks rs >> value made) (sym (append-assoc (testRules N rec) (storeRules (pathTotal N) ws) works))
+      ∙ ap (λ (x : Answer (Unit {0})). x >> value made) (checks-both (placeRules N rec ws) works)
+      ∙ then-again (checks (placeRules N rec ws)) (checks works) made
 
   pub stage-refused : (n : ℕ) → refused n ≡ checks (placeRules N rec ws) → testStage N c rec ws ≡ refused n
   stage-refused n e = stage-after ∙ rw (← e) refl

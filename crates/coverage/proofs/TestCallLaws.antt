@@ -2,7 +2,7 @@
 -- Assumes nothing.
 use mathlib.Core.Path.{_≡_, refl, ap, ap₂, sym, _∙_, subst}
 use mathlib.Core.List.{List}
-use Prim.Native.Nat.{ℕ, _+_, _-_, _≤_, _^_}
+use Prim.Native.Nat.{ℕ, suc, _+_, _-_, _≤_, _^_}
 use native.Mathlib.Omega.{arith}
 use lib.ListN.{length}
 use Rattle.model.specs.Base.{Answer, refused, value, passes, after}
@@ -10,7 +10,7 @@ use Rattle.model.specs.Path.{Edge, rising, falling}
 use Rattle.model.specs.Detect.{Test, detectsNumber}
 use Rattle.model.specs.Runs.{Run, Separated, inRuns, size, howMany}
 use Rattle.model.specs.Netlist.{Netlist, pathTotal}
-use Rattle.model.specs.Store.{ByEdge, byEdge, ofEdge, maxRuns, storeRuns, runsByEdge}
+use Rattle.model.specs.Store.{ByEdge, byEdge, ofEdge, maxRuns, testsTaken, storeRuns, runsByEdge}
 use Rattle.model.specs.Calls.{Tested, storeLeft, tested, heldThen, newThen, runsThen}
 use Rattle.model.specs.Refusals.{refusalNumber}
 use Rattle.model.specs.declared.Refusal.{Refusal}
@@ -91,7 +91,7 @@ module _ {N : Netlist} {t : Test} {x : Answer Tested} {ws ws′ work work′ : L
     unfolding tested
     size-after e =
         ap (λ (y : List ℕ). size (storeRuns y e)) (left-is ∙ ap storeLeft (sym (work-result N t ws work-is)))
-        ∙ ap size (runs-store (byEdge (runsThen N (runsByEdge ws) t)) few-then e ∙ ofEdge-byEdge (runsThen N (runsByEdge ws) t) e)
+        ∙ ap size (runs-store (suc (testsTaken ws)) (byEdge (runsThen N (runsByEdge ws) t)) few-then e ∙ ofEdge-byEdge (runsThen N (runsByEdge ws) t) e)
 
     module _ {after : StoreTotals} (ea : totalsIn after ≡ totalsBoth ws′) where
       fresh : Edge → ℕ
@@ -122,7 +122,7 @@ module _ {N : Netlist} {t : Test} {x : Answer Tested} {ws ws′ work work′ : L
       pub count-taken : TestedIs x ws ws′ work work′ (Taken (after .rising - before .rising) (after .falling - before .falling) (after .rising) (after .falling))
       unfolding returnedBy tested fresh
       count-taken =
-          let is : x ≡ value (tested N (runsByEdge ws) t) = took .is ∙ ap (λ (d : Tested). value d) (sym (work-result N t ws work-is)) in
+          let is : x ≡ value (tested N (testsTaken ws) (runsByEdge ws) t) = took .is ∙ ap (λ (d : Tested). value d) (sym (work-result N t ws work-is)) in
           record {
             answer =
                 ap testedOf

@@ -1,16 +1,17 @@
--- The place Work for one record, after the rules of the places Test and Store: what is handed over, what is made, answered and left.
+-- The place Work for one record, with 86 before it, after the rules of the places Test and Store: what is handed over, what is made, answered and left.
 -- Assumes nothing.
 use mathlib.Core.Path.{_≡_}
-use mathlib.Core.List.{List, _++_}
+use mathlib.Core.List.{List, [], _∷_, _++_}
 use Prim.Native.Nat.{ℕ, _≤_}
 use lib.ListN.{length, drop}
 use Rattle.model.specs.Base.{Answer, refused, value, _>>_, Rule, checks, passes, after}
 use Rattle.model.specs.Netlist.{Netlist, pathTotal}
 use Rattle.model.specs.Detect.{Test}
 use Rattle.model.specs.Read.{testRules}
-use Rattle.model.specs.Store.{storeWords, storeRules, runsByEdge}
-use Rattle.model.specs.Calls.{workWords, workRules, Tested, storeLeft, tested}
+use Rattle.model.specs.Store.{storeWords, storeRules, testsTaken, runsByEdge}
+use Rattle.model.specs.Calls.{workWords, testsRule, workRules, Tested, storeLeft, tested}
 use Rattle.model.specs.Refusals.{refusalNumber}
+use Rattle.model.specs.declared.Refusal.{Refusal}
 use Rattle.netlist.specs.Tables.{CircuitTables}
 use Rattle.netlist.specs.declared.inner.Shape.{Shape}
 use Rattle.coverage.specs.Both.{CoversBoth}
@@ -51,13 +52,17 @@ abbrev pub stageOf : StageAnswer → Answer (Unit {0})
 stageOf stage.Taken = value tt
 stageOf (stage.Refused why) = refused (refusalNumber why)
 
+-- 86, or another refusal after it
+abbrev pub refusedAfter : List ℕ → Refusal → Answer (Unit {0})
+refusedAfter ws why = checks (testsRule ws ∷ []) >> refused (refusalNumber why)
+
 -- the store that a stage leaves
 unfoldable pub storeAfter : Answer Tested → List ℕ → List ℕ
 storeAfter x ws = after x ws storeLeft
 
--- the place Work alone, for a test whose record and store no rule refuses
+-- 86 and the place Work alone, for a test whose record and store no rule of the places Test and Store refuses
 unfoldable pub workStage : Netlist → Test → List ℕ → Answer Tested
-workStage N t ws = checks (workRules N (runsByEdge ws) t) >> value (tested N (runsByEdge ws) t)
+workStage N t ws = checks (testsRule ws ∷ workRules N (runsByEdge ws) t) >> value (tested N (testsTaken ws) (runsByEdge ws) t)
 
 -- whether it is taken and the store are those of the stage `x`; working memory past its first 8,192 words is as found
 pub record StageIs (x : Answer Tested) (ws ws′ work work′ : List ℕ) (r : StageAnswer) : Type 0 where

@@ -1,11 +1,14 @@
-// The place Work once the runs of both edges are made, and the faults that it finds new. Each caller proves what a function requires.
+// The place Work once the runs of both edges are made, with 86 before it, and the faults that it finds new. Each caller proves what a function requires.
+ghost use mathlib.Core.Path.{_≡_};
 ghost use mathlib.Core.List.{List};
 ghost use Prim.Native.Nat.{ℕ};
+ghost use lib.ListN.{length};
 ghost use Rattle.model.specs.Base.{Answer};
 ghost use Rattle.model.specs.Netlist.{Netlist};
 ghost use Rattle.model.specs.Detect.{Test};
+ghost use Rattle.model.specs.Store.{storeWords};
 ghost use Rattle.model.specs.Calls.{Tested};
-ghost use Rattle.coverage.specs.Stage.{BothMade, SomeBothMade, workStage, StageIs};
+ghost use Rattle.coverage.specs.Stage.{BothMade, SomeBothMade, stageOf, refusedAfter, workStage, StageIs};
 ghost use Rattle.coverage.specs.TestCall.{TestedIs, Counting, SomeCounting};
 use crate::TestAnswer;
 use crate::edges::BothAnswer;
@@ -14,7 +17,9 @@ use crate::edges::RISING_UNION;
 use faults::Edge;
 use model::Refusal;
 use store_words::inner::StoreTotals;
+use store_words::inner::parts::tests_left;
 use store_words::inner::totals_of;
+use store_writing::inner::count_test;
 use store_writing::inner::write_runs;
 
 // What the stage answers: that the store now holds what the test detects too, or why it was refused.
@@ -23,7 +28,19 @@ pub enum StageAnswer {
     Refused(Refusal),
 }
 
-// Writes the runs made of both edges where both fit, or says why the store may not hold them.
+// Why a test is refused whose runs do not fit: that no more tests are counted comes first.
+fn refuse(why: Refusal, store: &[u64]) -> StageAnswer
+    requires { ⌜ length (now store) ≡ storeWords ⌝ }
+    ensures { λ r. ⌜ stageOf r ≡ refusedAfter (now (store .entry)) why ⌝ }
+{
+    if tests_left(store) {
+        return StageAnswer::Refused(why);
+    }
+    StageAnswer::Refused(Refusal::TestsFull)
+}
+
+// Writes the runs made of both edges where one more test can be counted and both fit, and counts it; or says why the store may not hold them. The cases of the
+// answer come first and the tests within each, so that the compiled code goes from the edges' answers straight to the case and builds no joined answer.
 pub fn write_both(answer: BothAnswer, store: &mut [u64], work: &[u64]) -> StageAnswer
     requires { ⌜ SomeBothMade answer (now store) (now work) ⌝ }
     ensures { λ r. ⌜ ((N : Netlist) (t : Test) (found : List ℕ) → BothMade N t (now (store .entry)) found (now (work .entry)) answer
@@ -31,12 +48,16 @@ pub fn write_both(answer: BothAnswer, store: &mut [u64], work: &[u64]) -> StageA
 {
     match answer {
         BothAnswer::Fits(rising, falling) => {
+            if !tests_left(store) {
+                return StageAnswer::Refused(Refusal::TestsFull);
+            }
             write_runs(work, RISING_UNION, rising, store, Edge::Rising);
             write_runs(work, FALLING_UNION, falling, store, Edge::Falling);
+            count_test(store);
             StageAnswer::Taken
         }
-        BothAnswer::WorkOver => StageAnswer::Refused(Refusal::WorkingRuns),
-        BothAnswer::StoreOver => StageAnswer::Refused(Refusal::StoreRuns),
+        BothAnswer::WorkOver => refuse(Refusal::WorkingRuns, store),
+        BothAnswer::StoreOver => refuse(Refusal::StoreRuns, store),
     }
 }
 

@@ -106,19 +106,18 @@ pub extern "C" fn genduwal_number_to_path(netlist: &[u8], number: u64, path: &mu
     answers::path_code(written)
 }
 
-// Writes the report of a store and a number of tests: the length of its record.
+// Writes the report of a store, with the number of tests that it counts: the length of its record.
 #[no_mangle]
 pub extern "C" fn genduwal_write_report(
     netlist: &[u8],
     store: &[u64],
-    tests: u32,
     report: &mut [u8],
     answer: &mut [u64; 1],
 ) -> u32
-    ensures { λ r. ⌜ Answered (writerAnswer (now (netlist .entry)) (now (store .entry)) tests (now (report .entry))) numberWord r (now (answer .entry)) (now (answer .exit)) ⌝ }
-    ensures { λ _. ⌜ now (report .exit) ≡ writerBuffer (now (netlist .entry)) (now (store .entry)) tests (now (report .entry)) ⌝ }
+    ensures { λ r. ⌜ Answered (writerAnswer (now (netlist .entry)) (now (store .entry)) (now (report .entry))) numberWord r (now (answer .entry)) (now (answer .exit)) ⌝ }
+    ensures { λ _. ⌜ now (report .exit) ≡ writerBuffer (now (netlist .entry)) (now (store .entry)) (now (report .entry)) ⌝ }
 {
-    let written = report::write_report(netlist, store, tests, report);
+    let written = report::write_report(netlist, store, report);
     answers::report_code(written, answer)
 }
 

@@ -11,7 +11,7 @@ use lib.ListN.{length, replicate}
 use Rattle.model.specs.Base.{Answer, refused, value, _>>=_, checks, passes}
 use Rattle.model.specs.Read.{vectorBytes}
 use Rattle.model.specs.Refusals.{refusalNumber}
-use Rattle.model.specs.Store.{runsByEdge, storeRules}
+use Rattle.model.specs.Store.{maxTests, runsByEdge, storeRules}
 use Rattle.model.specs.Report.{reportRecord, reportRules}
 use Rattle.model.specs.declared.Refusal.{Refusal}
 use Rattle.model.specs.declared.Refusal.the-variants as why
@@ -26,14 +26,14 @@ use Rattle.report.specs.declared.inner.Comparison.the-variants as comparison
 use Rattle.file_block.specs.RecordsTaken.{leftStore}
 use Rattle.file_block.proofs.MemoryLaws.{emptied}
 use Rattle.file_judging.specs.declared.AuditAnswer.the-variants as audit
-use Rattle.file_judging.specs.FileJudging.{mostRecords, wholeLength, Judged, endBy, storeChecked, soFar, endLegal}
+use Rattle.file_judging.specs.FileJudging.{wholeLength, Judged, endBy, storeChecked, soFar, endLegal}
 
 -- The file's length: a cut record decides, or the number of records does
 module _ (total each : ℕ) where
   pub length-cut : (total % each ≡ 0 → ⊥) → eqb (total % each) 0 ≡ wholeLength each total
   length-cut d = rw (ne-eqb (total % each) 0 d) refl
 
-  pub length-whole : total % each ≡ 0 → leb (total / each) mostRecords ≡ wholeLength each total
+  pub length-whole : total % each ≡ 0 → leb (total / each) maxTests ≡ wholeLength each total
   length-whole e = rw (eq-eqb (total % each) 0 e) refl
 
 pub ruleset length-cases = (length-cut, length-whole, needs)

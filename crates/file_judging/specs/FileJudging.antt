@@ -7,7 +7,7 @@ use Prim.Native.Nat.{ℕ, _/_, _%_}
 use lib.Dec.{leb, eqb}
 use Rattle.model.specs.Base.{Answer, refused, value, _>>=_, _>>_, checks, passes}
 use Rattle.model.specs.Refusals.{refusalNumber}
-use Rattle.model.specs.Store.{runsByEdge, storeRules}
+use Rattle.model.specs.Store.{maxTests, runsByEdge, storeRules}
 use Rattle.model.specs.Report.{reportRecord, reportRules}
 use Rattle.file_block.specs.RecordsTaken.{leftStore}
 use Rattle.file_judging.specs.declared.AuditAnswer.{AuditAnswer}
@@ -20,13 +20,9 @@ abbrev pub auditedOf : AuditAnswer → Answer (Unit {0})
 auditedOf audit.Accepted = value tt
 auditedOf (audit.Refused w) = refused (refusalNumber w)
 
--- the most records that a test file may have: a report's field holds no greater number
-abbrev pub mostRecords : ℕ
-mostRecords = 4294967295
-
--- a file of `total` bytes is a whole number of records, of `each` bytes, and not over `mostRecords` of them
+-- a file of `total` bytes is a whole number of records, of `each` bytes, and not over `maxTests` of them
 abbrev pub wholeLength : ℕ → ℕ → Bool
-wholeLength each total = eqb (total % each) 0 && leb (total / each) mostRecords
+wholeLength each total = eqb (total % each) 0 && leb (total / each) maxTests
 
 -- The place Report, with the store that the test calls leave: the number of a refusal, or that store
 abbrev pub reported : ℕ → ℕ → List ℕ → List ℕ → Answer (List ℕ)

@@ -9,6 +9,7 @@ ghost use Rattle.store_words.specs.Sound.{SoundWords};
 ghost use Rattle.file_judging.specs.FileJudging.{wholeLength, Judged, endedOf, endLegal};
 use crate::AuditAnswer;
 use crate::EndAnswer;
+use model::MAX_TESTS;
 use model::Refusal;
 use model::refusal_number;
 use report::inner::Comparison;
@@ -18,15 +19,12 @@ use store_words::inner::check_words;
 use store_writing::inner::clear;
 use test_records::inner::record_length;
 
-// The most records of a test file.
-pub const MAX_RECORDS: u64 = 4294967295;
-
 // Whether so many bytes are a whole number of records, of `each` bytes, and not too many of them.
 pub fn whole_length(bytes: u64, each: u64) -> bool
     requires { ⌜ 0 < each ⌝ }
     ensures { λ r. ⌜ r ≡ wholeLength each bytes ⌝ }
 {
-    bytes % each == 0 && bytes / each <= MAX_RECORDS
+    bytes % each == 0 && bytes / each <= MAX_TESTS
 }
 
 // The place Report: a report against the one that the writer gives for a sound store and so many tests. A refused one leaves the store empty.

@@ -9,19 +9,18 @@ use Rattle.model.specs.Base.{Answer, value, _>>_, checks}
 use Rattle.model.specs.Netlist.{Netlist}
 use Rattle.model.specs.Detect.{Class}
 use Rattle.model.specs.Read.{readNetlist, classOf}
-use Rattle.model.specs.Store.{emptyStore}
+use Rattle.model.specs.Store.{emptyStore, maxTests}
 use Rattle.model.specs.Calls.{workWords}
 use Rattle.model.specs.Report.{fileRecords, wholeRecords, testAll}
 use Rattle.netlist.specs.declared.inner.Loaded.{Loaded}
 use Rattle.file_block.specs.RecordsTaken.{fileOf, leftStore, takenOf}
 use Rattle.file_records.specs.FileRecords.{Ready}
-use Rattle.file_judging.specs.FileJudging.{mostRecords}
 use Rattle.file_reading.specs.Space.{InSpace}
 use Rattle.file_walk.specs.declared.inner.Walk.{Walk}
 
 -- a file of more bytes has too many records: the longest record has 18
 abbrev pub mostBytes : ℕ
-mostBytes = 18 * mostRecords
+mostBytes = 18 * maxTests
 
 -- the test calls with the records of a file, all in one class, from an empty store
 unfoldable pub recordsTaken : Netlist → Class → List ℕ → Answer (List ℕ)

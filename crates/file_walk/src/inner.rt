@@ -9,11 +9,11 @@ use command::file_size;
 use command::show_progress;
 use coverage::inner::StageAnswer;
 use file_block::inner::TakenRecords;
-use file_judging::inner::MAX_RECORDS;
 use file_judging::inner::whole_length;
 use file_reading::inner::full_piece;
 use file_reading::inner::read_part;
 use file_reading::inner::whole_part;
+use model::MAX_TESTS;
 use model::Refusal;
 use netlist::inner::Loaded;
 use piece_steps::inner::apply_piece;
@@ -24,7 +24,7 @@ use test_records::inner::record_length;
 const RECORD_BYTES: u64 = 18;
 
 // A file of more bytes has too many records.
-const MAX_BYTES: u64 = RECORD_BYTES * MAX_RECORDS;
+const MAX_BYTES: u64 = RECORD_BYTES * MAX_TESTS;
 
 // A test file as it was read: its bytes, what its records answer, and whether it was read whole.
 pub struct Walk {

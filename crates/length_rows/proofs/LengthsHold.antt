@@ -115,7 +115,7 @@ rows-true netlist ws r q =
     let sound : AllPass rules = pass-first rules (lengthRule N ∷ []) passed in
     let short : T (lengthRule N .1) = pass-second rules (lengthRule N ∷ []) passed .0 in
     let apart : (d : Edge) → Separated (pathTotal N) 1 (storeRuns ws d) =
-    λ d. separated→ (pathTotal N) 1 (storeRuns ws d) (at-edge (λ g. separatedRuns (pathTotal N) 1 (storeRuns ws g)) (sound .1 .0) d) in
+    λ d. separated→ (pathTotal N) 1 (storeRuns ws d) (at-edge (λ g. separatedRuns (pathTotal N) 1 (storeRuns ws g)) (sound .1 .1 .0) d) in
     let rows : (d : Edge) → ofEdge r d ≡ rowsOf N ws d = λ d. ap (λ (x : ByEdge Rows). ofEdge x d) (sym is) ∙ ofEdge-byEdge (rowsOf N ws) d in
     let a : lent ≡ value tt = →checks (storeRule ws ∷ []) (checks→ (storeRule ws ∷ []) (then-first lent (readNetlist netlist) (s .first))) in
     let b : checks rules ≡ value tt = →checks rules sound in

@@ -30,8 +30,9 @@ upTo ns = ns ++ replicate (lengths - length ns) 0
 unfoldable pub run : ℕ → ℕ → Run
 run a b = record { low = a; high = b }
 
+-- a store after one test, with these runs
 unfoldable pub holding : List Run → List Run → List ℕ
-holding rs fs = storeOf (record { onRising = rs; onFalling = fs })
+holding rs fs = storeOf 1 (record { onRising = rs; onFalling = fs })
 
 -- one input, `n` inverters one after the other, the output at `net`
 unfoldable pub inverters : ℕ → ℕ → List ℕ

@@ -1,11 +1,13 @@
 -- Demand 3 after every list of test calls: the store holds exactly the detected faults, the totals and each call's numbers are true.
--- The idea: one fact, `Holds`, that the store's words are those of the runs of the detected numbers, is kept by each call, taken or refused.
+-- The idea: one fact, `Holds`, that the store's words are those of the number of the taken tests and of the runs of the detected numbers, is
+-- kept by each call, taken or refused.
 -- Assumes nothing.
 use mathlib.Core.Path.{_≡_, refl, ap, sym, _∙_, subst}
 use mathlib.Core.Logic.{_↔_}
 use mathlib.Core.Bool.{not}
 use mathlib.Core.List.{List, [], _∷_}
-use Prim.Native.Nat.{ℕ, _≤_}
+use Prim.Native.Nat.{ℕ, suc, _≤_}
+use native.Mathlib.Omega.{arith}
 use lib.Dec.{T, leb→le, le→leb}
 use lib.ListN.{length}
 use Rattle.model.specs.Base.{Answer, refused, value, checks, after}
@@ -14,7 +16,7 @@ use Rattle.model.specs.Path.{Edge, Fault, valid, numberOf, pathOf}
 use Rattle.model.specs.Detect.{Class, Test}
 use Rattle.model.specs.Runs.{Run, runsOf, inRuns, size}
 use Rattle.model.specs.Read.{readNetlist, classOf, testRules, testOf}
-use Rattle.model.specs.Store.{byEdge, maxRuns, storeRuns, runsByEdge, storeRules}
+use Rattle.model.specs.Store.{byEdge, maxRuns, testsTaken, storeRuns, runsByEdge, storeRules}
 use Rattle.model.specs.Calls.{Tested, storeLeft, tested, FaultCounts, testStage, testCall, testAnswer, testStore, beforeTest, totalsCall, storeRule, workRule, workWords}
 use Rattle.model.specs.Demand3 as demand
 use Rattle.model.specs.Demand3.{CountOf, Detected, RunsOfDetected, detectedBy, Call, State, start, testIn, next, afterCalls, knownClass, NoTestRefusal, NoRefusal, Taken, Returned, StoreTrue}
@@ -26,7 +28,8 @@ use Rattle.model.proofs.ReadLaws.{legal}
 use Rattle.model.proofs.NumberLaws.{path-of-number}
 use Rattle.model.proofs.FaultLaws.{detectedAt, countOf-detected, countOf-new, runs-detected}
 use Rattle.model.proofs.HoldingLaws.{Holding, holding-empty, holding-runs, holding-length, holding-passes, holding-size, holding-next}
-use Rattle.model.proofs.HoldingLaws.{ofEdge-byEdge, stage-passes, stage-taken, stage-rules, test-part, work-few, work-room, returned-new, returned-held}
+use Rattle.model.proofs.HoldingLaws.{ofEdge-byEdge, stage-passes, stage-taken, stage-rules, test-part, tests-few, work-few, work-room, stage-tests, returned-new, returned-held}
+use Rattle.model.proofs.StoreLaws.{tests-store}
 
 -- The runs of the detected numbers are one list
 pub one-list : (N : Netlist) (ts : List Test) (e : Edge) (rs qs : List Run) → RunsOfDetected N ts e rs → RunsOfDetected N ts e qs → rs ≡ qs
@@ -49,13 +52,17 @@ holds-fault N w ts f rs h v = (
 pub as-countOf : {P : Fault → Type 0} {m n : ℕ} → m ≡ n → CountOf P m → CountOf P n
 as-countOf {P} q x = subst (λ k. CountOf P k) q x
 
--- A store that holds exactly what the tests `ts` detect
-module _ (N : Netlist) (w : WellFormed N) (ts : List Test) (ws : List ℕ) (x : Holding N ws (detectedAt N ts)) where
+-- A store that counts the tests `ts` and holds exactly what they detect
+pub record HoldsTests (N : Netlist) (ts : List Test) (ws : List ℕ) : Type 0 where
+  pub holding : Holding N ws (detectedAt N ts)
+  pub counted : testsTaken ws ≡ length ts
+
+module _ (N : Netlist) (w : WellFormed N) (ts : List Test) (ws : List ℕ) (x : HoldsTests N ts ws) where
   pub runs-true : (d : Edge) → RunsOfDetected N ts d (storeRuns ws d)
-  runs-true d = subst (λ rs. RunsOfDetected N ts d rs) (sym (holding-runs N ws (detectedAt N ts) x d)) (runs-detected N w d ts)
+  runs-true d = subst (λ rs. RunsOfDetected N ts d rs) (sym (holding-runs N ws (detectedAt N ts) (x .holding) d)) (runs-detected N w d ts)
 
   pub sizes-true : (d : Edge) → CountOf (Detected N ts d) (size (storeRuns ws d))
-  sizes-true d = as-countOf (sym (holding-size N ws (detectedAt N ts) x d)) (countOf-detected N w d ts)
+  sizes-true d = as-countOf (sym (holding-size N ws (detectedAt N ts) (x .holding) d)) (countOf-detected N w d ts)
 
   module _ (c : Class) (rec : List ℕ) where
     -- on it the test stage gives a result exactly when no condition of Test and Work holds
@@ -64,40 +71,45 @@ module _ (N : Netlist) (w : WellFormed N) (ts : List Test) (ws : List ℕ) (x : 
     stage→ r q =
         let p = stage-passes N c rec ws r q in
         record {
-          legalRecord = →checks (testRules N rec) (test-part N c rec ws (detectedAt N ts) x p);
-          fewWorking = work-few N c rec ws (detectedAt N ts) x p;
+          legalRecord = →checks (testRules N rec) (test-part N c rec ws (detectedAt N ts) (x .holding) p);
+          fewTests = omega (arith, x .counted, tests-few N c rec ws (detectedAt N ts) (x .holding) p);
+          fewWorking = work-few N c rec ws (detectedAt N ts) (x .holding) p;
           runs = λ d. runsOf (detectedAt N (testOf N c rec ∷ ts) d) (pathTotal N);
           wouldHold = λ d. runs-detected N w d (testOf N c rec ∷ ts);
-          room = work-room N c rec ws (detectedAt N ts) x p;
+          room = work-room N c rec ws (detectedAt N ts) (x .holding) p;
         }
 
-    pub →stage : NoTestRefusal N ts c rec → testStage N c rec ws ≡ value (tested N (runsByEdge ws) (testOf N c rec))
+    pub →stage : NoTestRefusal N ts c rec → testStage N c rec ws ≡ value (tested N (testsTaken ws) (runsByEdge ws) (testOf N c rec))
     unfolding detectedAt
     →stage n =
         stage-taken N c rec ws
-        (stage-rules N c rec ws (detectedAt N ts) x
+        (stage-rules N c rec ws (detectedAt N ts) (x .holding)
         (checks→ (testRules N rec) (record { got = tt; is = n .legalRecord }))
+        (omega (arith, x .counted, n .fewTests))
         (n .fewWorking)
         (λ d. subst (λ rs. length rs ≤ maxRuns) (one-list N (testOf N c rec ∷ ts) d (n .runs d) _ (n .wouldHold d) (runs-detected N w d (testOf N c rec ∷ ts))) (n .room d)))
 
-    pub stage-holding : (r : Tested) → testStage N c rec ws ≡ value r → Holding N (storeLeft r) (detectedAt N (testOf N c rec ∷ ts))
+    pub stage-holding : (r : Tested) → testStage N c rec ws ≡ value r → HoldsTests N (testOf N c rec ∷ ts) (storeLeft r)
     unfolding detectedAt
-    stage-holding r q = holding-next N c rec ws (detectedAt N ts) x r q
+    stage-holding r q = record {
+      holding = holding-next N c rec ws (detectedAt N ts) (x .holding) r q;
+      counted = tests-store (r .tests) (r .runs) ∙ stage-tests N c rec ws (detectedAt N ts) (x .holding) r q ∙ ap suc (x .counted);
+    }
 
     pub stage-returned : (r : Tested) → testStage N c rec ws ≡ value r → (d : Edge) → Returned N ts (testOf N c rec) d (r .returned)
     unfolding detectedAt
     stage-returned r q d = record {
-      newTrue = as-countOf (sym (returned-new N c rec ws (detectedAt N ts) x r q d)) (countOf-new N w d (testOf N c rec) ts);
-      heldTrue = as-countOf (sym (returned-held N c rec ws (detectedAt N ts) x r q d)) (countOf-detected N w d (testOf N c rec ∷ ts));
+      newTrue = as-countOf (sym (returned-new N c rec ws (detectedAt N ts) (x .holding) r q d)) (countOf-new N w d (testOf N c rec) ts);
+      heldTrue = as-countOf (sym (returned-held N c rec ws (detectedAt N ts) (x .holding) r q d)) (countOf-detected N w d (testOf N c rec ∷ ts));
     }
 
--- the store's words are those of the runs of the detected numbers
+-- the store's words are those of the number of the taken tests and of the runs of the detected numbers
 abbrev pub Holds : Netlist → State → Type 0
-Holds N s = Holding N (s .store) (detectedAt N (s .taken))
+Holds N s = HoldsTests N (s .taken) (s .store)
 
 pub holds-start : (N : Netlist) → Holds N start
 unfolding detectedAt
-holds-start N = holding-empty N
+holds-start N = record { holding = holding-empty N; counted = refl }
 
 module _ (netlist : List ℕ) (N : Netlist) (e : readNetlist netlist ≡ value N) where
   -- a call is taken exactly when its memory is long enough, its class is known and the stage gives a result
@@ -120,7 +132,7 @@ module _ (netlist : List ℕ) (N : Netlist) (e : readNetlist netlist ≡ value N
     w = legal netlist N e
 
     call-lent : (c : Call) → workWords ≤ length (c .work) → AllPass (storeRule (s .store) ∷ workRule (c .work) ∷ [])
-    call-lent c l = (rw (holding-length N (s .store) (detectedAt N (s .taken)) x) tt, (le→leb workWords (length (c .work)) l, tt))
+    call-lent c l = (rw (holding-length N (s .store) (detectedAt N (s .taken)) (x .holding)) tt, (le→leb workWords (length (c .work)) l, tt))
 
     pub stage-call : (c : Call) → workWords ≤ length (c .work) → T (knownClass (c .class)) → (r : Tested)
         → testStage N (classOf (c .class)) (c .rec) (s .store) ≡ value r → testCall netlist (c .class) (c .rec) (s .store) (c .work) ≡ value r
@@ -136,7 +148,7 @@ module _ (netlist : List ℕ) (N : Netlist) (e : readNetlist netlist ≡ value N
 
     -- One more call keeps it
     step : (c : Call) (a : Answer Tested) → testCall netlist (c .class) (c .rec) (s .store) (c .work) ≡ a
-        → Holding N (after a (s .store) storeLeft) (detectedAt N (demand.withTest a (testIn N c) (s .taken)))
+        → HoldsTests N (demand.withTest a (testIn N c) (s .taken)) (after a (s .store) storeLeft)
     step c (refused n) q = x
     step c (value r) q = stage-holding N w (s .taken) (s .store) x (classOf (c .class)) (c .rec) r (call-stage (c .class) (c .rec) (s .store) (c .work) r q)
 
@@ -148,9 +160,9 @@ module _ (netlist : List ℕ) (N : Netlist) (e : readNetlist netlist ≡ value N
     unfolding totalsCall
     totals-gives =
         let l : checks (storeRule (s .store) ∷ []) ≡ value tt =
-        →checks (storeRule (s .store) ∷ []) (rw (holding-length N (s .store) (detectedAt N (s .taken)) x) tt, tt) in
+        →checks (storeRule (s .store) ∷ []) (rw (holding-length N (s .store) (detectedAt N (s .taken)) (x .holding)) tt, tt) in
         let p : checks (storeRules (pathTotal N) (s .store)) ≡ value tt =
-        →checks (storeRules (pathTotal N) (s .store)) (holding-passes N (s .store) (detectedAt N (s .taken)) x) in
+        →checks (storeRules (pathTotal N) (s .store)) (holding-passes N (s .store) (detectedAt N (s .taken)) (x .holding)) in
         rw (l, e) (rw p refl)
 
     taken→ : (c : Call) → Taken netlist s c → NoRefusal N (s .taken) c
@@ -164,7 +176,7 @@ module _ (netlist : List ℕ) (N : Netlist) (e : readNetlist netlist ≡ value N
 
     →taken : (c : Call) → NoRefusal N (s .taken) c → Taken netlist s c
     →taken c n = record {
-      tested = tested N (runsByEdge (s .store)) (testIn N c);
+      tested = tested N (testsTaken (s .store)) (runsByEdge (s .store)) (testIn N c);
       answer = stage-call c (n .memory) (n .known) _ (→stage N w (s .taken) (s .store) x (classOf (c .class)) (c .rec) (n .test));
     }
 
@@ -180,6 +192,7 @@ module _ (netlist : List ℕ) (N : Netlist) (e : readNetlist netlist ≡ value N
     store-true = record {
       holdsFault = λ f v. holds-fault N w (s .taken) f (storeRuns (s .store) (f .edge)) (runs-true N w (s .taken) (s .store) x (f .edge)) v;
       holdsNoOther = runs-true N w (s .taken) (s .store) x;
+      testsTrue = x .counted;
       sums = byEdge (λ d. size (storeRuns (s .store) d));
       totalsGives = totals-gives;
       totalsTrue = λ d. as-countOf (sym (ofEdge-byEdge (λ g. size (storeRuns (s .store) g)) d)) (sizes-true N w (s .taken) (s .store) x d);

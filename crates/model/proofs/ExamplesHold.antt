@@ -14,11 +14,11 @@ use Rattle.model.specs.Runs.{runsOf, runsFrom, addNumber, workingRuns, i
 use Rattle.model.specs.Read.{readNetlist, readGates, readOutputs, testOf}
 use Rattle.model.specs.Store.{storeRuns, storeOf}
 use Rattle.model.specs.Calls.{testCall, testStage, testStore, tested}
-use Rattle.model.specs.Report.{sameBytes, reportHead, reportRecord, testAll, auditCall}
+use Rattle.model.specs.Report.{sameBytes, reportHead, reportRecord, writerCall, testAll, auditCall}
 use Rattle.model.specs.Demand3.{afterCalls}
 use Rattle.model.specs.Encode.{headerBytes, netBytes, gateBytes, outputBytes, testBytes}
 use Rattle.model.specs.SinglePin.{readGatesBy, readNetlistBy}
-use Rattle.model.specs.Examples.{Row, row, further, requested, robustRows, unchangedRows, reply, faultIf, faultList, enoughWork, firstRuns, netCounts}
+use Rattle.model.specs.Examples.{Row, row, further, requested, robustRows, unchangedRows, countedRows, runsOfThree, reply, faultIf, faultList, enoughWork, firstRuns, netCounts}
 use Rattle.model.specs.Examples.{Q, detectsNone, detectsFalling, detectsRising, chain, spread, aRises, reportOfThree, outputsBytes, oneGate, besideOnePin, bRises, withOutputs, halves}
 use Rattle.model.specs.Examples.{twice, aFalls, hazard, riseAndFall, carry, carryTest, callIn, steadyOf, equalPair, tooManyRuns, twoBytes}
 use Rattle.model.proofs.ListLaws.{allOf-at}
@@ -54,6 +54,13 @@ unfolding robustRows twice aFalls hazard riseAndFall carry carryTest callIn stea
     testOf workingRuns inNetSet runsOf runsFrom addNumber testCall testStage tested storeRuns separatedRuns inRuns howMany howManyFrom
     auditCall testAll storeOf reportRecord reportHead size
 all-robust = tt
+
+all-counted : T (allOf right countedRows)
+unfolding countedRows runsOfThree right same row Q aRises spread chain detectsRising reportOfThree enoughWork firstRuns outputBytes headerBytes gateBytes
+    netBytes testBytes reply readNetlist readGates readOutputs counts outputCount pathTotal pathOf pathAt split detectsNumber detects allOpen hasEdge openPin evaluate
+    testOf workingRuns inNetSet runsOf runsFrom addNumber testCall testStage tested storeRuns separatedRuns inRuns howMany howManyFrom writerCall storeOf
+    reportRecord reportHead size
+all-counted = tt
 
 all-requested : T (allOf right requested)
 unfolding requested right same row Q oneGate besideOnePin bRises withOutputs halves chain detectsRising outputsBytes outputBytes headerBytes gateBytes netBytes testBytes reply faultList faultIf
@@ -92,3 +99,8 @@ robust-hold = rows-hold robustRows all-robust
 pub unchanged-hold : (i : ℕ) → i < length unchangedRows
     → reply (getD unchangedRows i noRow .netlist) (getD unchangedRows i noRow .question) ≡ getD unchangedRows i noRow .answer
 unchanged-hold = rows-hold unchangedRows all-unchanged
+
+-- The examples of the tests taken hold
+pub counted-hold : (i : ℕ) → i < length countedRows
+    → reply (getD countedRows i noRow .netlist) (getD countedRows i noRow .question) ≡ getD countedRows i noRow .answer
+counted-hold = rows-hold countedRows all-counted

@@ -1,17 +1,18 @@
 -- The test calls with the records of a file, as the audit makes them: the store that they leave, and when all are taken.
--- The idea: each record's test stage keeps the fact that the store holds exactly what the tests so far detect.
+-- The idea: each record's test stage keeps the fact that the store counts the tests so far and holds exactly what they detect.
 -- Assumes nothing.
-use mathlib.Core.Path.{_≡_, refl, sym, subst}
-use mathlib.Core.Bool.{false, _||_, or-false}
+use mathlib.Core.Path.{_≡_, refl, ap, sym, _∙_, subst}
+use mathlib.Core.Bool.{Bool, true, false, _||_, or-false}
 use mathlib.Core.List.{List, [], _∷_, _++_, map}
-use Prim.Native.Nat.{ℕ}
+use Prim.Native.Nat.{ℕ, suc, _+_}
+use native.Mathlib.Omega.{arith}
 use lib.Dec.{T, leb, eqb, leb→le, eqb→eq}
 use lib.ListN.{length, length-map}
 use Rattle.model.specs.Base.{value, allOf}
 use Rattle.model.specs.Netlist.{Netlist, pathTotal}
 use Rattle.model.specs.Detect.{Class, Test, detectsNumber}
 use Rattle.model.specs.Read.{readNetlist, classOf, testOf}
-use Rattle.model.specs.Store.{storeWords, emptyStore, storeRules}
+use Rattle.model.specs.Store.{storeWords, emptyStore, testsTaken, storeRules}
 use Rattle.model.specs.Calls.{Tested, storeLeft, testStage, testCall, testStore, workWords}
 use Rattle.model.specs.Report.{testAll, wholeRecords, fileRecords}
 use Rattle.model.specs.Demand3.{Call, State, start, next, afterCalls, knownClass, AllTaken, WhollyTaken, fileCall, FileCalls, leftBy, testsOf}
@@ -21,8 +22,9 @@ use Rattle.model.proofs.ListLaws.{allOf-head, allOf-tail}
 use Rattle.model.proofs.AnswerLaws.{AllPass, Passed, steps, value-inj}
 use Rattle.model.proofs.ReadLaws.{legal}
 use Rattle.model.proofs.FaultLaws.{detectedAt}
-use Rattle.model.proofs.HoldingLaws.{Sets, Holding, withTest, holding-empty, holding-same, holding-length, holding-passes, holding-next}
-use Rattle.model.proofs.DemandHolds.{Holds, holds-start, holds-next, stage→, →stage, stage-holding, stage-call}
+use Rattle.model.proofs.HoldingLaws.{Sets, Holding, withTest, holding-empty, holding-same, holding-length, holding-passes, holding-next, stage-tests}
+use Rattle.model.proofs.StoreLaws.{tests-store}
+use Rattle.model.proofs.DemandHolds.{HoldsTests, Holds, holds-start, holds-next, stage→, →stage, stage-holding, stage-call}
 
 -- The store that test calls leave holds also what their tests detect
 pub all-holding : (N : Netlist) (c : Class) (recs : List (List ℕ)) (ws : List ℕ) (D : Sets) (left : List ℕ) → Holding N ws D → testAll N c recs ws ≡ value left
@@ -36,23 +38,37 @@ all-holding N c (r ∷ rs) ws D left x q =
     (λ d k. or-around (detectsNumber N (testOf N c r) d k) (detectedAt N (map (testOf N c) rs) d k) (D d k))
     (all-holding N c rs (storeLeft (s .got)) (withTest N (testOf N c r) D) left (holding-next N c r ws D x (s .got) (s .first)) (s .second))
 
--- From an empty store they leave one that holds exactly that, has its length and passes the rules
+-- and counts them
+pub all-counted : (N : Netlist) (c : Class) (recs : List (List ℕ)) (ws : List ℕ) (D : Sets) (left : List ℕ) → Holding N ws D → testAll N c recs ws ≡ value left
+    → testsTaken left ≡ length recs + testsTaken ws
+unfolding testAll
+all-counted N c [] ws D left x q = ap testsTaken (sym (value-inj q)) ∙ omega arith
+all-counted N c (r ∷ rs) ws D left x q =
+    let s = steps (testStage N c r ws) (λ t. testAll N c rs (storeLeft t)) q in
+    let one : testsTaken (storeLeft (s .got)) ≡ suc (testsTaken ws) =
+    tests-store (s .got .tests) (s .got .runs) ∙ stage-tests N c r ws D x (s .got) (s .first) in
+    omega (arith, one, all-counted N c rs (storeLeft (s .got)) (withTest N (testOf N c r) D) left (holding-next N c r ws D x (s .got) (s .first)) (s .second))
+
+-- From an empty store they leave one that counts them, holds exactly that, has its length and passes the rules
 module _ (N : Netlist) (c : Class) (recs : List (List ℕ)) (left : List ℕ) (q : testAll N c recs emptyStore ≡ value left) where
-  pub left-holding : Holding N left (detectedAt N (map (testOf N c) recs))
+  pub left-holding : HoldsTests N (map (testOf N c) recs) left
   left-holding =
       let ts : List Test = map (testOf N c) recs in
-      holding-same N left (λ d k. detectedAt N ts d k || false) (detectedAt N ts) (λ d k. or-false (detectedAt N ts d k))
-      (all-holding N c recs emptyStore (λ d k. false) left (holding-empty N) q)
+      record {
+        holding = holding-same N left (λ d k. detectedAt N ts d k || false) (detectedAt N ts) (λ d k. or-false (detectedAt N ts d k))
+            (all-holding N c recs emptyStore (λ d k. false) left (holding-empty N) q);
+        counted = all-counted N c recs emptyStore (λ d k. false) left (holding-empty N) q ∙ omega (arith, length-map recs (testOf N c));
+      }
 
   pub left-length : length left ≡ storeWords
-  left-length = holding-length N left (detectedAt N (map (testOf N c) recs)) left-holding
+  left-length = holding-length N left (detectedAt N (map (testOf N c) recs)) (left-holding .holding)
 
   pub left-passes : AllPass (storeRules (pathTotal N) left)
-  left-passes = holding-passes N left (detectedAt N (map (testOf N c) recs)) left-holding
+  left-passes = holding-passes N left (detectedAt N (map (testOf N c) recs)) (left-holding .holding)
 
 -- All records are taken exactly when the test calls with them give a store
 module _ (N : Netlist) (w : WellFormed N) (c : Class) where
-  pub all→ : (recs : List (List ℕ)) (ts : List Test) (ws : List ℕ) → Holding N ws (detectedAt N ts) → (left : List ℕ) → testAll N c recs ws ≡ value left
+  pub all→ : (recs : List (List ℕ)) (ts : List Test) (ws : List ℕ) → HoldsTests N ts ws → (left : List ℕ) → testAll N c recs ws ≡ value left
       → AllTaken N c ts recs
   unfolding testAll
   all→ [] ts ws x left q = tt
@@ -60,7 +76,7 @@ module _ (N : Netlist) (w : WellFormed N) (c : Class) where
       let s = steps (testStage N c r ws) (λ t. testAll N c rs (storeLeft t)) q in
       (stage→ N w ts ws x c r (s .got) (s .first), all→ rs (testOf N c r ∷ ts) _ (stage-holding N w ts ws x c r (s .got) (s .first)) left (s .second))
 
-  pub →all : (recs : List (List ℕ)) (ts : List Test) (ws : List ℕ) → Holding N ws (detectedAt N ts) → AllTaken N c ts recs → Passed (testAll N c recs ws)
+  pub →all : (recs : List (List ℕ)) (ts : List Test) (ws : List ℕ) → HoldsTests N ts ws → AllTaken N c ts recs → Passed (testAll N c recs ws)
   unfolding testAll
   →all [] ts ws x k = record { got = ws; is = refl }
   →all (r ∷ rs) ts ws x k =

@@ -2,24 +2,25 @@
 -- Assumes nothing.
 use mathlib.Core.Path.{_≡_, refl, ap, sym, _∙_, subst}
 use mathlib.Core.Bool.{Bool, false, _&&_, _||_, not}
-use mathlib.Core.List.{List, _++_}
-use Prim.Native.Nat.{ℕ, _≤_}
+use mathlib.Core.List.{List, _∷_, _++_}
+use Prim.Native.Nat.{ℕ, suc, _≤_, _<_}
 use native.Mathlib.Omega.{arith}
-use lib.Dec.{T, leb, leb→le, le→leb}
+use lib.Dec.{T, leb, eqb, leb→le, le→leb, ltb→lt, lt→ltb, lit≤}
 use lib.ListN.{length}
-use Rattle.model.specs.Base.{value, checks}
+use Rattle.model.specs.Base.{value, Rule, checks}
 use Rattle.model.specs.Netlist.{Netlist, pathTotal}
 use Rattle.model.specs.Path.{Edge, rising, falling}
 use Rattle.model.specs.Detect.{Class, Test, detectsNumber}
 use Rattle.model.specs.Runs.{Run, runsOf, inRuns, howMany, workingRuns, size, separatedRuns}
 use Rattle.model.specs.Read.{testRules, testOf}
-use Rattle.model.specs.Store.{ByEdge, byEdge, ofEdge, storeWords, maxRuns, emptyStore, storeRuns, runsByEdge, storeOf, bothEdges, storeRules, runCount, firstWord}
-use Rattle.model.specs.Calls.{Tested, storeLeft, tested, testStage, stageRules, workRules, heldThen, newThen, runsThen}
-use Rattle.model.proofs.BoolLaws.{and-left, and-right}
+use Rattle.model.specs.Store.{ByEdge, byEdge, ofEdge, storeWords, maxRuns, maxTests, emptyStore, storeRuns, runsByEdge, storeOf, bothEdges, storeRules, runCount}
+use Rattle.model.specs.Store.{testsTaken, runsOfTests, firstWord}
+use Rattle.model.specs.Calls.{Tested, storeLeft, tested, testStage, stageRules, testsRule, workRules, heldThen, newThen, runsThen}
+use Rattle.model.proofs.BoolLaws.{both, and-left, and-right, or-left}
 use Rattle.model.proofs.AnswerLaws.{AllPass, checks→, →checks, then-first, then-second, value-inj, pass-first, pass-second, pass-both}
 use Rattle.model.proofs.RunLaws.{runs-separated, runs-test, runs-same, runs-none, separated→, →separated, runs-of-runs}
 use Rattle.model.proofs.RunSizeLaws.{runs-size, howMany-same}
-use Rattle.model.proofs.StoreLaws.{runs-store, length-store, length-runsAt, store-passes, store-runs, empty-store, at-both}
+use Rattle.model.proofs.StoreLaws.{runs-store, tests-store, length-store, length-runsAt, store-passes, store-runs, empty-store, at-both}
 
 -- for each edge the numbers of a set
 abbrev pub Sets : Type 0
@@ -29,8 +30,10 @@ abbrev pub runsFor : Netlist → Sets → ByEdge (List Run)
 runsFor N D = byEdge (λ e. runsOf (D e) (pathTotal N))
 
 pub record Holding (N : Netlist) (ws : List ℕ) (D : Sets) : Type 0 where
-  pub is : ws ≡ storeOf (runsFor N D)
+  pub is : ws ≡ storeOf (testsTaken ws) (runsFor N D)
   pub fits : (e : Edge) → length (runsOf (D e) (pathTotal N)) ≤ maxRuns
+  pub fewTests : testsTaken ws ≤ maxTests
+  pub ofTests : T (runsOfTests ws)
 
 -- with a test's numbers too
 abbrev pub withTest : Netlist → Test → Sets → Sets
@@ -46,8 +49,10 @@ ofEdge-byEdge f falling = refl
 
 pub holding-empty : (N : Netlist) → Holding N emptyStore (λ e k. false)
 holding-empty N = record {
-  is = empty-store ∙ ap {B = List ℕ} (λ (rs : List Run). storeOf (byEdge (λ e. rs))) (sym (runs-none (pathTotal N)));
+  is = empty-store ∙ ap {B = List ℕ} (λ (rs : List Run). storeOf 0 (byEdge (λ e. rs))) (sym (runs-none (pathTotal N)));
   fits = λ e. rw (runs-none (pathTotal N)) (omega arith);
+  fewTests = lit≤ tt;
+  ofTests = tt;
 }
 
 pub holding-same : (N : Netlist) (ws : List ℕ) (D D′ : Sets) → ((e : Edge) (k : ℕ) → D e k ≡ D′ e k) → Holding N ws D → Holding N ws D′
@@ -58,15 +63,16 @@ module _ (N : Netlist) (ws : List ℕ) (D : Sets) (x : Holding N ws D) where
   fits-ofEdge e = rw (ofEdge-runsFor N D e) (x .fits e)
 
   pub holding-runs : (e : Edge) → storeRuns ws e ≡ runsOf (D e) (pathTotal N)
-  holding-runs e = ap (λ s. storeRuns s e) (x .is) ∙ runs-store (runsFor N D) fits-ofEdge e ∙ ofEdge-runsFor N D e
+  holding-runs e = ap (λ s. storeRuns s e) (x .is) ∙ runs-store (testsTaken ws) (runsFor N D) fits-ofEdge e ∙ ofEdge-runsFor N D e
 
   pub holding-length : length ws ≡ storeWords
-  holding-length = ap length (x .is) ∙ length-store (runsFor N D) fits-ofEdge
+  holding-length = ap length (x .is) ∙ length-store (testsTaken ws) (runsFor N D) fits-ofEdge
 
   pub holding-passes : AllPass (storeRules (pathTotal N) ws)
   holding-passes =
       subst (λ s. AllPass (storeRules (pathTotal N) s)) (sym (x .is))
-      (store-passes (runsFor N D) fits-ofEdge (pathTotal N) (λ e. rw (ofEdge-runsFor N D e) (→separated (pathTotal N) 1 _ (runs-separated (D e) (pathTotal N)))))
+      (store-passes (testsTaken ws) (runsFor N D) fits-ofEdge (pathTotal N) (x .fewTests) (subst (λ s. T (runsOfTests s)) (x .is) (x .ofTests))
+      (λ e. rw (ofEdge-runsFor N D e) (→separated (pathTotal N) 1 _ (runs-separated (D e) (pathTotal N)))))
 
   pub holding-size : (e : Edge) → size (storeRuns ws e) ≡ howMany (D e) (pathTotal N)
   holding-size e = ap size (holding-runs e) ∙ runs-size (D e) (pathTotal N)
@@ -97,24 +103,34 @@ at-edge f t falling = and-right (f rising) (f falling) t
 pub stage-passes : (N : Netlist) (c : Class) (rec ws : List ℕ) (r : Tested) → testStage N c rec ws ≡ value r → AllPass (stageRules N c rec ws)
 unfolding testStage
 stage-passes N c rec ws r e =
-    checks→ (stageRules N c rec ws) (then-first (checks (stageRules N c rec ws)) (value (tested N (runsByEdge ws) (testOf N c rec))) e)
+    checks→ (stageRules N c rec ws) (then-first (checks (stageRules N c rec ws)) (value (tested N (testsTaken ws) (runsByEdge ws) (testOf N c rec))) e)
 
-pub stage-result : (N : Netlist) (c : Class) (rec ws : List ℕ) (r : Tested) → testStage N c rec ws ≡ value r → tested N (runsByEdge ws) (testOf N c rec) ≡ r
+pub stage-result : (N : Netlist) (c : Class) (rec ws : List ℕ) (r : Tested) → testStage N c rec ws ≡ value r
+    → tested N (testsTaken ws) (runsByEdge ws) (testOf N c rec) ≡ r
 unfolding testStage
-stage-result N c rec ws r e = value-inj (then-second (checks (stageRules N c rec ws)) (value (tested N (runsByEdge ws) (testOf N c rec))) e)
+stage-result N c rec ws r e = value-inj (then-second (checks (stageRules N c rec ws)) (value (tested N (testsTaken ws) (runsByEdge ws) (testOf N c rec))) e)
 
-pub stage-taken : (N : Netlist) (c : Class) (rec ws : List ℕ) → AllPass (stageRules N c rec ws) → testStage N c rec ws ≡ value (tested N (runsByEdge ws) (testOf N c rec))
+pub stage-taken : (N : Netlist) (c : Class) (rec ws : List ℕ) → AllPass (stageRules N c rec ws)
+    → testStage N c rec ws ≡ value (tested N (testsTaken ws) (runsByEdge ws) (testOf N c rec))
 unfolding testStage
 stage-taken N c rec ws p = rw (→checks (stageRules N c rec ws) p) refl
 
 module _ (N : Netlist) (c : Class) (rec ws : List ℕ) (D : Sets) (x : Holding N ws D) where
-  pub test-part : AllPass (stageRules N c rec ws) → AllPass (testRules N rec)
-  test-part p = pass-first (testRules N rec) (storeRules (pathTotal N) ws ++ workRules N (runsByEdge ws) (testOf N c rec)) p
+  abbrev works : List Rule
+  works = workRules N (runsByEdge ws) (testOf N c rec)
 
-  work-part : AllPass (stageRules N c rec ws) → AllPass (workRules N (runsByEdge ws) (testOf N c rec))
-  work-part p =
-      let works = workRules N (runsByEdge ws) (testOf N c rec) in
-      pass-second (storeRules (pathTotal N) ws) works (pass-second (testRules N rec) (storeRules (pathTotal N) ws ++ works) p)
+  pub test-part : AllPass (stageRules N c rec ws) → AllPass (testRules N rec)
+  test-part p = pass-first (testRules N rec) (storeRules (pathTotal N) ws ++ (testsRule ws ∷ works)) p
+
+  after-store : AllPass (stageRules N c rec ws) → AllPass (testsRule ws ∷ works)
+  after-store p =
+      pass-second (storeRules (pathTotal N) ws) (testsRule ws ∷ works) (pass-second (testRules N rec) (storeRules (pathTotal N) ws ++ (testsRule ws ∷ works)) p)
+
+  work-part : AllPass (stageRules N c rec ws) → AllPass works
+  work-part p = after-store p .1
+
+  pub tests-few : AllPass (stageRules N c rec ws) → testsTaken ws < maxTests
+  tests-few p = ltb→lt (testsTaken ws) maxTests (after-store p .0)
 
   -- the rules of Work, over the sets
   pub work-few : AllPass (stageRules N c rec ws) → (e : Edge) → workingRuns N (testOf N c rec) e ≤ maxRuns
@@ -128,26 +144,30 @@ module _ (N : Netlist) (c : Class) (rec ws : List ℕ) (D : Sets) (x : Holding N
       (leb→le _ _ (at-edge (λ d. leb (length (runsThen N (runsByEdge ws) (testOf N c rec) d)) maxRuns)
       (work-part p .1 .0) e))
 
-  pub stage-rules : AllPass (testRules N rec) → ((e : Edge) → workingRuns N (testOf N c rec) e ≤ maxRuns)
+  pub stage-rules : AllPass (testRules N rec) → testsTaken ws < maxTests → ((e : Edge) → workingRuns N (testOf N c rec) e ≤ maxRuns)
       → ((e : Edge) → length (runsOf (withTest N (testOf N c rec) D e) (pathTotal N)) ≤ maxRuns) → AllPass (stageRules N c rec ws)
-  stage-rules p f g =
-      pass-both (testRules N rec) (storeRules (pathTotal N) ws ++ workRules N (runsByEdge ws) (testOf N c rec)) p
-      (pass-both (storeRules (pathTotal N) ws) (workRules N (runsByEdge ws) (testOf N c rec)) (holding-passes N ws D x) (
-        at-both (λ d. leb (workingRuns N (testOf N c rec) d) maxRuns) (λ e. le→leb _ _ (f e)),
-        (
-          at-both (λ d. leb (length (runsThen N (runsByEdge ws) (testOf N c rec) d)) maxRuns)
-              (λ e. le→leb _ _ (subst (λ rs. length rs ≤ maxRuns) (sym (runs-then N ws D x (testOf N c rec) e)) (g e))),
-          tt,
-        ),
-      ))
+  stage-rules p few f g =
+      let t : Test = testOf N c rec in
+      let working = at-both (λ d. leb (workingRuns N t d) maxRuns) (λ e. le→leb _ _ (f e)) in
+      let held = at-both (λ d. leb (length (runsThen N (runsByEdge ws) t d)) maxRuns)
+      (λ e. le→leb _ _ (subst (λ rs. length rs ≤ maxRuns) (sym (runs-then N ws D x t e)) (g e))) in
+      pass-both (testRules N rec) (storeRules (pathTotal N) ws ++ (testsRule ws ∷ works)) p
+      (pass-both (storeRules (pathTotal N) ws) (testsRule ws ∷ works) (holding-passes N ws D x) (lt→ltb (testsTaken ws) maxTests few, (working, (held, tt))))
 
-  -- One test: the store then holds its numbers too
-  pub holding-next : (r : Tested) → testStage N c rec ws ≡ value r → Holding N (storeLeft r) (withTest N (testOf N c rec) D)
+  -- One test: it is counted
+  pub stage-tests : (r : Tested) → testStage N c rec ws ≡ value r → r .tests ≡ suc (testsTaken ws)
   unfolding tested
+  stage-tests r e = ap (λ (q : Tested). q .tests) (sym (stage-result N c rec ws r e))
+
+  -- and the store then holds its numbers too
+  pub holding-next : (r : Tested) → testStage N c rec ws ≡ value r → Holding N (storeLeft r) (withTest N (testOf N c rec) D)
+  unfolding tested storeOf
   holding-next r e = record {
-    is = ap storeLeft (sym (stage-result N c rec ws r e))
-        ∙ ap storeOf (λ i. record { onRising = runs-then N ws D x (testOf N c rec) rising i; onFalling = runs-then N ws D x (testOf N c rec) falling i });
+    is = ap (λ (q : Tested). storeOf (r .tests) (q .runs)) (sym (stage-result N c rec ws r e))
+        ∙ ap (storeOf (r .tests)) (λ i. record { onRising = runs-then N ws D x (testOf N c rec) rising i; onFalling = runs-then N ws D x (testOf N c rec) falling i });
     fits = work-room (stage-passes N c rec ws r e);
+    fewTests = omega (arith, stage-tests r e, tests-few (stage-passes N c rec ws r e));
+    ofTests = or-left (leb 1 (r .tests)) (bothEdges (λ d. eqb (runCount (storeLeft r) d) 0)) (le→leb 1 (r .tests) (omega (arith, stage-tests r e)));
   }
 
   pub returned-new : (r : Tested) → testStage N c rec ws ≡ value r → (e : Edge)
@@ -171,7 +191,7 @@ module _ (N : Netlist) (ws : List ℕ) (l : length ws ≡ storeWords) (p : AllPa
   own-runs : (e : Edge) → runsOf (inRuns (storeRuns ws e)) (pathTotal N) ≡ storeRuns ws e
   own-runs e =
       runs-of-runs (pathTotal N) (storeRuns ws e)
-      (separated→ (pathTotal N) 1 (storeRuns ws e) (at-edge (λ d. separatedRuns (pathTotal N) 1 (storeRuns ws d)) (p .1 .0) e))
+      (separated→ (pathTotal N) 1 (storeRuns ws e) (at-edge (λ d. separatedRuns (pathTotal N) 1 (storeRuns ws d)) (p .1 .1 .0) e))
 
   few-held : (e : Edge) → length (storeRuns ws e) ≤ maxRuns
   unfolding storeRuns
@@ -179,8 +199,11 @@ module _ (N : Netlist) (ws : List ℕ) (l : length ws ≡ storeWords) (p : AllPa
 
   pub holding-own : Holding N ws (λ e. inRuns (storeRuns ws e))
   holding-own = record {
-    is = sym (store-runs (pathTotal N) ws l p) ∙ ap storeOf (λ i. record { onRising = sym (own-runs rising) i; onFalling = sym (own-runs falling) i });
+    is = sym (store-runs (pathTotal N) ws l p)
+        ∙ ap (storeOf (testsTaken ws)) (λ i. record { onRising = sym (own-runs rising) i; onFalling = sym (own-runs falling) i });
     fits = λ e. rw (own-runs e) (few-held e);
+    fewTests = leb→le (testsTaken ws) maxTests (p .1 .0);
+    ofTests = p .1 .1 .1 .0;
   }
 
   -- A test leaves such a store

@@ -25,6 +25,7 @@ pub mod PieceLaws
 pub mod FileLaws
 pub mod ReportNames
 pub mod ExamplesHold
+pub mod CountedHolds
 pub mod ReportsHold
 pub mod WiresHold
 pub mod ClassesHold

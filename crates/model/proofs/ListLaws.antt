@@ -1,7 +1,7 @@
 -- Lists: tests of all and of some of their elements, elements by place, parts, and consecutive numbers.
 -- Assumes nothing.
 use mathlib.Core.Path.{_≡_, refl, ap, sym, subst, _∙_}
-use mathlib.Core.Bool.{Bool, true}
+use mathlib.Core.Bool.{Bool, true, _||_}
 use mathlib.Core.List.{List, [], _∷_, _++_, map}
 use mathlib.Core.Logic.{⊎-elim}
 use Prim.Native.Nat.{ℕ, zero, suc, _+_, _≤_, _<_}
@@ -33,6 +33,10 @@ allOf-at P (x ∷ xs) d t (suc p) h = allOf-at P xs d (allOf-tail P x xs t) p (l
 pub allOf-append : {A : Type 0} (P : A → Bool) (xs : List A) (y : A) → T (allOf P xs) → T (P y) → T (allOf P (xs ++ (y ∷ [])))
 allOf-append P [] y t u = both (P y) true u tt
 allOf-append P (x ∷ xs) y t u = both (P x) (allOf P (xs ++ (y ∷ []))) (allOf-head P x xs t) (allOf-append P xs y (allOf-tail P x xs t) u)
+
+pub any-map : {A B : Type 0} (f : B → Bool) (g : A → B) (xs : List A) → anyOf (λ x. f (g x)) xs ≡ anyOf f (map g xs)
+any-map f g [] = refl
+any-map f g (x ∷ xs) = ap (λ b. f (g x) || b) (any-map f g xs)
 
 pub drop-take : (n m : ℕ) (l : List ℕ) → drop n (take (n + m) l) ≡ take m (drop n l)
 drop-take zero m l = ap (λ (k : ℕ). take k l) (zero-add m)

@@ -12,7 +12,7 @@ use Rattle.model.specs.Base.{Answer, refused, value, _>>=_, _>>_, check,
 use Rattle.model.specs.Netlist.{Netlist, Gate, netByNet, gateCount, outputCount, pathTotal}
 use Rattle.model.specs.Detect.{Class}
 use Rattle.model.specs.Read.{readGates, readOutputs, readNetlist, gateRules, outputRules, headerRules, gateIn, countIn, inputsIn, gatesIn, outputsIn, inputCounts, classOf, classRule, testOf}
-use Rattle.model.specs.Store.{emptyStore, runsByEdge}
+use Rattle.model.specs.Store.{testsTaken, emptyStore, runsByEdge}
 use Rattle.model.specs.Calls.{storeLeft, tested, storeRule, workRule, stageRules, testStage, beforeTest}
 use Rattle.model.specs.Report.{wholeRecords, fileRecords, testAll, reportRecord, reportRules, auditCall, auditAfter, auditStore}
 use Rattle.model.proofs.BoolLaws.{and-left, and-right}
@@ -88,7 +88,7 @@ netlist-over bs =
 pub stage-over : (N : Netlist) (c : Class) (rec ws : List ℕ) → RefusesOver 2 (testStage N c rec ws)
 unfolding testStage
 stage-over N c rec ws =
-    over-then 2 (checks (stageRules N c rec ws)) (value (tested N (runsByEdge ws) (testOf N c rec))) (over-checks 2 (stageRules N c rec ws) tt) tt
+    over-then 2 (checks (stageRules N c rec ws)) (value (tested N (testsTaken ws) (runsByEdge ws) (testOf N c rec))) (over-checks 2 (stageRules N c rec ws) tt) tt
 
 pub all-over : (N : Netlist) (c : Class) (recs : List (List ℕ)) (ws : List ℕ) → RefusesOver 2 (testAll N c recs ws)
 unfolding testAll

@@ -13,7 +13,7 @@ use Rattle.model.specs.Netlist.{Netlist}
 use Rattle.model.specs.Path.{Edge, rising, falling}
 use Rattle.model.specs.Runs.{Run}
 use Rattle.model.specs.Read.{marked, recordLength}
-use Rattle.model.specs.Store.{ByEdge, ofEdge, maxRuns}
+use Rattle.model.specs.Store.{ByEdge, ofEdge, maxRuns, maxTests}
 use Rattle.model.specs.Report.{runBytes, reportHead, reportRecord, reportRules, reportBufferBytes, records, fileRecords, wholeRecords}
 use Rattle.model.proofs.BoolLaws.{and-left, and-right, both, eq→eqb}
 use Rattle.model.proofs.AnswerLaws.{AllPass, same-refl}
@@ -74,8 +74,8 @@ report-passes n paths s f =
     )
 
 -- The limit of rule 33 on a number of records, as `wholeRecords` writes it, is that of 32 bits
-pub count-limit : (n : ℕ) → T (leb n 4294967295) ↔ (n < 2 ^ 32)
-count-limit n = (λ t. omega (arith, leb→le n 4294967295 t), λ h. le→leb n 4294967295 (omega arith))
+pub count-limit : (n : ℕ) → T (leb n maxTests) ↔ (n < 2 ^ 32)
+count-limit n = (λ t. omega (arith, leb→le n maxTests t), λ h. le→leb n maxTests (omega arith))
 
 -- and that of the report's field of 4 bytes: exactly such a number of tests is read back from the record
 pub count-field : (n paths : ℕ) (s : ByEdge (List Run)) → (n < 256 ^ 4) ↔ (field 2 4 (reportRecord n paths s) ≡ n)
@@ -95,7 +95,7 @@ whole-fits N testFile paths s =
     let m : ℕ = length testFile / len in
     let c : length (fileRecords N testFile) ≡ m = length-records len m testFile in
     let a : Bool = eqb (length testFile % len) 0 in
-    let b : Bool = leb m 4294967295 in (
+    let b : Bool = leb m maxTests in (
       λ t. (
         eqb→eq (length testFile % len) 0 (and-left a b t),
         rw c (count-field m paths s .0 (count-limit m .0 (and-right a b t))),

@@ -12,7 +12,7 @@ use Rattle.model.specs.Netlist.{Netlist, pathTotal, maxCount}
 use Rattle.model.specs.Path.{Edge, rising, falling}
 use Rattle.model.specs.Detect.{Class, Test}
 use Rattle.model.specs.Read.{readNetlist, classOf, classRule}
-use Rattle.model.specs.Store.{ofEdge, storeWords, maxRuns, emptyStore, storeRuns, runsByEdge, storeRules}
+use Rattle.model.specs.Store.{ofEdge, storeWords, maxRuns, emptyStore, testsTaken, storeRuns, runsByEdge, storeRules}
 use Rattle.model.specs.Runs.{size}
 use Rattle.model.specs.Calls.{storeRule, workRule, workWords, beforeTest}
 use Rattle.model.specs.Report.{reportRule, testAll, writerCall, writerAnswer, writerBuffer, auditCall, auditAnswer}
@@ -23,19 +23,19 @@ use Rattle.model.proofs.BeforeLaws.{reached→, other-class}
 use Rattle.model.proofs.AnswerLaws.{AllPass, same→, steps, checks→, →checks, then-first, then-second, value-inj}
 use Rattle.model.proofs.ReadLaws.{legal, limits}
 use Rattle.model.proofs.FaultLaws.{detectedAt}
-use Rattle.model.proofs.HoldingLaws.{Holding, holding-runs, ofEdge-byEdge}
-use Rattle.model.proofs.DemandHolds.{one-list, holds-fault, as-countOf, runs-true, sizes-true, after-every-list}
+use Rattle.model.proofs.HoldingLaws.{holding-runs, ofEdge-byEdge}
+use Rattle.model.proofs.DemandHolds.{HoldsTests, one-list, holds-fault, as-countOf, runs-true, sizes-true, after-every-list}
 use Rattle.model.proofs.ReportLaws.{report-passes}
 use Rattle.model.proofs.ReportNames.{names-exactly}
 use Rattle.model.proofs.FileLaws.{left-holding, left-length, left-passes, file-passes, file-left, file-taken, length-testsOf}
 use Rattle.model.proofs.RefusalLaws.{audit-at-end}
 
-module _ (N : Netlist) (w : WellFormed N) (ts : List Test) (left : List ℕ) (x : Holding N left (detectedAt N ts)) where
+module _ (N : Netlist) (w : WellFormed N) (ts : List Test) (left : List ℕ) (x : HoldsTests N ts left) where
   runs-left : (d : Edge) → RunsOfDetected N ts d (ofEdge (runsByEdge left) d)
   runs-left d = subst (λ rs. RunsOfDetected N ts d rs) (sym (ofEdge-byEdge (storeRuns left) d)) (runs-true N w ts left x d)
 
   few-left : (d : Edge) → length (ofEdge (runsByEdge left) d) ≤ maxRuns
-  few-left d = rw (ofEdge-byEdge (storeRuns left) d, holding-runs N left (detectedAt N ts) x d) (x .fits d)
+  few-left d = rw (ofEdge-byEdge (storeRuns left) d, holding-runs N left (detectedAt N ts) (x .holding) d) (x .holding .fits d)
 
   -- The record of the store's runs is the true report
   pub left-true : (n : ℕ) → n ≡ length ts → TrueReport N ts (reportRecord n (pathTotal N) (runsByEdge left))
@@ -69,7 +69,11 @@ module _ (netlist : List ℕ) (N : Netlist) (e : readNetlist netlist ≡ value N
   n : ℕ
   n = length (fileRecords N testFile)
 
-  writer-gives : writerCall netlist left n buffer ≡ value (reportRecord n (pathTotal N) (runsByEdge left))
+  tests-left : testsTaken left ≡ n
+  unfolding n
+  tests-left = left-holding N c (fileRecords N testFile) left t .counted ∙ sym (length-testsOf N c testFile)
+
+  writer-gives : writerCall netlist left buffer ≡ value (reportRecord n (pathTotal N) (runsByEdge left))
   unfolding writerCall
   writer-gives =
       let a : checks (storeRule left ∷ reportRule buffer ∷ []) ≡ value tt =
@@ -77,7 +81,7 @@ module _ (netlist : List ℕ) (N : Netlist) (e : readNetlist netlist ≡ value N
       (rw (left-length N c (fileRecords N testFile) left t) tt, (le→leb reportBufferBytes (length buffer) l, tt)) in
       let b : checks (storeRules (pathTotal N) left) ≡ value tt =
       →checks (storeRules (pathTotal N) left) (left-passes N c (fileRecords N testFile) left t) in
-      rw (a, e) (rw b refl)
+      rw (a, e) (rw b (ap (λ k. value (reportRecord k (pathTotal N) (runsByEdge left))) tests-left))
 
   writer-true : WriterTrue netlist N c testFile left buffer
   unfolding writerAnswer writerBuffer n

@@ -11,8 +11,8 @@ use lib.Seq.{getD-at, take-at, drop-at, drop-cons, length-take-le, take-add, dro
 use Rattle.model.specs.Base.{allOf}
 use Rattle.model.specs.Path.{Edge, rising, falling}
 use Rattle.model.specs.Runs.{Run, separatedRuns}
-use Rattle.model.specs.Store.{ByEdge, byEdge, ofEdge, storeWords, maxRuns, placeWords, emptyStore, runsAt, runCount, storeRuns, runsByEdge}
-use Rattle.model.specs.Store.{lowsHighs, places, storeOf, wordsAfter, bothEdges, storeRules, firstWord}
+use Rattle.model.specs.Store.{ByEdge, byEdge, ofEdge, storeWords, maxRuns, maxTests, placeWords, emptyStore, runsAt, runCount, testsTaken, storeRuns, runsByEdge}
+use Rattle.model.specs.Store.{lowsHighs, places, storeOf, wordsAfter, runsOfTests, bothEdges, storeRules, firstWord}
 use Rattle.model.proofs.ListLaws.{allOf-head, allOf-tail}
 use Rattle.model.proofs.BoolLaws.{both, and-left, and-right}
 use Rattle.model.proofs.AnswerLaws.{AllPass}
@@ -56,11 +56,16 @@ all-zero (suc n) = all-zero n
 pub at-both : (f : Edge → Bool) → ((e : Edge) → T (f e)) → T (bothEdges f)
 at-both f h = both (f rising) (f falling) (h rising) (h falling)
 
-module _ (s : ByEdge (List Run)) (fits : (e : Edge) → length (ofEdge s e) ≤ maxRuns) where
+-- A store holds the number of tests that it was made of
+pub tests-store : (tests : ℕ) (s : ByEdge (List Run)) → testsTaken (storeOf tests s) ≡ tests
+unfolding storeOf
+tests-store tests s = refl
+
+module _ (tests : ℕ) (s : ByEdge (List Run)) (fits : (e : Edge) → length (ofEdge s e) ≤ maxRuns) where
   -- the words up to an edge's places, and after them
   countsBefore : Edge → List ℕ
-  countsBefore rising = length (s .onRising) ∷ length (s .onFalling) ∷ []
-  countsBefore falling = length (s .onRising) ∷ length (s .onFalling) ∷ places (s .onRising)
+  countsBefore rising = length (s .onRising) ∷ length (s .onFalling) ∷ tests ∷ []
+  countsBefore falling = length (s .onRising) ∷ length (s .onFalling) ∷ tests ∷ places (s .onRising)
 
   behind : Edge → List ℕ
   behind rising = places (s .onFalling)
@@ -71,45 +76,49 @@ module _ (s : ByEdge (List Run)) (fits : (e : Edge) → length (ofEdge s e) ≤ 
   length-before rising = refl
   length-before falling = omega (arith, length-places (s .onRising) (fits rising))
 
-  parts : (e : Edge) → storeOf s ≡ countsBefore e ++ (places (ofEdge s e) ++ behind e)
+  parts : (e : Edge) → storeOf tests s ≡ countsBefore e ++ (places (ofEdge s e) ++ behind e)
   unfolding storeOf countsBefore behind
   parts rising = refl
-  parts falling = ap (λ (x : List ℕ). length (s .onRising) ∷ length (s .onFalling) ∷ (places (s .onRising) ++ x)) (sym (append-nil (places (s .onFalling))))
+  parts falling =
+      ap (λ (x : List ℕ). length (s .onRising) ∷ length (s .onFalling) ∷ tests ∷ (places (s .onRising) ++ x)) (sym (append-nil (places (s .onFalling))))
 
-  pub runCount-store : (e : Edge) → runCount (storeOf s) e ≡ length (ofEdge s e)
+  pub runCount-store : (e : Edge) → runCount (storeOf tests s) e ≡ length (ofEdge s e)
   unfolding storeOf
   runCount-store rising = refl
   runCount-store falling = refl
 
   -- A store holds the runs that it was made of
-  pub runs-store : (e : Edge) → storeRuns (storeOf s) e ≡ ofEdge s e
+  pub runs-store : (e : Edge) → storeRuns (storeOf tests s) e ≡ ofEdge s e
   unfolding storeRuns
   runs-store e =
-      ap (runsAt (storeOf s) (firstWord e)) (runCount-store e)
+      ap (runsAt (storeOf tests s) (firstWord e)) (runCount-store e)
       ∙ ap (λ x. runsAt x (firstWord e) (length (ofEdge s e))) (parts e ∙ ap (λ x. countsBefore e ++ x) (append-assoc (lowsHighs (ofEdge s e)) _ (behind e)))
       ∙ runsAt-written (ofEdge s e) (countsBefore e) _ (firstWord e) (length-before e)
 
-  after-store : (e : Edge) → wordsAfter (storeOf s) e ≡ replicate (placeWords - 2 * length (ofEdge s e)) 0
+  after-store : (e : Edge) → wordsAfter (storeOf tests s) e ≡ replicate (placeWords - 2 * length (ofEdge s e)) 0
   after-store e =
-      ap (λ n. take (placeWords - 2 * n) (drop (firstWord e + 2 * n) (storeOf s))) (runCount-store e)
+      ap (λ n. take (placeWords - 2 * n) (drop (firstWord e + 2 * n) (storeOf tests s))) (runCount-store e)
       ∙ ap (λ x. take (placeWords - 2 * length (ofEdge s e)) (drop (firstWord e + 2 * length (ofEdge s e)) x)) (parts e)
       ∙ after-written (ofEdge s e) (countsBefore e) (behind e) (firstWord e) (length-before e)
 
-  pub length-store : length (storeOf s) ≡ storeWords
+  pub length-store : length (storeOf tests s) ≡ storeWords
   unfolding storeOf
   length-store = omega (arith, length-append (places (s .onRising)) (places (s .onFalling)), length-places (s .onRising) (fits rising), length-places (s .onFalling) (fits falling))
 
   -- and passes the checks
-  pub store-passes : (n : ℕ) → ((e : Edge) → T (separatedRuns n 1 (ofEdge s e))) → AllPass (storeRules n (storeOf s))
-  store-passes n a = (
-    at-both (λ e. leb (runCount (storeOf s) e) maxRuns) (λ e. le→leb (runCount (storeOf s) e) maxRuns (rw (runCount-store e) (fits e))),
-    (
-      at-both (λ e. separatedRuns n 1 (storeRuns (storeOf s) e)) (λ e. rw (runs-store e) (a e)),
-      (at-both (λ e. allOf (λ w. eqb w 0) (wordsAfter (storeOf s) e)) (λ e. rw (after-store e) (all-zero (placeWords - 2 * length (ofEdge s e)))), tt),
-    ),
-  )
+  pub store-passes : (n : ℕ) → tests ≤ maxTests → T (runsOfTests (storeOf tests s)) → ((e : Edge) → T (separatedRuns n 1 (ofEdge s e)))
+      → AllPass (storeRules n (storeOf tests s))
+  store-passes n few none a =
+      let ws : List ℕ = storeOf tests s in
+      let zeros-behind = at-both (λ e. allOf (λ w. eqb w 0) (wordsAfter ws e)) (λ e. rw (after-store e) (all-zero (placeWords - 2 * length (ofEdge s e)))) in (
+        at-both (λ e. leb (runCount ws e) maxRuns) (λ e. le→leb (runCount ws e) maxRuns (rw (runCount-store e) (fits e))),
+        (
+          le→leb (testsTaken ws) maxTests (rw (tests-store tests s) few),
+          (at-both (λ e. separatedRuns n 1 (storeRuns ws e)) (λ e. rw (runs-store e) (a e)), (none, (zeros-behind, tt))),
+        ),
+      )
 
-pub empty-store : emptyStore ≡ storeOf (byEdge (λ e. []))
+pub empty-store : emptyStore ≡ storeOf 0 (byEdge (λ e. []))
 unfolding storeOf
 empty-store = refl
 
@@ -143,21 +152,22 @@ pub length-runsAt : (n : ℕ) (ws : List ℕ) (at : ℕ) → length (runsAt ws a
 length-runsAt zero ws at = refl
 length-runsAt (suc n) ws at = ap suc (length-runsAt n ws (suc (suc at)))
 
-pub store-runs : (n : ℕ) (ws : List ℕ) → length ws ≡ storeWords → AllPass (storeRules n ws) → storeOf (runsByEdge ws) ≡ ws
+pub store-runs : (n : ℕ) (ws : List ℕ) → length ws ≡ storeWords → AllPass (storeRules n ws) → storeOf (testsTaken ws) (runsByEdge ws) ≡ ws
 unfolding storeOf storeRuns
 store-runs n [] l p = absurd (omega arith)
 store-runs n (x ∷ []) l p = absurd (omega arith)
-store-runs n (x ∷ y ∷ zs) l p =
-    let ws : List ℕ = x ∷ y ∷ zs in
+store-runs n (x ∷ y ∷ []) l p = absurd (omega arith)
+store-runs n (x ∷ y ∷ tests ∷ zs) l p =
+    let ws : List ℕ = x ∷ y ∷ tests ∷ zs in
     let a : x ≤ maxRuns = leb→le x maxRuns (and-left (leb x maxRuns) (leb y maxRuns) (p .0)) in
     let b : y ≤ maxRuns = leb→le y maxRuns (and-right (leb x maxRuns) (leb y maxRuns) (p .0)) in
     let zero? : ℕ → Bool = λ w. eqb w 0 in
-    let z = p .1 .1 .0 in
+    let z = p .1 .1 .1 .1 .0 in
     let r : places (runsAt ws (firstWord rising) x) ≡ take placeWords zs =
     places-read ws (firstWord rising) x a (omega arith) (and-left (allOf zero? (wordsAfter ws rising)) (allOf zero? (wordsAfter ws falling)) z) (length-runsAt x ws (firstWord rising)) in
     let f : places (runsAt ws (firstWord falling) y) ≡ take placeWords (drop placeWords zs) =
     places-read ws (firstWord falling) y b (omega arith) (and-right (allOf zero? (wordsAfter ws rising)) (allOf zero? (wordsAfter ws falling)) z) (length-runsAt y ws (firstWord falling)) in
-    ap₂ {C = List ℕ} (λ j k. j ∷ k ∷ (places (runsAt ws (firstWord rising) x) ++ places (runsAt ws (firstWord falling) y)))
+    ap₂ {C = List ℕ} (λ j k. j ∷ k ∷ tests ∷ (places (runsAt ws (firstWord rising) x) ++ places (runsAt ws (firstWord falling) y)))
     (length-runsAt x ws (firstWord rising)) (length-runsAt y ws (firstWord falling))
-    ∙ ap (λ k. x ∷ y ∷ k)
+    ∙ ap (λ k. x ∷ y ∷ tests ∷ k)
     (ap₂ (λ u v. u ++ v) r (f ∙ take-all placeWords (drop placeWords zs) (omega (arith, length-drop placeWords zs))) ∙ take-append-drop placeWords zs)

@@ -11,8 +11,8 @@ use Rattle.model.specs.Base.{Answer, refused, value, _>>_, Rule, checks,
 use Rattle.model.specs.Netlist.{Netlist, pathTotal}
 use Rattle.model.specs.Detect.{Class, Test}
 use Rattle.model.specs.Read.{inputBit, isChanged, someChange, v1Part, v2Part, readNetlist, classOf, testRules, testOf}
-use Rattle.model.specs.Store.{runsByEdge, storeRules}
-use Rattle.model.specs.Calls.{workRules, testStage, tested}
+use Rattle.model.specs.Store.{testsTaken, runsByEdge, storeRules}
+use Rattle.model.specs.Calls.{testsRule, workRules, testStage, tested}
 use Rattle.model.specs.Report.{fileRecords, auditAnswer}
 use Rattle.model.specs.Demand3.{AllTaken}
 use Rattle.model.specs.Unchanged.{Unchanged, rulesBefore, UnchangedPairs}
@@ -82,9 +82,9 @@ module _ (N : Netlist) (rec : List ℕ) where
     refused-stage : (n : ℕ) → checks (testRules N rec) ≡ refused n → testStage N c rec ws ≡ refused n
     unfolding testStage
     refused-stage n q =
-        let rest : List Rule = storeRules (pathTotal N) ws ++ workRules N (runsByEdge ws) (testOf N c rec) in
+        let rest : List Rule = storeRules (pathTotal N) ws ++ (testsRule ws ∷ workRules N (runsByEdge ws) (testOf N c rec)) in
         let both : checks (testRules N rec ++ rest) ≡ refused n = checks-both (testRules N rec) rest ∙ ap (λ a. a >> checks rest) q in
-        ap (λ a. a >> value (tested N (runsByEdge ws) (testOf N c rec))) both
+        ap (λ a. a >> value (tested N (testsTaken ws) (runsByEdge ws) (testOf N c rec))) both
 
     earlier-refused : (n : ℕ) → checks (rulesBefore N rec) ≡ refused n → testStage N c rec ws ≡ refused n
     earlier-refused n q = refused-stage n (then-change ∙ rw q refl)

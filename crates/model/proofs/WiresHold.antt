@@ -74,7 +74,7 @@ no-run : (paths : ℕ) → paths ≡ 0 → (ws : List ℕ) → checks (storeRule
 no-run paths z ws s e = no-runs (storeRuns ws e) (subst (λ k. T (separatedRuns k 1 (storeRuns ws e))) z (at-edge e))
   where
     both-edges : T (separatedRuns paths 1 (storeRuns ws rising) && separatedRuns paths 1 (storeRuns ws falling))
-    both-edges = checks→ (storeRules paths ws) (record { got = tt; is = s }) .1 .0
+    both-edges = checks→ (storeRules paths ws) (record { got = tt; is = s }) .1 .1 .0
 
     at-edge : (e : Edge) → T (separatedRuns paths 1 (storeRuns ws e))
     at-edge rising = and-left (separatedRuns paths 1 (storeRuns ws rising)) (separatedRuns paths 1 (storeRuns ws falling)) both-edges

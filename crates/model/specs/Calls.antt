@@ -5,8 +5,8 @@
 use mathlib.Core.Path.{_≡_}
 use mathlib.Core.Bool.{Bool, _&&_, _||_, not}
 use mathlib.Core.List.{List, [], _∷_, _++_}
-use Prim.Native.Nat.{ℕ, _+_, _-_, _*_}
-use lib.Dec.{leb, eqb}
+use Prim.Native.Nat.{ℕ, suc, _+_, _-_, _*_}
+use lib.Dec.{leb, ltb, eqb}
 use lib.ListN.{length, getD, drop, replicate}
 use Rattle.model.specs.Base.{Answer, refused, value, _>>=_, _>>_, Rule, checks, passes, after}
 use Rattle.model.specs.Netlist.{Netlist, maxNets, counts, pathTotal}
@@ -14,7 +14,8 @@ use Rattle.model.specs.Path.{CircuitPath, Edge, valid, numberOf, pathOf,
 use Rattle.model.specs.Detect.{Class, Test, detectsNumber}
 use Rattle.model.specs.Runs.{Run, runsOf, inRuns, size, howMany, workingRuns}
 use Rattle.model.specs.Read.{within, readNetlist, classOf, classRule, testRules, testOf}
-use Rattle.model.specs.Store.{ByEdge, byEdge, ofEdge, storeWords, maxRuns, emptyStore, storeOf, storeRuns, runsByEdge, storeRules, bothEdges}
+use Rattle.model.specs.Store.{ByEdge, byEdge, ofEdge, storeWords, maxRuns, maxTests, testsTaken}
+use Rattle.model.specs.Store.{emptyStore, storeOf, storeRuns, runsByEdge, storeRules, bothEdges}
 
 -- words of working memory and of a path buffer, at the least
 abbrev pub workWords : ℕ
@@ -138,30 +139,37 @@ pub record FaultCounts : Type 0 where
   pub newFaults : ByEdge ℕ
   pub heldFaults : ByEdge ℕ
 
--- a taken test: what is returned, and the runs then in the store
+-- a taken test: what is returned, and the number of tests and the runs then in the store
 pub record Tested : Type 0 where
   pub returned : FaultCounts
+  pub tests : ℕ
   pub runs : ByEdge (List Run)
 
 -- The words of the store that a taken test leaves
 abbrev pub storeLeft : Tested → List ℕ
-storeLeft r = storeOf (r .runs)
+storeLeft r = storeOf (r .tests) (r .runs)
 
-unfoldable pub tested : Netlist → ByEdge (List Run) → Test → Tested
-tested N s t = record {
+-- one more test than the `n` before
+unfoldable pub tested : Netlist → ℕ → ByEdge (List Run) → Test → Tested
+tested N n s t = record {
   returned = record {
     newFaults = byEdge (λ e. howMany (newThen N s t e) (pathTotal N));
     heldFaults = byEdge (λ e. howMany (heldThen N s t e) (pathTotal N));
   };
+  tests = suc n;
   runs = byEdge (runsThen N s t);
 }
 
+-- one more test can be counted
+abbrev pub testsRule : List ℕ → Rule
+testsRule ws = (86, ltb (testsTaken ws) maxTests)
+
 -- The places Test, Store and Work for one record, judged in a class
 abbrev pub stageRules : Netlist → Class → List ℕ → List ℕ → List Rule
-stageRules N c rec ws = testRules N rec ++ (storeRules (pathTotal N) ws ++ workRules N (runsByEdge ws) (testOf N c rec))
+stageRules N c rec ws = testRules N rec ++ (storeRules (pathTotal N) ws ++ (testsRule ws ∷ workRules N (runsByEdge ws) (testOf N c rec)))
 
 unfoldable pub testStage : Netlist → Class → List ℕ → List ℕ → Answer Tested
-testStage N c rec ws = checks (stageRules N c rec ws) >> value (tested N (runsByEdge ws) (testOf N c rec))
+testStage N c rec ws = checks (stageRules N c rec ws) >> value (tested N (testsTaken ws) (runsByEdge ws) (testOf N c rec))
 
 -- the places before Test, for a call that is handed a class, a store and working memory: the test stage is reached where they refuse nothing
 abbrev pub beforeTest : List ℕ → ℕ → List ℕ → List ℕ → Answer Netlist

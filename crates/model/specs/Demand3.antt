@@ -4,7 +4,7 @@ use mathlib.Core.Path.{_≡_}
 use mathlib.Core.Logic.{_↔_}
 use mathlib.Core.Bool.{Bool, _&&_, not}
 use mathlib.Core.List.{List, [], _∷_, _++_, map, List·Memᴰ, List·Nodup}
-use Prim.Native.Nat.{ℕ, _≤_}
+use Prim.Native.Nat.{ℕ, _≤_, _<_}
 use lib.Dec.{T, leb, eqb}
 use lib.ListN.{length, drop}
 use Rattle.model.specs.Base.{Answer, refused, value, allOf, anyOf, checks}
@@ -13,7 +13,7 @@ use Rattle.model.specs.Path.{CircuitPath, Edge, Fault, valid, numberOf}
 use Rattle.model.specs.Detect.{Class, Test, detects}
 use Rattle.model.specs.Runs.{Run, inRuns, separatedRuns, size, workingRuns}
 use Rattle.model.specs.Read.{within, readNetlist, classOf, testOf, testRules}
-use Rattle.model.specs.Store.{ByEdge, ofEdge, emptyStore, storeRuns, storeWords, maxRuns}
+use Rattle.model.specs.Store.{ByEdge, ofEdge, emptyStore, storeRuns, testsTaken, storeWords, maxRuns, maxTests}
 use Rattle.model.specs.Calls.{Tested, testCall, testAnswer, testStore, FaultCounts, totalsCall, workWords}
 use Rattle.model.specs.Report.{writerAnswer, writerBuffer, auditAnswer, reportRecord, namedRuns, wholeRecords, fileRecords, reportBufferBytes}
 
@@ -80,9 +80,10 @@ unfoldable pub afterCalls : List ℕ → Netlist → State → List Call → Sta
 afterCalls netlist N s [] = s
 afterCalls netlist N s (c ∷ cs) = afterCalls netlist N (next netlist N s c) cs
 
--- No condition of the places Test and Work holds for a record in a class, where `before` are the tests taken so far
+-- No condition of the places Test and Work holds for a record in a class, nor 86, where `before` are the tests taken so far
 pub record NoTestRefusal (N : Netlist) (before : List Test) (c : Class) (rec : List ℕ) : Type 0 where
   pub legalRecord : checks (testRules N rec) ≡ value tt
+  pub fewTests : length before < maxTests
   pub fewWorking : (e : Edge) → workingRuns N (testOf N c rec) e ≤ maxRuns
   pub runs : Edge → List Run
   pub wouldHold : (e : Edge) → RunsOfDetected N (testOf N c rec ∷ before) e (runs e)
@@ -116,6 +117,8 @@ pub record StoreTrue (netlist : List ℕ) (N : Netlist) (s : State) : Type 0 whe
   pub holdsFault : (f : Fault) → T (valid N (f .path)) → T (inRuns (storeRuns (s .store) (f .edge)) (numberOf N (f .path))) ↔ T (detectedBy N (s .taken) f)
   -- and no other number is in its runs
   pub holdsNoOther : (e : Edge) → RunsOfDetected N (s .taken) e (storeRuns (s .store) e)
+  -- the third word is the number of calls taken
+  pub testsTrue : testsTaken (s .store) ≡ length (s .taken)
   -- the totals call gives for each edge the number of distinct faults so detected
   pub sums : ByEdge ℕ
   pub totalsGives : totalsCall netlist (s .store) ≡ value sums
@@ -168,13 +171,13 @@ pub record NamesDetected (N : Netlist) (ts : List Test) (report : List ℕ) : Ty
   pub namesFault : (f : Fault) → T (valid N (f .path)) → T (inRuns (namedRuns report (f .edge)) (numberOf N (f .path))) ↔ T (detectedBy N ts f)
   pub namesNoOther : (e : Edge) → RunsOfDetected N ts e (namedRuns report e)
 
--- the writer makes the true report from the store that the file leaves in a class, with the number of its records
+-- the writer makes the true report from the store that the file leaves in a class: the number of its records is in the store
 pub record WriterTrue (netlist : List ℕ) (N : Netlist) (c : Class) (testFile left buffer : List ℕ) : Type 0 where
   pub report : List ℕ
   pub isTrue : TrueReport N (testsOf N c testFile) report
   pub names : NamesDetected N (testsOf N c testFile) report
-  pub returned : writerAnswer netlist left (length (fileRecords N testFile)) buffer ≡ value (length report)
-  pub written : writerBuffer netlist left (length (fileRecords N testFile)) buffer ≡ report ++ drop (length report) buffer
+  pub returned : writerAnswer netlist left buffer ≡ value (length report)
+  pub written : writerBuffer netlist left buffer ≡ report ++ drop (length report) buffer
 
 -- when an audit accepts: its memory has 01's lengths, the netlist is legal, the class is 1 or 2, and in that class the file is wholly taken and
 -- the report is its true report

@@ -1,21 +1,21 @@
 -- Examples as questions with their answers: `further` is one list of test calls and its audit; `requested` has small examples of document 02's
--- tickets, worked out by hand, `robustRows` those of robust tests, `unchangedRows` those of pairs that change nothing.
--- proofs/ExamplesHold.antt has the theorems over them.
+-- tickets, worked out by hand, `robustRows` those of robust tests, `unchangedRows` those of pairs that change nothing, `countedRows` those of the
+-- tests taken. proofs/ExamplesHold.antt has the theorems over them.
 -- Document 01's table of those marked * is in crate `starred`.
 -- Assumes nothing.
 use mathlib.Core.Bool.{Bool, true, false}
 use mathlib.Core.List.{List, [], _∷_, _++_, map}
 use Prim.Native.Nat.{ℕ, zero, suc, _+_, _-_, _^_}
-use lib.ListN.{length, replicate, take, drop}
+use lib.ListN.{length, replicate, take, drop, set}
 use Rattle.model.specs.Base.{Answer, refused, value, _>>=_, _>>_, checks, numbersFrom, littleEndian}
 use Rattle.model.specs.Netlist.{Netlist, counts, pathTotal}
 use Rattle.model.specs.Path.{Edge, rising, falling, pathOf, faultNumber}
 use Rattle.model.specs.Detect.{Class, nonRobust, robust, Test, Evaluation, evaluate, detectsNumber}
-use Rattle.model.specs.Runs.{workingRuns}
+use Rattle.model.specs.Runs.{Run, workingRuns}
 use Rattle.model.specs.Read.{readNetlist, testRules, testOf}
-use Rattle.model.specs.Store.{headWords, storeWords, maxRuns, emptyStore, firstWord}
-use Rattle.model.specs.Calls.{testCall, wordsOf, workWords}
-use Rattle.model.specs.Report.{auditCall}
+use Rattle.model.specs.Store.{ByEdge, headWords, storeWords, maxRuns, testsWord, maxTests, emptyStore, firstWord, storeOf}
+use Rattle.model.specs.Calls.{storeLeft, testCall, wordsOf, workWords}
+use Rattle.model.specs.Report.{writerCall, reportBufferBytes, auditCall}
 use Rattle.model.specs.Demand3.{Call, start, afterCalls}
 use Rattle.model.specs.SinglePin.{pinsFitBefore, readNetlistBy}
 use Rattle.model.specs.Encode.{headerBytes, gateBytes, outputBytes, testBytes}
@@ -33,6 +33,8 @@ pub data Question : Type 0 where
   newRisingOn : List ℕ → List ℕ → Question
   listed : List Call → Question
   audited : ℕ → List ℕ → List ℕ → Question
+  testedOn : List ℕ → List ℕ → Question
+  reportOf : List ℕ → Question
 
 abbrev pub oneIf : Bool → ℕ
 oneIf true = 1
@@ -54,7 +56,7 @@ steadyOf N t = map (λ n. oneIf (n .steady)) (evaluate N (t .v1) (t .v2))
 unfoldable pub enoughWork : List ℕ
 enoughWork = replicate workWords 0
 
--- a store's numbers of runs, and the first run of each edge
+-- a store's numbers of runs and of tests taken, and the first run of each edge
 unfoldable pub firstRuns : List ℕ → List ℕ
 firstRuns ws = take (headWords + 2) ws ++ take 2 (drop (firstWord falling) ws)
 
@@ -72,6 +74,8 @@ reply netlist (newRising class rec) = testCall netlist class rec emptyStore enou
 reply netlist (newRisingOn ws rec) = testCall netlist 1 rec ws enoughWork >>= λ r. value (r .returned .newFaults .onRising ∷ [])
 reply netlist (listed calls) = readNetlist netlist >>= λ N. value (firstRuns (afterCalls netlist N start calls .store))
 reply netlist (audited class testFile report) = auditCall netlist class testFile report emptyStore enoughWork >>= λ left. value (firstRuns left)
+reply netlist (testedOn ws rec) = testCall netlist 1 rec ws enoughWork >>= λ r. value (firstRuns (storeLeft r))
+reply netlist (reportOf ws) = writerCall netlist ws (replicate reportBufferBytes 0)
 
 -- document 01's Q: net 2 AND of 0, 1; net 3 OR of 2, 1
 unfoldable pub Q : List ℕ
@@ -145,7 +149,7 @@ row f q a = record { netlist = f; question = q; answer = a }
 -- The three tests as a file: the true report is accepted and leaves one run of each edge; with another number of tests it is refused 72
 unfoldable pub further : List Row
 further =
-    row Q (audited 1 (detectsNone ++ detectsFalling ++ detectsRising) (reportOfThree 3)) (value (1 ∷ 1 ∷ 3 ∷ 3 ∷ 2 ∷ 3 ∷ []))
+    row Q (audited 1 (detectsNone ++ detectsFalling ++ detectsRising) (reportOfThree 3)) (value (1 ∷ 1 ∷ 3 ∷ 3 ∷ 3 ∷ 2 ∷ 3 ∷ []))
     ∷ row Q (audited 1 (detectsNone ++ detectsFalling ++ detectsRising) (reportOfThree 4)) (refused 72)
     ∷ []
 
@@ -191,8 +195,8 @@ robustRows =
     ∷ row hazard (faultsOf robust (testBytes (0 ∷ []) (3 ∷ []))) (value [])
     ∷ row hazard (faultsOf nonRobust riseAndFall) (value (3 ∷ 6 ∷ []))
     ∷ row hazard (faultsOf robust riseAndFall) (value (6 ∷ []))
-    ∷ row hazard (listed (callIn 2 riseAndFall ∷ [])) (value (0 ∷ 1 ∷ 0 ∷ 0 ∷ 3 ∷ 3 ∷ []))
-    ∷ row hazard (listed (callIn 2 riseAndFall ∷ callIn 3 riseAndFall ∷ callIn 1 riseAndFall ∷ [])) (value (1 ∷ 1 ∷ 2 ∷ 2 ∷ 3 ∷ 3 ∷ []))
+    ∷ row hazard (listed (callIn 2 riseAndFall ∷ [])) (value (0 ∷ 1 ∷ 1 ∷ 0 ∷ 0 ∷ 3 ∷ 3 ∷ []))
+    ∷ row hazard (listed (callIn 2 riseAndFall ∷ callIn 3 riseAndFall ∷ callIn 1 riseAndFall ∷ [])) (value (1 ∷ 1 ∷ 2 ∷ 2 ∷ 2 ∷ 3 ∷ 3 ∷ []))
     ∷ row carry (steadyNets (carryTest 0 5)) (value (0 ∷ 1 ∷ 0 ∷ 1 ∷ 0 ∷ 0 ∷ 0 ∷ []))
     ∷ row carry (faultsOf robust (carryTest 7 2)) (value (2 ∷ 10 ∷ []))
     ∷ row carry (faultsOf robust (carryTest 0 3)) (value (1 ∷ 3 ∷ []))
@@ -204,8 +208,27 @@ robustRows =
     ∷ row Q (newRising 2 detectsRising) (value (1 ∷ []))
     ∷ row Q (newRising 3 detectsRising) (refused 83)
     ∷ row [] (newRising 3 detectsRising) (refused 10)
-    ∷ row Q (audited 2 (detectsNone ++ detectsFalling ++ detectsRising) (reportOfThree 3)) (value (1 ∷ 1 ∷ 3 ∷ 3 ∷ 2 ∷ 3 ∷ []))
+    ∷ row Q (audited 2 (detectsNone ++ detectsFalling ++ detectsRising) (reportOfThree 3)) (value (1 ∷ 1 ∷ 3 ∷ 3 ∷ 3 ∷ 2 ∷ 3 ∷ []))
     ∷ row Q (audited 0 (0 ∷ []) []) (refused 83)
+    ∷ []
+
+-- what Q's three tests detect: path 3 rising, paths 2 and 3 falling
+unfoldable pub runsOfThree : ByEdge (List Run)
+runsOfThree = record { onRising = record { low = 3; high = 3 } ∷ []; onFalling = record { low = 2; high = 3 } ∷ [] }
+
+-- Ticket 9, on Q: the writer takes the number of tests from the store; a taken test is counted, and taken again it changes the third word alone; no
+-- tests and a run are 41; the most tests are 86 after 42 and before 50, one more is 40
+unfoldable pub countedRows : List Row
+countedRows =
+    row Q (reportOf (storeOf 3 runsOfThree)) (value (reportOfThree 3))
+    ∷ row Q (testedOn emptyStore detectsRising) (value (1 ∷ 0 ∷ 1 ∷ 3 ∷ 3 ∷ 0 ∷ 0 ∷ []))
+    ∷ row Q (testedOn (storeOf 3 runsOfThree) detectsRising) (value (1 ∷ 1 ∷ 4 ∷ 3 ∷ 3 ∷ 2 ∷ 3 ∷ []))
+    ∷ row Q (reportOf (storeOf 0 runsOfThree)) (refused 41)
+    ∷ row Q (reportOf (storeOf maxTests runsOfThree)) (value (reportOfThree 4294967295))
+    ∷ row Q (testedOn (storeOf maxTests runsOfThree) detectsRising) (refused 86)
+    ∷ row Q (testedOn (set (storeOf maxTests runsOfThree) (storeWords - 1) 1) detectsRising) (refused 42)
+    ∷ row (spread 3) (testedOn (set emptyStore testsWord maxTests) aRises) (refused 86)
+    ∷ row Q (reportOf (storeOf (suc maxTests) runsOfThree)) (refused 40)
     ∷ []
 
 -- Ticket 1: a gate of one pin was 14 and is taken; no pin and nine pins are 14, two pins of NOT too. NAND of one pin is NOT, and its pin is open.

@@ -11,6 +11,7 @@ pub mod SinglePin
 pub mod Report
 pub mod Numbering
 pub mod Demand3
+pub mod Counted
 pub mod Wires
 pub mod Classes
 pub mod Unchanged

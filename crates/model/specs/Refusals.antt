@@ -41,3 +41,4 @@ refusalNumber why.BenchCount = 82
 refusalNumber why.UnknownClass = 83
 refusalNumber why.PathTooLong = 84
 refusalNumber why.UnchangedPair = 85
+refusalNumber why.TestsFull = 86

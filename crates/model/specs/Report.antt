@@ -13,7 +13,7 @@ use Rattle.model.specs.Path.{Edge, rising, falling}
 use Rattle.model.specs.Runs.{Run, size}
 use Rattle.model.specs.Detect.{Class}
 use Rattle.model.specs.Read.{marked, readNetlist, classOf, recordLength}
-use Rattle.model.specs.Store.{ByEdge, emptyStore, runsByEdge, storeRules}
+use Rattle.model.specs.Store.{ByEdge, emptyStore, testsTaken, maxTests, runsByEdge, storeRules}
 use Rattle.model.specs.Calls.{storeRule, storeLeft, testStage, beforeTest}
 
 -- bytes of a report buffer, at the least
@@ -53,20 +53,20 @@ unfoldable pub namedRuns : List ℕ → Edge → List Run
 namedRuns report rising = runsIn (drop 34 report) (field 14 2 report)
 namedRuns report falling = runsIn (drop (34 + 16 * field 14 2 report) report) (field 16 2 report)
 
--- The writer
-unfoldable pub writerCall : List ℕ → List ℕ → ℕ → List ℕ → Answer (List ℕ)
-writerCall netlist ws testCount buffer =
+-- The writer: the number of tests is the store's
+unfoldable pub writerCall : List ℕ → List ℕ → List ℕ → Answer (List ℕ)
+writerCall netlist ws buffer =
     checks (storeRule ws ∷ reportRule buffer ∷ [])
     >> readNetlist netlist
     >>= λ N. checks (storeRules (pathTotal N) ws)
-    >> value (reportRecord testCount (pathTotal N) (runsByEdge ws))
+    >> value (reportRecord (testsTaken ws) (pathTotal N) (runsByEdge ws))
 
 -- it returns the record's length, and bytes past the record are untouched
-unfoldable pub writerAnswer : List ℕ → List ℕ → ℕ → List ℕ → Answer ℕ
-writerAnswer netlist ws testCount buffer = writerCall netlist ws testCount buffer >>= λ r. value (length r)
+unfoldable pub writerAnswer : List ℕ → List ℕ → List ℕ → Answer ℕ
+writerAnswer netlist ws buffer = writerCall netlist ws buffer >>= λ r. value (length r)
 
-unfoldable pub writerBuffer : List ℕ → List ℕ → ℕ → List ℕ → List ℕ
-writerBuffer netlist ws testCount buffer = after (writerCall netlist ws testCount buffer) buffer (λ r. r ++ drop (length r) buffer)
+unfoldable pub writerBuffer : List ℕ → List ℕ → List ℕ → List ℕ
+writerBuffer netlist ws buffer = after (writerCall netlist ws buffer) buffer (λ r. r ++ drop (length r) buffer)
 
 -- `n` records of `len` bytes, end to end
 abbrev pub records : ℕ → ℕ → List ℕ → List (List ℕ)
@@ -78,7 +78,7 @@ fileRecords N testFile = records (recordLength N) (length testFile / recordLengt
 
 -- a whole number of records, and not over 4,294,967,295 of them
 abbrev pub wholeRecords : Netlist → List ℕ → Bool
-wholeRecords N testFile = eqb (length testFile % recordLength N) 0 && leb (length testFile / recordLength N) 4294967295
+wholeRecords N testFile = eqb (length testFile % recordLength N) 0 && leb (length testFile / recordLength N) maxTests
 
 -- the test calls with the records in order, all in one class; the store that they leave
 unfoldable pub testAll : Netlist → Class → List (List ℕ) → List ℕ → Answer (List ℕ)

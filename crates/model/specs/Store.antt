@@ -1,7 +1,8 @@
 -- The store: words that hold the runs of the tested path numbers of each edge.
--- Words: rising runs, falling runs, then 1,024 places for rising runs and 1,024 for falling; each place a low and a high, zeros after the last.
+-- Words: rising runs, falling runs, tests taken, then 1,024 places for rising runs and 1,024 for falling; each place a low and a high, zeros
+-- after the last.
 -- Assumes nothing.
-use mathlib.Core.Bool.{Bool, _&&_}
+use mathlib.Core.Bool.{Bool, _&&_, _||_}
 use mathlib.Core.List.{List, [], _∷_, _++_}
 use Prim.Native.Nat.{ℕ, zero, suc, _+_, _-_, _*_}
 use lib.Dec.{leb, eqb}
@@ -34,7 +35,7 @@ abbrev pub placeWords : ℕ
 placeWords = 2 * maxRuns
 
 abbrev pub headWords : ℕ
-headWords = 2
+headWords = 3
 
 abbrev pub storeWords : ℕ
 storeWords = headWords + 2 * placeWords
@@ -48,6 +49,13 @@ abbrev pub firstWord : Edge → ℕ
 firstWord rising = headWords
 firstWord falling = headWords + placeWords
 
+-- the word with the number of tests taken, and the most that it may be
+abbrev pub testsWord : ℕ
+testsWord = 2
+
+abbrev pub maxTests : ℕ
+maxTests = 4294967295
+
 -- Empty is all zeros
 abbrev pub emptyStore : List ℕ
 emptyStore = replicate storeWords 0
@@ -59,6 +67,9 @@ runsAt ws at (suc n) = record { low = getD ws at 0; high = getD ws (suc at) 0 } 
 
 abbrev pub runCount : List ℕ → Edge → ℕ
 runCount ws e = getD ws (countWord e) 0
+
+abbrev pub testsTaken : List ℕ → ℕ
+testsTaken ws = getD ws testsWord 0
 
 -- The runs of an edge in a store's words. A store holds a fault when its path's number lies in one of the runs of its edge
 unfoldable pub storeRuns : List ℕ → Edge → List Run
@@ -75,18 +86,24 @@ lowsHighs (r ∷ rs) = r .low ∷ r .high ∷ lowsHighs rs
 abbrev pub places : List Run → List ℕ
 places rs = lowsHighs rs ++ replicate (placeWords - 2 * length rs) 0
 
--- The words of a store that has these runs
-unfoldable pub storeOf : ByEdge (List Run) → List ℕ
-storeOf s = length (s .onRising) ∷ length (s .onFalling) ∷ places (s .onRising) ++ places (s .onFalling)
+-- The words of a store with this number of tests taken and these runs
+unfoldable pub storeOf : ℕ → ByEdge (List Run) → List ℕ
+storeOf tests s = length (s .onRising) ∷ length (s .onFalling) ∷ tests ∷ places (s .onRising) ++ places (s .onFalling)
 
 -- the words past an edge's last run
 abbrev pub wordsAfter : List ℕ → Edge → List ℕ
 wordsAfter ws e = take (placeWords - 2 * runCount ws e) (drop (firstWord e + 2 * runCount ws e) ws)
 
+-- no tests taken, no runs
+abbrev pub runsOfTests : List ℕ → Bool
+runsOfTests ws = leb 1 (testsTaken ws) || bothEdges (λ e. eqb (runCount ws e) 0)
+
 -- Store: the rules of a store's words, for path numbers 1 to `paths`
 abbrev pub storeRules : ℕ → List ℕ → List Rule
 storeRules paths ws =
     (40, bothEdges (λ e. leb (runCount ws e) maxRuns))
+    ∷ (40, leb (testsTaken ws) maxTests)
     ∷ (41, bothEdges (λ e. separatedRuns paths 1 (storeRuns ws e)))
+    ∷ (41, runsOfTests ws)
     ∷ (42, bothEdges (λ e. allOf (λ w. eqb w 0) (wordsAfter ws e)))
     ∷ []

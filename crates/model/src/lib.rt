@@ -3,15 +3,20 @@ ghost use mathlib.Core.Path.{_≡_};
 ghost use Rattle.model.specs.Read.{within};
 ghost use Rattle.model.specs.Refusals.{refusalNumber};
 
-// The words of a store: two numbers of runs, then the places of each edge.
-pub const HEAD_WORDS: usize = 2;
+// The words of a store: two numbers of runs, the number of tests taken, then the places of each edge.
+pub const HEAD_WORDS: usize = 3;
+
+pub const TESTS_WORD: usize = 2;
 
 pub const PLACE_WORDS: usize = 2048;
 
-pub const STORE_WORDS: usize = 4098;
+pub const STORE_WORDS: usize = 4099;
 
 // The most runs of an edge, in a store and in working memory.
 pub const MAX_RUNS: usize = 1024;
+
+// The most tests that a store counts, and the most records of a test file.
+pub const MAX_TESTS: u64 = 0xffff_ffff;
 
 // The least words of working memory.
 pub const WORK_WORDS: usize = 8192;
@@ -68,6 +73,7 @@ pub enum Refusal {
     UnknownClass,
     PathTooLong,
     UnchangedPair,
+    TestsFull,
 }
 
 // Class 1 or 2.
@@ -118,5 +124,6 @@ pub fn refusal_number(why: Refusal) -> u32
         Refusal::UnknownClass => 83,
         Refusal::PathTooLong => 84,
         Refusal::UnchangedPair => 85,
+        Refusal::TestsFull => 86,
     }
 }

@@ -1,6 +1,6 @@
 -- The report put together from its parts, and the writer case by case as the code meets them.
 -- Assumes nothing.
-use mathlib.Core.Path.{_≡_, refl, ap, sym, _∙_}
+use mathlib.Core.Path.{_≡_, refl, ap, ap₂, sym, _∙_}
 use mathlib.Core.List.{List, _++_, append-assoc}
 use Prim.Native.Nat.{ℕ, _+_, _*_, _/_, _^_, _≤_, _<_}
 use native.Mathlib.Omega.{arith}
@@ -12,7 +12,7 @@ use Rattle.model.specs.Base.{refused, value, checks}
 use Rattle.model.specs.Netlist.{pathTotal}
 use Rattle.model.specs.Path.{rising, falling}
 use Rattle.model.specs.Refusals.{refusalNumber}
-use Rattle.model.specs.Store.{runsByEdge, storeWords, storeRules}
+use Rattle.model.specs.Store.{testsTaken, runsByEdge, storeWords, storeRules}
 use Rattle.model.specs.Report.{reportRecord, reportBufferBytes, writerCall, writerAnswer, writerBuffer}
 use Rattle.model.specs.declared.Refusal.{Refusal}
 use Rattle.model.specs.declared.Refusal.the-variants as why
@@ -66,13 +66,13 @@ module _ (ws : List ℕ) (sound : SoundWords (2 ^ 62) ws) (R : List ℕ) (er : R
 
 pub ruleset put-report-cases = (rising-room, falling-room, record-small, needs)
 
-module _ (netlist ws : List ℕ) (tests : ℕ) (buffer : List ℕ) where
-  pub writer-store : (length ws ≡ storeWords → ⊥) → WriteTrue (write.Refused why.StoreLength) netlist ws tests buffer buffer
+module _ (netlist ws buffer : List ℕ) where
+  pub writer-store : (length ws ≡ storeWords → ⊥) → WriteTrue (write.Refused why.StoreLength) netlist ws buffer buffer
   unfolding writerCall writerAnswer writerBuffer
   writer-store d = record { answer = rw (ne-eqb (length ws) storeWords d) refl; buffer = rw (ne-eqb (length ws) storeWords d) refl }
 
   module _ (l : length ws ≡ storeWords) where
-    pub writer-short : length buffer < reportBufferBytes → WriteTrue (write.Refused why.ReportBufferLength) netlist ws tests buffer buffer
+    pub writer-short : length buffer < reportBufferBytes → WriteTrue (write.Refused why.ReportBufferLength) netlist ws buffer buffer
     unfolding writerCall writerAnswer writerBuffer
     writer-short h = record {
       answer = rw (eq-eqb (length ws) storeWords l, lt-leb reportBufferBytes (length buffer) h) refl;
@@ -80,7 +80,7 @@ module _ (netlist ws : List ℕ) (tests : ℕ) (buffer : List ℕ) where
     }
 
     module _ (h : reportBufferBytes ≤ length buffer) (s : Surveyed) (st : SurveyTrue s netlist) where
-      pub writer-netlist : (w : Refusal) → s .answer ≡ survey.Refused w → WriteTrue (write.Refused w) netlist ws tests buffer buffer
+      pub writer-netlist : (w : Refusal) → s .answer ≡ survey.Refused w → WriteTrue (write.Refused w) netlist ws buffer buffer
       unfolding writerCall writerAnswer writerBuffer
       writer-netlist w e =
           let z = refused-survey netlist (s .answer) (st .answer) w e in
@@ -100,7 +100,7 @@ module _ (netlist ws : List ℕ) (tests : ℕ) (buffer : List ℕ) where
           rules : checkOf k ≡ checks (storeRules (pathTotal (is .netlist)) ws)
           rules = checked ∙ ap (λ t. checks (storeRules t ws)) (is .totalIs)
 
-          pub writer-words : (w : Refusal) → k ≡ check.Refused w → WriteTrue (write.Refused w) netlist ws tests buffer buffer
+          pub writer-words : (w : Refusal) → k ≡ check.Refused w → WriteTrue (write.Refused w) netlist ws buffer buffer
           unfolding writerCall writerAnswer writerBuffer
           writer-words w f =
               let z : checks (storeRules (pathTotal (is .netlist)) ws) ≡ refused (refusalNumber w) = sym rules ∙ ap checkOf f in
@@ -113,14 +113,14 @@ module _ (netlist ws : List ℕ) (tests : ℕ) (buffer : List ℕ) where
             pub writer-sound : SoundWords (2 ^ 62) ws
             writer-sound = checked-sound (s .survey .total) ws k checked l writer-total f
 
-            pub writer-written : (r : ℕ) (left : List ℕ) → ReportPut r tests (s .survey .total) ws buffer left
-                → WriteTrue (write.Written r) netlist ws tests buffer left
+            pub writer-written : (tests r : ℕ) (left : List ℕ) → tests ≡ testsTaken ws → ReportPut r tests (s .survey .total) ws buffer left
+                → WriteTrue (write.Written r) netlist ws buffer left
             unfolding writerCall writerAnswer writerBuffer
-            writer-written r left p =
-                let R : List ℕ = reportRecord tests (pathTotal (is .netlist)) (runsByEdge ws) in
+            writer-written tests r left et p =
+                let R : List ℕ = reportRecord (testsTaken ws) (pathTotal (is .netlist)) (runsByEdge ws) in
                 let z : checks (storeRules (pathTotal (is .netlist)) ws) ≡ value tt = sym rules ∙ ap checkOf f in
-                let same : reportRecord tests (s .survey .total) (runsByEdge ws) ≡ R = ap (λ t. reportRecord tests t (runsByEdge ws)) (is .totalIs) in
-                let fits : length R ≤ length buffer = omega (arith, record-fits tests (pathTotal (is .netlist)) ws (writer-sound .few)) in
+                let same : reportRecord tests (s .survey .total) (runsByEdge ws) ≡ R = ap₂ (λ n t. reportRecord n t (runsByEdge ws)) et (is .totalIs) in
+                let fits : length R ≤ length buffer = omega (arith, record-fits (testsTaken ws) (pathTotal (is .netlist)) ws (writer-sound .few)) in
                 let n : 0 + length R ≡ length R = omega arith in
                 let put : left ≡ R ++ drop (length R) buffer =
                 p .bytes ∙ ap (λ (x : List ℕ). sets buffer 0 x) same ∙ sets-eq R buffer 0 (omega arith) ∙ ap (λ (i : ℕ). R ++ drop i buffer) n in

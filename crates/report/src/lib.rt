@@ -11,6 +11,7 @@ use netlist::SurveyAnswer;
 use netlist::survey;
 use store_words::inner::StoreCheck;
 use store_words::inner::check_words;
+use store_words::inner::parts::tests_taken;
 
 // The length of the record that was written.
 pub enum WriteAnswer {
@@ -18,9 +19,9 @@ pub enum WriteAnswer {
     Refused(Refusal),
 }
 
-// Writes the report of a store and a number of tests. A refused call leaves the bytes as they were.
-pub fn write_report(netlist: &[u8], store: &[u64], tests: u32, report: &mut [u8]) -> WriteAnswer
-    ensures { λ r. ⌜ WriteTrue r (now (netlist .entry)) (now (store .entry)) tests (now (report .entry)) (now (report .exit)) ⌝ }
+// Writes the report of a store, with the number of tests that it counts. A refused call leaves the bytes as they were.
+pub fn write_report(netlist: &[u8], store: &[u64], report: &mut [u8]) -> WriteAnswer
+    ensures { λ r. ⌜ WriteTrue r (now (netlist .entry)) (now (store .entry)) (now (report .entry)) (now (report .exit)) ⌝ }
 {
     if store.len() != STORE_WORDS {
         return WriteAnswer::Refused(Refusal::StoreLength);
@@ -38,7 +39,7 @@ pub fn write_report(netlist: &[u8], store: &[u64], tests: u32, report: &mut [u8]
             match checked {
                 StoreCheck::Refused(why) => WriteAnswer::Refused(why),
                 StoreCheck::Sound => {
-                    let length = put_report(report, tests as u64, total, store);
+                    let length = put_report(report, tests_taken(store), total, store);
                     WriteAnswer::Written(length)
                 }
             }

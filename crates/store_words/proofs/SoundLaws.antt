@@ -36,8 +36,8 @@ sound-words paths ws l e =
         fewRising = leb→le (runCount ws rising) maxRuns (and-left (few rising) (few falling) (p .0));
         fewFalling = leb→le (runCount ws falling) maxRuns (and-right (few rising) (few falling) (p .0));
       };
-      soundRising = separated→ paths 1 (storeRuns ws rising) (and-left (apart rising) (apart falling) (p .1 .0));
-      soundFalling = separated→ paths 1 (storeRuns ws falling) (and-right (apart rising) (apart falling) (p .1 .0));
+      soundRising = separated→ paths 1 (storeRuns ws rising) (and-left (apart rising) (apart falling) (p .1 .1 .0));
+      soundFalling = separated→ paths 1 (storeRuns ws falling) (and-right (apart rising) (apart falling) (p .1 .1 .0));
     }
 
 -- edge by edge

@@ -1,4 +1,4 @@
-// A store of 4,098 words, for our own crates: its checks, and the sums and searches of words that pass them.
+// A store of 4,099 words, for our own crates: its checks, and the sums and searches of words that pass them.
 // Its run places are the words after the head: rising runs from run place 0 on, falling runs from MAX_RUNS on.
 pub mod parts;
 
@@ -8,7 +8,7 @@ ghost use lib.Dec.{eqb, leb};
 ghost use lib.ListN.{length, take, drop};
 ghost use Rattle.model.specs.Base.{allOf, checks};
 ghost use Rattle.model.specs.Runs.{inRuns, separatedRuns};
-ghost use Rattle.model.specs.Store.{maxRuns, storeWords, bothEdges, runCount, storeRuns, wordsAfter, storeRules};
+ghost use Rattle.model.specs.Store.{maxRuns, maxTests, storeWords, bothEdges, runCount, testsTaken, runsOfTests, storeRuns, wordsAfter, storeRules};
 ghost use Rattle.faults.specs.Answers.{modelEdge};
 ghost use Rattle.store_words.specs.WordAnswers.{checkOf, totalsIn, totalsBoth};
 ghost use Rattle.store_words.specs.Sound.{FewRuns, SoundWords};
@@ -16,8 +16,10 @@ use faults::Edge;
 use faults::PathNo;
 use model::HEAD_WORDS;
 use model::MAX_RUNS;
+use model::MAX_TESTS;
 use model::PLACE_WORDS;
 use model::Refusal;
+use model::TESTS_WORD;
 use runs::inner::contains;
 use runs::inner::separated;
 use runs::inner::size;
@@ -68,6 +70,25 @@ fn few_runs(words: &[u64]) -> bool
     rising <= MAX_RUNS && falling <= MAX_RUNS
 }
 
+// Whether the number of tests taken is one that a store counts.
+fn few_tests(words: &[u64]) -> bool
+    requires { ⌜ length (now words) ≡ storeWords ⌝ }
+    ensures { λ r. ⌜ r ≡ leb (testsTaken (now (words .entry))) maxTests ⌝ }
+{
+    words[TESTS_WORD] <= MAX_TESTS
+}
+
+// Whether a store without tests has no runs.
+fn runs_of_tests(words: &[u64]) -> bool
+    requires { ⌜ length (now words) ≡ storeWords ⌝ }
+    ensures { λ r. ⌜ r ≡ runsOfTests (now (words .entry)) ⌝ }
+{
+    if 0 < words[TESTS_WORD] {
+        return true;
+    }
+    words[RISING_COUNT] == 0 && words[FALLING_COUNT] == 0
+}
+
 // Whether the runs of both edges lie within 1 to `paths`, ascending and neither adjacent nor overlapping.
 fn separated_runs(words: &[u64], paths: u64) -> bool
     requires { ⌜ FewRuns (now words) ⌝ }
@@ -100,7 +121,13 @@ pub fn check_words(words: &[u64], paths: u64) -> StoreCheck
     if !few_runs(words) {
         return StoreCheck::Refused(Refusal::RunCount);
     }
+    if !few_tests(words) {
+        return StoreCheck::Refused(Refusal::RunCount);
+    }
     if !separated_runs(words, paths) {
+        return StoreCheck::Refused(Refusal::RunRange);
+    }
+    if !runs_of_tests(words) {
         return StoreCheck::Refused(Refusal::RunRange);
     }
     if !zeros_after(words) {

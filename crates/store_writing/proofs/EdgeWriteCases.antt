@@ -13,7 +13,8 @@ use borrow.Rule.Slice.PartMut.{putMid}
 use Rattle.model.specs.Base.{value, checks}
 use Rattle.model.specs.Path.{Edge, rising, falling}
 use Rattle.model.specs.Runs.{Run}
-use Rattle.model.specs.Store.{ByEdge, ofEdge, maxRuns, placeWords, headWords, storeWords, countWord, firstWord, runCount, runsAt, lowsHighs, places, storeOf, storeRuns, runsByEdge, storeRules}
+use Rattle.model.specs.Store.{ByEdge, ofEdge, maxRuns, placeWords, headWords, storeWords, countWord, firstWord, runCount, runsAt, lowsHighs, places, storeOf}
+use Rattle.model.specs.Store.{testsTaken, storeRuns, runsByEdge, storeRules}
 use Rattle.model.proofs.AnswerLaws.{checks→}
 use Rattle.model.proofs.StoreLaws.{length-lowsHighs, length-places, length-runsAt, runCount-store, runs-store, length-store, store-runs}
 use Rattle.records.proofs.PartLaws.{part-rest}
@@ -41,11 +42,11 @@ zero-after pre post rs k i e h a b =
     ∙ List·getD-append (replicate (placeWords - 2 * length rs) 0) post 0 (i - (k + 2 * length rs)) (omega (arith, n))
     ∙ getD-replicate (placeWords - 2 * length rs) (i - (k + 2 * length rs)) 0 0 (omega arith)
 
-head-put : (a b : ℕ) (qs ps : List ℕ) → putMid headWords (length (a ∷ b ∷ qs) - headWords) (a ∷ b ∷ qs) ps ≡ a ∷ b ∷ ps
-head-put a b qs ps =
-    let z : suc (suc (length qs)) - headWords ≡ length qs = omega arith in
+head-put : (a b n : ℕ) (qs ps : List ℕ) → putMid headWords (length (a ∷ b ∷ n ∷ qs) - headWords) (a ∷ b ∷ n ∷ qs) ps ≡ a ∷ b ∷ n ∷ ps
+head-put a b n qs ps =
+    let z : suc (suc (suc (length qs))) - headWords ≡ length qs = omega arith in
     let d : drop (length qs) qs ≡ [] = drop-of-length-le qs {i = length qs} (omega arith) in
-    ap (λ (x : List ℕ). a ∷ b ∷ (ps ++ x)) (ap (λ k. drop k qs) z ∙ d) ∙ ap (λ (x : List ℕ). a ∷ b ∷ x) (append-nil ps)
+    ap (λ (x : List ℕ). a ∷ b ∷ n ∷ (ps ++ x)) (ap (λ k. drop k qs) z ∙ d) ∙ ap (λ (x : List ℕ). a ∷ b ∷ n ∷ x) (append-nil ps)
 
 -- the words after the head, as the code lends them when a number of runs is written
 abbrev lentPlaces : List ℕ → ℕ → ℕ → List ℕ
@@ -56,10 +57,10 @@ lent-places ws p v h = part-rest headWords (set ws p v) ∙ drop-set-lt headWord
 
 module _ {ws : List ℕ} {s : ByEdge (List Run)} (has : StoreHas ws s) where
   store-long : length ws ≡ storeWords
-  store-long = ap (λ (x : List ℕ). length x) (has .is) ∙ length-store s (has .few)
+  store-long = ap (λ (x : List ℕ). length x) (has .is) ∙ length-store (testsTaken ws) s (has .few)
 
   held-count : (e : Edge) (p : ℕ) → p ≡ countWord e → getD ws p 0 ≡ length (ofEdge s e)
-  held-count e p q = ap₂ (λ (x : List ℕ) (i : ℕ). getD x i 0) (has .is) q ∙ runCount-store s (has .few) e
+  held-count e p q = ap₂ (λ (x : List ℕ) (i : ℕ). getD x i 0) (has .is) q ∙ runCount-store (testsTaken ws) s (has .few) e
 
   places-are : drop headWords ws ≡ places (s .onRising) ++ places (s .onFalling)
   unfolding storeOf
@@ -68,11 +69,11 @@ module _ {ws : List ℕ} {s : ByEdge (List Run)} (has : StoreHas ws s) where
   runs-held : (e : Edge) → runsInWords (drop headWords ws) (firstRun e) (length (ofEdge s e)) ≡ ofEdge s e
   unfolding storeRuns
   runs-held e =
-      let n : runCount ws e ≡ length (ofEdge s e) = ap (λ (x : List ℕ). runCount x e) (has .is) ∙ runCount-store s (has .few) e in
+      let n : runCount ws e ≡ length (ofEdge s e) = ap (λ (x : List ℕ). runCount x e) (has .is) ∙ runCount-store (testsTaken ws) s (has .few) e in
       runs-of-part ws headWords (firstRun e) (length (ofEdge s e))
       ∙ ap₂ (λ (i k : ℕ). runsAt ws i k) (first-word e) (sym n)
       ∙ ap (λ (x : List ℕ). storeRuns x e) (has .is)
-      ∙ runs-store s (has .few) e
+      ∙ runs-store (testsTaken ws) s (has .few) e
     where
       first-word : (d : Edge) → headWords + 2 * firstRun d ≡ firstWord d
       first-word rising = refl
@@ -90,7 +91,7 @@ module _ {ws : List ℕ} {s : ByEdge (List Run)} (has : StoreHas ws s) where
     written-over : (rs : List Run) → length rs ≤ maxRuns → length (places rs) ≡ 2 * length (paddedRuns new)
     written-over rs h = length-places rs h ∙ omega (arith, length-padded new few)
 
-    edge-written : (e : Edge) → writeRuns (drop headWords ws) (firstRun e) (paddedRuns new) ≡ drop headWords (storeOf (withRuns e new s))
+    edge-written : (e : Edge) → writeRuns (drop headWords ws) (firstRun e) (paddedRuns new) ≡ drop headWords (storeOf (testsTaken ws) (withRuns e new s))
     unfolding storeOf
     edge-written rising =
         ap (λ (x : List ℕ). writeRuns x 0 (paddedRuns new)) places-are
@@ -104,18 +105,20 @@ module _ {ws : List ℕ} {s : ByEdge (List Run)} (has : StoreHas ws s) where
 
     head-written : (e : Edge) (n : ℕ) → n ≡ length new → (ps : List ℕ)
         → putMid headWords (length (set ws (countWord e) n) - headWords) (set ws (countWord e) n) ps
-        ≡ (length (withRuns e new s .onRising) ∷ length (withRuns e new s .onFalling) ∷ ps)
+        ≡ (length (withRuns e new s .onRising) ∷ length (withRuns e new s .onFalling) ∷ testsTaken ws ∷ ps)
     unfolding storeOf
     head-written rising n q ps =
         ap (λ (x : List ℕ). putMid headWords (length (set x 0 n) - headWords) (set x 0 n) ps) (has .is)
-        ∙ head-put n (length (s .onFalling)) (places (s .onRising) ++ places (s .onFalling)) ps
-        ∙ ap (λ (x : ℕ). x ∷ length (s .onFalling) ∷ ps) q
+        ∙ head-put n (length (s .onFalling)) (testsTaken ws) (places (s .onRising) ++ places (s .onFalling)) ps
+        ∙ ap (λ (x : ℕ). x ∷ length (s .onFalling) ∷ testsTaken ws ∷ ps) q
     head-written falling n q ps =
         ap (λ (x : List ℕ). putMid headWords (length (set x 1 n) - headWords) (set x 1 n) ps) (has .is)
-        ∙ head-put (length (s .onRising)) n (places (s .onRising) ++ places (s .onFalling)) ps
-        ∙ ap (λ (x : ℕ). length (s .onRising) ∷ x ∷ ps) q
+        ∙ head-put (length (s .onRising)) n (testsTaken ws) (places (s .onRising) ++ places (s .onFalling)) ps
+        ∙ ap (λ (x : ℕ). length (s .onRising) ∷ x ∷ testsTaken ws ∷ ps) q
 
-    store-head : (e : Edge) → (length (withRuns e new s .onRising) ∷ length (withRuns e new s .onFalling) ∷ drop headWords (storeOf (withRuns e new s))) ≡ storeOf (withRuns e new s)
+    store-head : (e : Edge) →
+        (length (withRuns e new s .onRising) ∷ length (withRuns e new s .onFalling) ∷ testsTaken ws ∷ drop headWords (storeOf (testsTaken ws) (withRuns e new s)))
+        ≡ storeOf (testsTaken ws) (withRuns e new s)
     unfolding storeOf
     store-head e = refl
 
@@ -183,8 +186,10 @@ module _ {words : List ℕ} {made : ℕ} {change : Change} {e : Edge} {ws : List
 
 -- An edge's runs that are kept, or changed
 module _ (words : List ℕ) (made : ℕ) (ws : List ℕ) (e : Edge) where
-  pub runs-kept : (change : Change) → change ≡ Kept → (s : ByEdge (List Run)) → StoreHas ws s → ws ≡ storeOf (withRuns e (changed change words made (ofEdge s e)) s)
-  runs-kept change k s has = has .is ∙ ap storeOf (same e) ∙ ap (λ (c : Change). storeOf (withRuns e (changed c words made (ofEdge s e)) s)) (sym k)
+  pub runs-kept : (change : Change) → change ≡ Kept → (s : ByEdge (List Run)) → StoreHas ws s
+      → ws ≡ storeOf (testsTaken ws) (withRuns e (changed change words made (ofEdge s e)) s)
+  runs-kept change k s has =
+      has .is ∙ ap (storeOf (testsTaken ws)) (same e) ∙ ap (λ (c : Change). storeOf (testsTaken ws) (withRuns e (changed c words made (ofEdge s e)) s)) (sym k)
     where
       same : (d : Edge) → s ≡ withRuns d (ofEdge s d) s
       same rising = refl
@@ -201,7 +206,8 @@ module _ (words : List ℕ) (made : ℕ) (ws : List ℕ) (e : Edge) where
     pub runs-made : (ps : List ℕ)
         → ps ≡ writeRuns (lentPlaces ws p heldThen) first (paddedRuns (replaced from to (runsInWords words made n) (runsInWords (lentPlaces ws p heldThen) first heldBefore)))
         → (s : ByEdge (List Run)) → StoreHas ws s
-        → putMid headWords (length (set ws p heldThen) - headWords) (set ws p heldThen) ps ≡ storeOf (withRuns e (changed change words made (ofEdge s e)) s)
+        → putMid headWords (length (set ws p heldThen) - headWords) (set ws p heldThen) ps
+        ≡ storeOf (testsTaken ws) (withRuns e (changed change words made (ofEdge s e)) s)
     runs-made ps wrote s has =
         let new : List Run = replaced from to (runsInWords words made n) (ofEdge s e) in
         let held : getD ws p 0 ≡ length (ofEdge s e) = held-count has e p word in
@@ -211,15 +217,15 @@ module _ (words : List ℕ) (made : ℕ) (ws : List ℕ) (e : Edge) where
         let old : runsInWords (lentPlaces ws p heldThen) first heldBefore ≡ ofEdge s e =
         ap₂ (λ (x : List ℕ) (i : ℕ). runsInWords x i heldBefore) (lent-places ws p heldThen head) at
         ∙ ap (λ (k : ℕ). runsInWords (drop headWords ws) (firstRun e) k) held ∙ runs-held has e in
-        let w : ps ≡ drop headWords (storeOf (withRuns e new s)) =
+        let w : ps ≡ drop headWords (storeOf (testsTaken ws) (withRuns e new s)) =
         wrote
         ∙ ap (λ (rs : List Run). writeRuns (lentPlaces ws p heldThen) first (paddedRuns (replaced from to (runsInWords words made n) rs))) old
         ∙ ap₂ (λ (x : List ℕ) (i : ℕ). writeRuns x i (paddedRuns new)) (lent-places ws p heldThen head) at
         ∙ edge-written has new few e in
         ap (λ (i : ℕ). putMid headWords (length (set ws i heldThen) - headWords) (set ws i heldThen) ps) word
         ∙ head-written has new few e heldThen (sym long) ps
-        ∙ ap (λ (x : List ℕ). length (withRuns e new s .onRising) ∷ length (withRuns e new s .onFalling) ∷ x) w
+        ∙ ap (λ (x : List ℕ). length (withRuns e new s .onRising) ∷ length (withRuns e new s .onFalling) ∷ testsTaken ws ∷ x) w
         ∙ store-head has new few e
-        ∙ ap (λ (c : Change). storeOf (withRuns e (changed c words made (ofEdge s e)) s)) (sym is)
+        ∙ ap (λ (c : Change). storeOf (testsTaken ws) (withRuns e (changed c words made (ofEdge s e)) s)) (sym is)
 
 pub ruleset write-runs-cases = (count-inside, head-inside, cut-held, sum-fits, then-fits, runs-kept, needs)

@@ -6,7 +6,7 @@ use Prim.Native.Nat.{ℕ, zero, suc, _+_, _-_, _*_, _≤_, _<_}
 use lib.ListN.{length, getD, take, drop, set, replicate}
 use Rattle.model.specs.Path.{Edge, rising, falling}
 use Rattle.model.specs.Runs.{Run}
-use Rattle.model.specs.Store.{ByEdge, ofEdge, maxRuns, storeOf}
+use Rattle.model.specs.Store.{ByEdge, ofEdge, maxRuns, testsTaken, storeOf}
 use Rattle.runs.specs.RunLists.{run, runsInWords}
 use Rattle.store_writing.specs.declared.inner.Change.{Change}
 use Rattle.store_writing.specs.declared.inner.Change.the-variants.{Kept, Made}
@@ -53,7 +53,7 @@ withRuns falling rs s = record { onRising = s .onRising; onFalling = rs }
 
 -- the words are those of a store that has these runs
 pub record StoreHas (ws : List ℕ) (s : ByEdge (List Run)) : Type 0 where
-  pub is : ws ≡ storeOf s
+  pub is : ws ≡ storeOf (testsTaken ws) s
   pub few : (e : Edge) → length (ofEdge s e) ≤ maxRuns
 
 -- a store, and a change of an edge's runs: what it replaces lies among them, those afterwards fit, and what is made stands in the words
@@ -64,6 +64,7 @@ pub record Writable (words : List ℕ) (made : ℕ) (change : Change) (e : Edge)
   pub few : length (changed change words made (ofEdge runs e)) ≤ maxRuns
   pub room : 2 * (made + maxRuns) ≤ length words
 
--- the words afterwards are those of the store with the edge's runs changed
+-- the words afterwards are those of the store with the edge's runs changed, and no test more
 abbrev pub Rewritten : List ℕ → ℕ → Change → Edge → List ℕ → List ℕ → Type 0
-Rewritten words made change e ws ws′ = (s : ByEdge (List Run)) → StoreHas ws s → ws′ ≡ storeOf (withRuns e (changed change words made (ofEdge s e)) s)
+Rewritten words made change e ws ws′ =
+    (s : ByEdge (List Run)) → StoreHas ws s → ws′ ≡ storeOf (testsTaken ws) (withRuns e (changed change words made (ofEdge s e)) s)

@@ -1,14 +1,15 @@
-// Writing an edge's runs over those that a store holds, and making words zero.
+// Writing an edge's runs over those that a store holds, counting a test, and making words zero.
 ghost use mathlib.Core.Path.{_≡_};
 ghost use Prim.Native.Nat.{_+_, _-_, _*_, _≤_, _<_};
-ghost use lib.ListN.{length, replicate};
-ghost use Rattle.model.specs.Store.{maxRuns, headWords, countWord};
+ghost use lib.ListN.{length, set, replicate};
+ghost use Rattle.model.specs.Store.{maxRuns, maxTests, headWords, storeWords, countWord, testsWord, testsTaken};
 ghost use Rattle.runs.specs.RunLists.{runsInWords, writeRuns};
 ghost use Rattle.faults.specs.Answers.{modelEdge};
 ghost use Rattle.store_writing.specs.Writing.{zeroed, paddedRuns, ZeroWords, firstRun, replaced, Writable, Rewritten};
 use faults::Edge;
 use model::HEAD_WORDS;
 use model::MAX_RUNS;
+use model::TESTS_WORD;
 use run_union::inner::copy;
 use run_union::inner::moving::move_runs;
 use store_words::inner::FALLING_COUNT;
@@ -100,6 +101,14 @@ pub fn write_runs(words: &[u64], made: usize, change: Change, store: &mut [u64],
             );
         }
     }
+}
+
+// Counts one more test.
+pub fn count_test(store: &mut [u64])
+    requires { ⌜ (length (now store) ≡ storeWords) × (testsTaken (now store) < maxTests) ⌝ }
+    ensures { λ _. ⌜ now (store .exit) ≡ set (now (store .entry)) testsWord (testsTaken (now (store .entry)) + 1) ⌝ }
+{
+    store[TESTS_WORD] = store[TESTS_WORD] + 1;
 }
 
 // Makes every word zero.

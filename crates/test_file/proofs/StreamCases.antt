@@ -35,7 +35,6 @@ use Rattle.test_file.specs.declared.Judged.{Judged}
 use Rattle.file_walk.specs.Walked.{fileTaken, Walked}
 use Rattle.test_file.specs.TrueReport.{Wrote, lengthIn, withReport, writerAfter}
 use Rattle.test_file.specs.Streams.{fileCall, fileStore, trueReport, takenBy, StreamRead, StreamAudited, StreamReported}
-use Rattle.test_file.proofs.TrueReportCases.{all-taken, few-tests}
 
 -- 33 is checked once or twice
 twice : (b : Bool) (x : Answer (List ℕ)) (f : List ℕ → Answer (List ℕ))
@@ -92,7 +91,7 @@ module _ (netlist : List ℕ) (class : ℕ) (ws ws₀ work : List ℕ) (b : Begu
 -- A file that was walked over
 module _ (netlist : List ℕ) (class : ℕ) (ws ws₀ work : List ℕ) (b : Begun) (t : BeginTrue b netlist class ws ws₀ work) (q : b .answer ≡ beginning.Ready)
     (walk : Walk) (space ws₁ work₁ : List ℕ) (v : Walked fileTaken walk netlist (b .loaded) class space ws₁ work work₁)
-    (r : Written) (truth truth′ : List ℕ) (y : Wrote r (writerAfter netlist (fileOf (walk .records .answer) ws₁) (walk .records .taken) truth) truth truth′) where
+    (r : Written) (truth truth′ : List ℕ) (y : Wrote r (writerAfter netlist (fileOf (walk .records .answer) ws₁) truth) truth truth′) where
   abbrev N : Netlist
   N = v .ready .circuit
 
@@ -111,19 +110,11 @@ module _ (netlist : List ℕ) (class : ℕ) (ws ws₀ work : List ℕ) (b : Begu
   before : beforeTest netlist class ws work ≡ value N
   before = begun-before netlist class ws ws₀ work (b .answer) (t .answer) q N legal
 
-  -- the writer is told the number of records
-  same-count : (x : Answer (List ℕ)) → fileTaken N (classOf class) f ≡ x
-      → (x >>= λ left. writerCall netlist left (length (fileRecords N f)) truth) ≡ writerAfter netlist x (walk .records .taken) truth
-  unfolding writerAfter
-  same-count (refused n) e = refl
-  same-count (value left) e = ap (λ (k : ℕ). writerCall netlist left k truth) (sym (v .taken N legal ∙ all-taken N (classOf class) f left e))
-
-  report-is : writerAfter netlist (fileOf (walk .records .answer) ws₁) (walk .records .taken) truth ≡ trueReport netlist class f ws work truth
-  unfolding trueReport
+  report-is : writerAfter netlist (fileOf (walk .records .answer) ws₁) truth ≡ trueReport netlist class f ws work truth
+  unfolding trueReport writerAfter
   report-is =
-      ap (λ (x : Answer (List ℕ)). writerAfter netlist x (walk .records .taken) truth) (v .answer N legal)
-      ∙ sym (same-count (fileTaken N (classOf class) f) refl)
-      ∙ sym (ap (λ (x : Answer Netlist). x >>= λ M. fileTaken M (classOf class) f >>= λ left. writerCall netlist left (length (fileRecords M f)) truth) before)
+      ap (λ (x : Answer (List ℕ)). writerAfter netlist x truth) (v .answer N legal)
+      ∙ sym (ap (λ (x : Answer Netlist). x >>= λ M. fileTaken M (classOf class) f >>= λ left. writerCall netlist left truth) before)
 
   wrote : Wrote r (trueReport netlist class f ws work truth) truth truth′
   wrote = subst (λ (x : Answer (List ℕ)). Wrote r x truth truth′) report-is y
@@ -171,4 +162,4 @@ pub stream-accepts : (r : Judged) (netlist report : List ℕ) (class : ℕ) (tru
 stream-accepts r netlist report class truth truth′ space ws ws′ work work′ s =
     calls-true .audits (r .answer) netlist class (s .read .testFile) report ws ws′ work work′ (s .isAudit)
 
-pub ruleset stream-cases = (begun-ready, begun-empty, few-tests, audit-refused, audit-done, report-refused, report-done, needs)
+pub ruleset stream-cases = (begun-ready, begun-empty, audit-refused, audit-done, report-refused, report-done, needs)

@@ -29,12 +29,12 @@ fileCall netlist class testFile ws work = beforeTest netlist class ws work >>= �
 unfoldable pub fileStore : List ℕ → ℕ → List ℕ → List ℕ → List ℕ → List ℕ
 fileStore netlist class testFile ws work = after (lentRules ws work) ws (λ u. leftStore (fileCall netlist class testFile ws work))
 
--- The true report of a test file: the same, then the writer with the number of its records
+-- The true report of a test file: the same, then the writer, which finds the number of its records in the store
 unfoldable pub trueReport : List ℕ → ℕ → List ℕ → List ℕ → List ℕ → List ℕ → Answer (List ℕ)
 trueReport netlist class testFile ws work buffer =
     beforeTest netlist class ws work
     >>= λ N. fileTaken N (classOf class) testFile
-    >>= λ left. writerCall netlist left (length (fileRecords N testFile)) buffer
+    >>= λ left. writerCall netlist left buffer
 
 abbrev pub trueLength : List ℕ → ℕ → List ℕ → List ℕ → List ℕ → List ℕ → Answer ℕ
 trueLength netlist class testFile ws work buffer = trueReport netlist class testFile ws work buffer >>= λ written. value (length written)

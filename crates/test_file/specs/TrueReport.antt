@@ -19,8 +19,8 @@ abbrev pub withReport : Answer (List ℕ) → List ℕ → List ℕ
 withReport x found = after x found (λ written. written ++ drop (length written) found)
 
 -- the writer after records that answered `x`
-unfoldable pub writerAfter : List ℕ → Answer (List ℕ) → ℕ → List ℕ → Answer (List ℕ)
-writerAfter netlist x testCount found = x >>= λ ws. writerCall netlist ws testCount found
+unfoldable pub writerAfter : List ℕ → Answer (List ℕ) → List ℕ → Answer (List ℕ)
+writerAfter netlist x found = x >>= λ ws. writerCall netlist ws found
 
 -- A report, or a refusal: the answer, the report's length, and the bytes of the buffer
 pub record Wrote (r : Written) (report : Answer (List ℕ)) (found left : List ℕ) : Type 0 where

@@ -1,9 +1,6 @@
 // The true report of a test file that was walked over.
 ghost use mathlib.Core.Path.{_≡_};
-ghost use mathlib.Core.List.{List};
-ghost use Prim.Native.Nat.{ℕ, _<_};
 ghost use Rattle.io.specs.Counts.{Counts};
-ghost use Rattle.model.specs.Base.{value};
 ghost use Rattle.report.specs.Answers.{writtenOf};
 ghost use Rattle.file_block.specs.RecordsTaken.{fileOf};
 ghost use Rattle.test_file.specs.TrueReport.{Wrote, writerAfter, lengthIn};
@@ -41,17 +38,13 @@ pub(crate) fn true_report(
     store: &[u64],
     truth: &mut [u8],
 ) -> Written
-    requires { ⌜ ((left : List ℕ) → fileOf (records .answer) (now store) ≡ value left → records .taken < 4294967296) ⌝ }
-    ensures { λ r. ⌜ Wrote r (writerAfter (now (netlist .entry)) (fileOf (records .answer) (now (store .entry))) (records .taken) (now (truth .entry)))
+    ensures { λ r. ⌜ Wrote r (writerAfter (now (netlist .entry)) (fileOf (records .answer) (now (store .entry))) (now (truth .entry)))
         (now (truth .entry)) (now (truth .exit)) ⌝ }
     ensures { λ r. ⌜ Counts (r .length) (now (truth .exit)) ⌝ }
 {
     let answer = records.answer;
     match answer {
         StageAnswer::Refused(why) => with_length(WriteAnswer::Refused(why)),
-        StageAnswer::Taken => {
-            let tests = records.taken as u32;
-            with_length(write_report(netlist, store, tests, truth))
-        }
+        StageAnswer::Taken => with_length(write_report(netlist, store, truth)),
     }
 }

@@ -29,6 +29,9 @@ enum-known-checked c = search needs
 enum-told-2 : tie.Need-enum-told-2
 enum-told-2 c = search needs
 
+tests-taken-requires : tie.Need-tests-taken-requires
+tests-taken-requires c κs = search writer-cases
+
 put-report-requires : tie.Need-put-report-requires
 put-report-requires c κs = search writer-cases
 
@@ -56,6 +59,7 @@ write-report-spec =
     check-words-requires
     enum-known-checked
     enum-told-2
+    tests-taken-requires
     put-report-requires
     returns-3
     returns-4

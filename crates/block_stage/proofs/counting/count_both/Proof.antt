@@ -1,4 +1,4 @@
--- `block_stage::counting::count_both` meets its contract: runs that are kept have the totals of before, others are counted again.
+-- `block_stage::counting::count_both` meets its contract: a stage that keeps the runs leaves the totals of before, another is counted again.
 -- Assumes nothing.
 use mathlib.Core.Path.{sym, _∙_}
 use Rattle.block_stage.proofs.CountBothLaws.{some-made, counted-kept, counted-some, counted-again}
@@ -12,14 +12,18 @@ write-both-requires c κs = some-made (c .before .before .before .pre)
 keeps-both-requires : tie.Need-keeps-both-requires
 keeps-both-requires c κs = search needs
 
+count-kept-requires : tie.Need-count-kept-requires
+count-kept-requires c κs = search needs
+
 same-length : tie.Need-same-length
 same-length c = search needs
 
 returns : tie.Need-returns
 returns c =
-    let keeps = sym (c .if1 .taken) ∙ c .before .keeps-both .ensures in
-    let writes = c .before .before .before .before .write-both .ensures in
-    λ N t found k. counted-kept writes k keeps
+    let at-keeps = c .before in
+    let keeps = sym (at-keeps .if1 .taken) ∙ at-keeps .before .keeps-both .ensures in
+    let writes = at-keeps .before .before .before .before .write-both .ensures in
+    λ N t found k. counted-kept writes k keeps (c .count-kept .ensures)
 
 count-answer-requires : tie.Need-count-answer-requires
 count-answer-requires c κs =
@@ -40,6 +44,7 @@ count-both-spec =
     (tie.spec
     write-both-requires
     keeps-both-requires
+    count-kept-requires
     same-length
     returns
     count-answer-requires

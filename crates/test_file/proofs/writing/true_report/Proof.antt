@@ -1,6 +1,6 @@
 -- `test_file::true_report` meets its contract: no report after a refusal, else the writer's, which lies in the buffer.
 -- Assumes nothing.
-use Rattle.test_file.proofs.TrueReportCases.{tests-fit, wrote-cases}
+use Rattle.test_file.proofs.TrueReportCases.{wrote-cases}
 use borrow.Author.Needs.{needs}
 use Rattle.test_file.proofs.writing.true_report.Statement.{statement}
 use Rattle.test_file.proofs.writing.true_report.Tie as tie
@@ -13,11 +13,6 @@ with-length-requires c κs = search needs
 
 enum-told : tie.Need-enum-told
 enum-told c = search needs
-
-cast-tests : tie.Need-cast-tests
-cast-tests c =
-    let start = c .before .before .before .before .before .before in
-    tests-fit (start .args .records .answer) _ _ (start .pre) (c .before .enum-told .given .1)
 
 write-report-requires : tie.Need-write-report-requires
 write-report-requires c κs = search needs
@@ -41,7 +36,6 @@ true-report-spec =
     enum-known-answer
     with-length-requires
     enum-told
-    cast-tests
     write-report-requires
     with-length-requires-2
     returns
