@@ -9,7 +9,7 @@ use borrow.Author.Needs.{needs}
 use borrow.Author.Tests.{ne-eqb}
 use lib.Dec.{eqb}
 use lib.ListN.{length, getD}
-use Rattle.command.specs.ClassFile.{characterClass, classIn}
+use Rattle.command.specs.ClassFile.{characterClass, classChosen}
 
 -- neither character
 neither : (a b : Bool) → a ≡ false → b ≡ false → _≡_ {A = ℕ} 0 (elim a [ true ↦ 1 | false ↦ elim b [ true ↦ 2 | false ↦ 0 ] ])
@@ -17,36 +17,36 @@ neither false false p q = refl
 neither false true p q = absurd (true≢false q)
 neither true b p q = absurd (true≢false p)
 
-module _ (missing : Bool) (bytes : List ℕ) where
-  pub class-missing : missing ≡ true → 1 ≡ classIn missing bytes
+module _ (usual : ℕ) (missing : Bool) (bytes : List ℕ) where
+  pub class-missing : missing ≡ true → usual ≡ classChosen usual missing bytes
   class-missing m = rw m refl
 
   module _ (m : missing ≡ false) where
-    pub class-other-length : (length bytes ≡ 1 → ⊥) → 0 ≡ classIn missing bytes
+    pub class-other-length : (length bytes ≡ 1 → ⊥) → 0 ≡ classChosen usual missing bytes
     class-other-length h = rw m (go bytes h)
       where
-        go : (bs : List ℕ) → (length bs ≡ 1 → ⊥) → 0 ≡ classIn false bs
+        go : (bs : List ℕ) → (length bs ≡ 1 → ⊥) → 0 ≡ classChosen usual false bs
         go [] h = refl
         go (c ∷ []) h = absurd (h refl)
         go (c ∷ d ∷ bs) h = refl
 
     -- one character
-    one : length bytes ≡ 1 → characterClass (getD bytes 0 0) ≡ classIn missing bytes
+    one : length bytes ≡ 1 → characterClass (getD bytes 0 0) ≡ classChosen usual missing bytes
     one h = rw m (go bytes h)
       where
-        go : (bs : List ℕ) → length bs ≡ 1 → characterClass (getD bs 0 0) ≡ classIn false bs
+        go : (bs : List ℕ) → length bs ≡ 1 → characterClass (getD bs 0 0) ≡ classChosen usual false bs
         go [] h = absurd (omega (arith, h))
         go (c ∷ []) h = refl
         go (c ∷ d ∷ bs) h = absurd (omega (arith, h))
 
     module _ (h : length bytes ≡ 1) where
-      pub class-one : getD bytes 0 0 ≡ 49 → 1 ≡ classIn missing bytes
+      pub class-one : getD bytes 0 0 ≡ 49 → 1 ≡ classChosen usual missing bytes
       class-one e = let q : 1 ≡ characterClass (getD bytes 0 0) = rw e refl in q ∙ one h
 
-      pub class-two : getD bytes 0 0 ≡ 50 → 2 ≡ classIn missing bytes
+      pub class-two : getD bytes 0 0 ≡ 50 → 2 ≡ classChosen usual missing bytes
       class-two e = let q : 2 ≡ characterClass (getD bytes 0 0) = rw e refl in q ∙ one h
 
-      pub class-none : (getD bytes 0 0 ≡ 49 → ⊥) → (getD bytes 0 0 ≡ 50 → ⊥) → 0 ≡ classIn missing bytes
+      pub class-none : (getD bytes 0 0 ≡ 49 → ⊥) → (getD bytes 0 0 ≡ 50 → ⊥) → 0 ≡ classChosen usual missing bytes
       class-none d e =
           let q : 0 ≡ characterClass (getD bytes 0 0) =
           neither (eqb (getD bytes 0 0) 49) (eqb (getD bytes 0 0) 50) (ne-eqb (getD bytes 0 0) 49 d) (ne-eqb (getD bytes 0 0) 50 e) in

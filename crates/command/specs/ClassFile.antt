@@ -1,4 +1,4 @@
--- The class that a class file names: document 02, ticket 6, on class.txt.
+-- The class that a class file names: document 02, tickets 6 and 10, on class.txt.
 -- Assumes nothing.
 use mathlib.Core.Bool.{Bool, true, false}
 use mathlib.Core.List.{List, [], _∷_}
@@ -9,9 +9,18 @@ use lib.Dec.{eqb}
 abbrev pub characterClass : ℕ → ℕ
 characterClass c = elim (eqb c 0x31) [ true ↦ 1 | false ↦ elim (eqb c 0x32) [ true ↦ 2 | false ↦ 0 ] ]
 
--- 1 where the file is missing; the class of its one character; else 0, which is no class: also for an empty file and for a line end after the character
+-- The class that a class file chooses: where it is missing, the one that is usual; the class of its one character; else 0, which is no class: also
+-- for an empty file and for a line end after the character
+abbrev pub classChosen : ℕ → Bool → List ℕ → ℕ
+classChosen usual true bytes = usual
+classChosen usual false [] = 0
+classChosen usual false (c ∷ []) = characterClass c
+classChosen usual false (c ∷ d ∷ bytes) = 0
+
+-- for a report, the usual class is 1: an audited report is non-robust unless the audit is handed class 2
 abbrev pub classIn : Bool → List ℕ → ℕ
-classIn true bytes = 1
-classIn false [] = 0
-classIn false (c ∷ []) = characterClass c
-classIn false (c ∷ d ∷ bytes) = 0
+classIn missing bytes = classChosen 1 missing bytes
+
+-- for the listing it is 2: robust when nothing is said
+abbrev pub classListed : Bool → List ℕ → ℕ
+classListed missing bytes = classChosen 2 missing bytes

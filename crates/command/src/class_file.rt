@@ -1,5 +1,7 @@
 // The class of the tests, from a file with its one character.
 ghost use mathlib.Core.Path.{_≡_};
+ghost use Rattle.io.specs.Counts.{Counts};
+ghost use Rattle.command.specs.ClassFile.{classChosen};
 ghost use Rattle.command.specs.ClassFile.{classIn};
 use crate::arguments::file_name;
 use crate::files::Opened;
@@ -18,12 +20,19 @@ pub struct ClassRead {
     pub whole: bool,
 }
 
-// The class in a file of such bytes, or where it is missing.
-pub fn class_in(missing: bool, bytes: &[u8]) -> u32
-    ensures { λ r. ⌜ r ≡ classIn missing (now (bytes .entry)) ⌝ }
+// What was read of a class file: whether it is missing, its bytes, and whether the program may judge by it.
+pub struct ClassContent {
+    pub missing: bool,
+    pub bytes: usize,
+    pub whole: bool,
+}
+
+// The class that a file of such bytes chooses; the usual one where the file is missing.
+pub fn class_chosen(usual: u32, missing: bool, bytes: &[u8]) -> u32
+    ensures { λ r. ⌜ r ≡ classChosen usual missing (now (bytes .entry)) ⌝ }
 {
     if missing {
-        return NON_ROBUST;
+        return usual;
     }
     if bytes.len() != 1 {
         return NO_CLASS;
@@ -38,40 +47,60 @@ pub fn class_in(missing: bool, bytes: &[u8]) -> u32
     NO_CLASS
 }
 
-// The class where a file could not be opened. A missing file is told apart from one that can't be read; it is named only where an argument names it.
-fn class_without(name: &[u8], is_named: bool) -> ClassRead {
+// The class in a file of such bytes, or where it is missing, for a report: an audited one is non-robust unless the audit is handed class 2.
+pub fn class_in(missing: bool, bytes: &[u8]) -> u32
+    ensures { λ r. ⌜ r ≡ classIn missing (now (bytes .entry)) ⌝ }
+{
+    class_chosen(NON_ROBUST, missing, bytes)
+}
+
+// Whether a class file that could not be opened is missing. It is told apart from one that can't be read, and named only where an argument names it.
+fn is_missing(name: &[u8], is_named: bool) -> bool {
     let missing = os::errno() == libc::ENOENT;
     if !missing {
         os::fail(name);
-        return ClassRead {
-            class: NO_CLASS,
-            whole: false,
-        };
+        return false;
     }
     if is_named {
         os::fail(name);
     }
-    ClassRead {
-        class: class_in(true, b""),
-        whole: true,
-    }
+    true
 }
 
-// The class in the file that an argument names, class.txt where there is no such argument. Two bytes tell a longer file from one character.
-pub fn read_class(place: usize) -> ClassRead {
+// Reads the first bytes of the class file that an argument names, class.txt where there is no such argument, as many as the space holds. Two bytes of
+// space tell a longer file from one character.
+pub fn load_class(place: usize, space: &mut [u8]) -> ClassContent
+    ensures { λ r. ⌜ Counts (r .bytes) (now (space .exit)) ⌝ }
+{
     let mut name = io::buffer();
     let n = file_name(place, b"class.txt", &mut name);
     let fd = os::open_read(&name[..n]);
     if fd < 0 {
-        return class_without(&name[..n], place < os::arg_count());
+        let missing = is_missing(&name[..n], place < os::arg_count());
+        return ClassContent {
+            missing,
+            bytes: 0,
+            whole: missing,
+        };
     }
     let size = file_size(fd);
-    let mut bytes = [0u8; 2];
-    let read = io::read_full(fd, &mut bytes);
-    let whole = 2 <= read || at_end(fd, size);
+    let read = io::read_full(fd, space);
+    let whole = space.len() <= read || at_end(fd, size);
     let opened = Opened { fd, missing: false };
-    ClassRead {
-        class: class_in(false, &bytes[..read]),
+    ClassContent {
+        missing: false,
+        bytes: read,
         whole: close_file(&name[..n], opened, whole),
+    }
+}
+
+// The class in that file, for a report.
+pub fn read_class(place: usize) -> ClassRead {
+    let mut space = [0u8; 2];
+    let content = load_class(place, &mut space);
+    let n = content.bytes;
+    ClassRead {
+        class: class_in(content.missing, &space[..n]),
+        whole: content.whole,
     }
 }

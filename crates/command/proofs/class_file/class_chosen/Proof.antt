@@ -1,9 +1,9 @@
--- `command::class_file::class_in` meets its contract: each return is one case of a class file.
+-- `command::class_file::class_chosen` meets its contract: each return is one case of a class file.
 -- Assumes nothing.
 use borrow.Author.Needs.{needs}
 use Rattle.command.proofs.ClassLaws.{class-cases}
-use Rattle.command.proofs.class_file.class_in.Statement.{statement}
-use Rattle.command.proofs.class_file.class_in.Tie as tie
+use Rattle.command.proofs.class_file.class_chosen.Statement.{statement}
+use Rattle.command.proofs.class_file.class_chosen.Tie as tie
 
 returns : tie.Need-returns
 returns c = search class-cases
@@ -23,6 +23,6 @@ returns-4 c = search class-cases
 returns-5 : tie.Need-returns-5
 returns-5 c = search class-cases
 
-pub class-in-spec : {M : Type 1} → statement M
-class-in-spec =
+pub class-chosen-spec : {M : Type 1} → statement M
+class-chosen-spec =
     tie.close (tie.spec returns returns-2 shared-slice-read-character returns-3 returns-4 returns-5)
