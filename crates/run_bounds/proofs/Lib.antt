@@ -1,0 +1,3 @@
+-- Refusals that are never given, then the bounds.
+pub mod AvoidLaws
+pub mod BoundsHold

@@ -1,0 +1,2 @@
+-- How many runs there can be.
+pub mod Bounds
