@@ -1,7 +1,7 @@
 -- The active words of a gate's pins, the last pin first: those from k on are written and summed, and one pin more.
 -- Assumes nothing.
 use mathlib.Core.Path.{_≡_, refl, ap, ap₂, sym, _∙_, subst}
-use mathlib.Core.Bool.{_&&_, _||_}
+use mathlib.Core.Bool.{_&&_, _||_, or-comm}
 use mathlib.Core.List.{List, _∷_}
 use mathlib.Core.Logic.{⊎-elim}
 use Prim.Native.Nat.{ℕ, zero, suc, _+_, _-_, _*_, _≤_, _<_}
@@ -11,14 +11,12 @@ use lib.ListN.{length, getD, set, length-set}
 use lib.Seq.{getD-set-same, getD-set-other}
 use Rattle.model.specs.Base.{anyOf, bit, numbersFrom}
 use Rattle.model.specs.Detect.{Class}
-use Rattle.records.proofs.BitLaws.{and-bit, or-bit}
+use Rattle.model.proofs.BoolLaws.{equal-or-not}
+use Rattle.records.proofs.BitLaws.{and-bit, or-bit, zero-bit}
 use Rattle.block.specs.Words.{bitsAt, wordsAt, firstWords, pinWord}
 use Rattle.block.specs.NetStates.{plane, v1Words, v2Words, steadyWords, riseWords, fallWords, PinOpenIs, ActiveBoth}
 use Rattle.block.specs.declared.inner.gates.Gate.{Gate}
 use Rattle.block.specs.declared.inner.gates.Looks.{Looks}
-use Rattle.block.proofs.TruthLaws.{or-turn}
-use Rattle.block.proofs.WordBitLaws.{zero-bit}
-use Rattle.block.proofs.WordLaws.{same-place}
 use Rattle.block.proofs.PlaneLaws.{plane-at, plane-first}
 
 -- an array with one word more, from the last place down
@@ -44,7 +42,7 @@ module _ (xs ys zs : List ℕ) (i : ℕ) {a b c : ℕ} (P : ℕ → ℕ → ℕ 
   set-each : {n : ℕ} → i < length xs → i < length ys → i < length zs → P i a b c
       → ((p : ℕ) → i < p → p < n → P p (getD xs p 0) (getD ys p 0) (getD zs p 0))
       → (p : ℕ) → i ≤ p → p < n → P p (getD (set xs i a) p 0) (getD (set ys i b) p 0) (getD (set zs i c) p 0)
-  set-each {n} lx ly lz h f p m o = ⊎-elim there elsewhere (same-place i p)
+  set-each {n} lx ly lz h f p m o = ⊎-elim there elsewhere (equal-or-not p i)
     where
       after : ℕ → Type 0
       after q = P q (getD (set xs i a) q 0) (getD (set ys i b) q 0) (getD (set zs i c) q 0)
@@ -74,7 +72,7 @@ sum-more {n} {rows} {k} {sum} l m few x w =
     record {
       room = length-set rows (k - 1) w ∙ x .room;
       some = λ t. or-bit sum w t ∙ ap (λ a. a || bit w t) (x .some t)
-          ∙ or-turn (anyOf (λ v. v) (bitsAt (wordsAt rows (numbersFrom k (n - k))) t)) (bit w t)
+          ∙ or-comm (anyOf (λ v. v) (bitsAt (wordsAt rows (numbersFrom k (n - k))) t)) (bit w t)
           ∙ ap (λ ws. anyOf (λ v. v) (bitsAt ws t)) (sym row);
     }
 

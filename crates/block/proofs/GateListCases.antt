@@ -16,7 +16,7 @@ use Rattle.netlist.specs.declared.inner.Shape.{Shape}
 use Rattle.block.specs.Words.{WordIs, wordsAt, GateIs}
 use Rattle.block.specs.Table.{CircuitTable, SomeTable}
 use Rattle.block.specs.Block.{liveNet, evaluated, BlockOf}
-use Rattle.block.specs.Lists.{liveEntries, entries, entryOf, ListRoom, EmptyLists, ListsTrue, Pushed}
+use Rattle.block.specs.Lists.{liveEntries, entryOf, ListRoom, EmptyLists, ListsTrue, Pushed}
 use Rattle.block.specs.NetStates.{LooksAre, ActiveBoth, StateIs, NetPut, StatesKept, NetsStated, GatesListed}
 use Rattle.block.specs.declared.inner.gates.Gate.{Gate}
 use Rattle.block.specs.declared.inner.gates.Looks.{Looks}

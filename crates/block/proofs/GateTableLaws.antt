@@ -11,7 +11,7 @@ use lib.Seq.{getD-set-same, getD-set-other, ext-getD}
 use Rattle.model.specs.Base.{numbersFrom}
 use Rattle.model.specs.Netlist.{Netlist, nets, gateOf, pinsOf, pinNet}
 use Rattle.model.specs.Read.{kindOf, pinsFit}
-use Rattle.model.proofs.BoolLaws.{and-right}
+use Rattle.model.proofs.BoolLaws.{and-right, equal-or-not}
 use Rattle.model.proofs.WellFormed.{WellFormed}
 use Rattle.model.proofs.ReadLaws.{legal, limits, pins-fit}
 use Rattle.model.proofs.ListLaws.{length-numbersFrom, numbersFrom-at}
@@ -22,7 +22,7 @@ use Rattle.netlist.proofs.TableLaws as tables
 use Rattle.block.specs.Words.{pinNets, Filled, GateIs, PinsIn}
 use Rattle.block.specs.Table.{NetsIn, GateNumbers, GateRow, CircuitTable, SomeTable}
 use Rattle.block.specs.declared.inner.gates.Gate.{Gate}
-use Rattle.block.proofs.WordLaws.{same-place, words-length, words-at}
+use Rattle.block.proofs.WordLaws.{words-length, words-at}
 
 -- the numbers of a gate's record
 numbers-in : {part : List ℕ} {N : Netlist} {net : ℕ} → GatePart part N net → GateNumbers N net (kindIn part) (pinCountIn part) (pinIn part)
@@ -104,7 +104,7 @@ module _ {file positions : List ℕ} {shape : Shape} (s : SomeCircuit file posit
             ⊎-elim
             (λ (e : i ≡ net). subst (λ j. GateRow N table′ j) (sym e) (new N cs c))
             (λ (q : i ≡ net → ⊥). old N cs c i l (before i net q h))
-            (same-place net i);
+            (equal-or-not i net);
       }
         where
           kind : ℕ

@@ -1,7 +1,7 @@
 -- The words of the inputs say what evaluating the inputs yields, and where they are live for each edge.
 -- Assumes nothing.
 use mathlib.Core.Path.{_≡_, ap, ap₂, sym, _∙_}
-use mathlib.Core.Bool.{_&&_, not, Bool·beq}
+use mathlib.Core.Bool.{_&&_, not, Bool·beq, and-comm}
 use mathlib.Core.List.{List}
 use Prim.Native.Nat.{ℕ, _*_, _≤_, _<_}
 use native.Mathlib.Nat.{add-zero}
@@ -16,7 +16,6 @@ use Rattle.block.specs.Words.{WordIs}
 use Rattle.block.specs.Table.{CircuitTable}
 use Rattle.block.specs.Block.{InputBits, evaluated, liveNet}
 use Rattle.block.specs.NetStates.{plane, InputWords, NetsStated}
-use Rattle.block.proofs.TruthLaws.{and-turn}
 use Rattle.block.proofs.PlaneLaws.{plane-at}
 use Rattle.block.proofs.LiveLaws.{live-input}
 use Rattle.block.proofs.GateTableLaws.{few-inputs, well}
@@ -52,7 +51,7 @@ module _ {N : Netlist} {tests : ℕ → Test} {n netCount inputs : ℕ} {table f
   falls-right : (j : ℕ) → j < inputs → WordIs (getD (plane 4 after) j 0) (λ t. liveNet N (tests t) falling j) n
   unfolding hasEdge
   falls-right j h t l =
-      ap (λ w. bit w t) (plane-at 4 j after (input-low j h)) ∙ x .falls j h t l ∙ and-turn (not (bit (getD lasts j 0) t)) (bit (getD firsts j 0) t)
+      ap (λ w. bit w t) (plane-at 4 j after (input-low j h)) ∙ x .falls j h t l ∙ and-comm (not (bit (getD lasts j 0) t)) (bit (getD firsts j 0) t)
       ∙ ap₂ (λ y z. y && not z) (b .first j t h l) (b .last j t h l) ∙ sym (live-input N (well c) (tests t) falling j (omega (arith, c .inputsAre)))
 
   pub inputs-stated : NetsStated N tests n inputs after

@@ -1,7 +1,7 @@
 -- The words of the inputs, input by input.
 -- Assumes nothing.
 use mathlib.Core.Path.{_≡_, refl, ap, _∙_, subst}
-use mathlib.Core.Bool.{true, _&&_, not, Bool·beq}
+use mathlib.Core.Bool.{true, _&&_, not, Bool·beq, and-true, and-comm, Bool·not-not}
 use mathlib.Core.List.{List}
 use Prim.Native.Nat.{ℕ, _+_, _-_, _*_, _^_, _≤_, _<_}
 use native.Mathlib.Nat.{not-suc-le-zero}
@@ -15,8 +15,6 @@ use Rattle.records.proofs.BitLaws.{and-bit, xor-bit, rise-bit, fall-bit}
 use Rattle.block.specs.Words.{WordIs}
 use Rattle.block.specs.NetStates.{NetPut, InputWords}
 use Rattle.block.specs.declared.inner.words.NetState.{NetState}
-use Rattle.block.proofs.TruthLaws.{keeps, and-turn}
-use Rattle.block.proofs.SeenLaws.{not-not}
 use Rattle.block.proofs.WordBitLaws.{not-bit}
 use Rattle.block.proofs.NetPutLaws.{kept-start, kept-more, put-more}
 
@@ -32,17 +30,17 @@ inputNet first last within = record {
 
 steady-is : (first last : ℕ) → first < 2 ^ 64 → last < 2 ^ 64 → WordIs (inputNet first last 0 .steady) (λ t. Bool·beq (bit first t) (bit last t)) 64
 steady-is first last h l t m =
-    not-bit (bitXor first last) t (xor-lt 64 first last h l) m ∙ ap not (xor-bit first last t) ∙ not-not (Bool·beq (bit first t) (bit last t))
+    not-bit (bitXor first last) t (xor-lt 64 first last h l) m ∙ ap not (xor-bit first last t) ∙ Bool·not-not (Bool·beq (bit first t) (bit last t))
 
 module _ (first last within n : ℕ) (all : (s : ℕ) → s < n → bit within s ≡ true) where
   within-is : (word : ℕ) → WordIs (bitAnd word within) (bit word) n
-  within-is word t h = and-bit word within t ∙ ap (λ b. bit word t && b) (all t h) ∙ keeps (bit word t)
+  within-is word t h = and-bit word within t ∙ ap (λ b. bit word t && b) (all t h) ∙ and-true (bit word t)
 
   rises-is : WordIs (inputNet first last within .rises) (λ t. not (bit first t) && bit last t) n
   rises-is t h = within-is (bitAnd (bitXor first last) last) t h ∙ rise-bit first last t
 
   falls-is : WordIs (inputNet first last within .falls) (λ t. not (bit last t) && bit first t) n
-  falls-is t h = within-is (bitAnd (bitXor first last) first) t h ∙ fall-bit first last t ∙ and-turn (bit first t) (not (bit last t))
+  falls-is t h = within-is (bitAnd (bitXor first last) first) t h ∙ fall-bit first last t ∙ and-comm (bit first t) (not (bit last t))
 
 module _ {firsts lasts : List ℕ} {n : ℕ} {before : List ℕ} where
   pub input-start : InputWords firsts lasts 0 n before before

@@ -1,7 +1,7 @@
 -- Live nets: an input is live when it makes the edge, a gate's net when one of its pins is active; a net with no runs is not live.
 -- Assumes nothing.
 use mathlib.Core.Path.{_≡_, refl, ap, sym, _∙_, subst}
-use mathlib.Core.Bool.{Bool, true, false, _&&_, _||_}
+use mathlib.Core.Bool.{Bool, true, false, _&&_, _||_, or-false}
 use mathlib.Core.List.{List, [], _∷_}
 use Prim.Native.Nat.{ℕ, zero, suc, _+_, _≤_, _<_}
 use native.Mathlib.Omega.{arith}
@@ -19,7 +19,6 @@ use Rattle.model.proofs.NetLaws.{count-input, count-gate}
 use Rattle.model.proofs.NumberLaws.{splits, countsBefore-le, length-pinCounts, pinCounts-at}
 use Rattle.model.proofs.NetSetLaws.{set-input, set-gate}
 use Rattle.block.specs.Block.{liveNet, activePin}
-use Rattle.block.proofs.TruthLaws.{or-none}
 
 same-test : (a b : Bool) → (T a → T b) → (T b → T a) → a ≡ b
 same-test true true f g = refl
@@ -32,7 +31,7 @@ module _ (N : Netlist) (w : WellFormed N) (t : Test) (e : Edge) where
   unfolding liveNet
   live-input net i =
       ap (λ n. anyOf (inNetSet N t e net) (numbersFrom 1 n)) (count-input N net i)
-      ∙ or-none (inNetSet N t e net 1) ∙ set-input N w t e net 1 i
+      ∙ or-false (inNetSet N t e net 1) ∙ set-input N w t e net 1 i
 
   module _ (net : ℕ) (i : N .inputs ≤ net) (l : net < nets N) where
     forth : T (liveNet N t e net) → T (anyOf (activePin N t e net) (numbersFrom 0 (length (pinsOf N net))))

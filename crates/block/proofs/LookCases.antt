@@ -1,7 +1,7 @@
 -- What the pins of a gate show, the last pin first: those from k on are seen, and one pin more.
 -- Assumes nothing.
 use mathlib.Core.Path.{_≡_, refl, ap, ap₂, sym, _∙_, subst}
-use mathlib.Core.Bool.{Bool, true, false, _&&_, _||_}
+use mathlib.Core.Bool.{Bool, true, false, _&&_, _||_, or-comm}
 use mathlib.Core.List.{List, _∷_}
 use Prim.Native.Nat.{ℕ, _+_, _-_, _*_, _^_, _≤_, _<_}
 use native.Mathlib.Omega.{arith}
@@ -9,14 +9,12 @@ use lib.Bits.{bitAnd, bitOr, bitXor}
 use lib.ListN.{getD}
 use Rattle.model.specs.Base.{anyOf, bit}
 use Rattle.model.specs.Detect.{odd}
-use Rattle.records.proofs.BitLaws.{and-bit, or-bit, xor-bit}
+use Rattle.records.proofs.BitLaws.{and-bit, or-bit, xor-bit, zero-bit}
 use Rattle.block.specs.Words.{bitsAt, wordsAt, unequal, twoOf, netsFrom, PinsIn, SeenAt, SeenIs}
 use Rattle.block.specs.Robust.{HeldIs}
 use Rattle.block.specs.NetStates.{v1Words, v2Words, steadyWords, SeesOne, LooksAre}
 use Rattle.block.specs.declared.inner.gates.Gate.{Gate}
 use Rattle.block.specs.declared.inner.gates.Seen.{Seen}
-use Rattle.block.proofs.TruthLaws.{or-turn}
-use Rattle.block.proofs.WordBitLaws.{zero-bit}
 use Rattle.block.proofs.WordLaws.{nets-more, nets-none, nets-all}
 use Rattle.block.proofs.PlaneLaws.{plane-at, plane-first}
 
@@ -40,8 +38,8 @@ seen-more : {vs : List Bool} {seen r : Seen} {flip value t : ℕ} → SeenAt vs 
 seen-more {vs} {seen} {r} {flip} {value} {t} x s =
     let u = unequal (bit flip t) in
     record {
-      ones = s .ones t ∙ ap (λ a. a || u (bit value t)) (x .ones) ∙ or-turn (anyOf u vs) (u (bit value t));
-      twos = s .twos t ∙ ap₂ (λ a b. a || (b && u (bit value t))) (x .twos) (x .ones) ∙ or-turn (twoOf u vs) (anyOf u vs && u (bit value t));
+      ones = s .ones t ∙ ap (λ a. a || u (bit value t)) (x .ones) ∙ or-comm (anyOf u vs) (u (bit value t));
+      twos = s .twos t ∙ ap₂ (λ a b. a || (b && u (bit value t))) (x .twos) (x .ones) ∙ or-comm (twoOf u vs) (anyOf u vs && u (bit value t));
       parities = s .parities t ∙ ap (λ a. unequal a (bit value t)) (x .parities) ∙ unequal-turn (odd vs) (bit value t);
     }
 
@@ -89,7 +87,7 @@ module _ {table : List ℕ} {g : Gate} {lasts steadies : List ℕ} where
         and-bit steady (bitXor (g .flip) v2) t
         ∙ ap₂ (λ a b. a && b) (ap (λ w. bit w t) (sym s)) (xor-bit (g .flip) v2 t ∙ ap (λ w. unequal (bit (g .flip) t) (bit w t)) (sym v)) in
         or-bit held (bitAnd steady (bitXor (g .flip) v2)) t ∙ ap₂ (λ a b. a || b) (x .at t) pin
-        ∙ or-turn (anyOf holds (netsFrom table (g .first + k) (g .pins - k))) (holds net)
+        ∙ or-comm (anyOf holds (netsFrom table (g .first + k) (g .pins - k))) (holds net)
         ∙ ap (anyOf holds) (sym (nets-more table (g .first) (g .pins) k net l m e));
   }
 

@@ -1,9 +1,9 @@
 -- The lowest set bit of a word: its place, and the word without it.
 -- Assumes nothing.
 use mathlib.Core.Path.{_≡_, refl, ap, ap₂, sym, _∙_}
-use mathlib.Core.Bool.{Bool, true, false, _&&_, not}
-use Prim.Native.Nat.{ℕ, zero, suc, _-_, _*_, _/_, _%_, _^_, _<_}
-use native.Mathlib.Nat.{pow-suc, zero-lt-suc}
+use mathlib.Core.Bool.{true, false, _&&_, not, and-true, and-self}
+use Prim.Native.Nat.{ℕ, zero, suc, _-_, _/_, _%_, _^_, _<_}
+use native.Mathlib.Nat.{zero-lt-suc}
 use native.Mathlib.Omega.{arith}
 use lib.Bits.{bitAnd, and-le-r}
 use lib.Count.{trailingZeros, under}
@@ -11,20 +11,13 @@ use lib.Dec.{eqb, eqb→eq, eqb-refl, eqb·suc-suc, eqb·suc-zero}
 use Rattle.model.specs.Base.{bit}
 use Rattle.model.proofs.BoolLaws.{T→true, not→false}
 use Rattle.records.proofs.BitLaws.{and-bit}
-use Rattle.block.proofs.TruthLaws.{keeps}
-use Rattle.block.proofs.WordBitLaws.{half-bit, first-bit}
+use Rattle.block.proofs.WordBitLaws.{half-bit, half-below, first-bit}
 
 none-below-one : (q : ℕ) → 0 < q → q < 1 → ⊥
 none-below-one q h k = omega arith
 
 half-pos : (n : ℕ) → 0 < n → n % 2 ≡ 0 → 0 < n / 2
 half-pos n h e = omega arith
-
-half-below : (d n : ℕ) → n < 2 ^ suc d → n / 2 < 2 ^ d
-half-below d n k = small (2 ^ suc d) (2 ^ d) n (pow-suc 2 d) k
-  where
-    small : (w v a : ℕ) → w ≡ v * 2 → a < w → a / 2 < v
-    small w v a e h = omega arith
 
 pub low-below : (d n : ℕ) → 0 < n → n < 2 ^ d → trailingZeros d n < d
 unfolding trailingZeros
@@ -49,10 +42,6 @@ low-set (suc d) n h k = go (n % 2) refl (λ (e : n % 2 ≡ 0). low-set d (n / 2)
     go : (r : ℕ) → n % 2 ≡ r → (n % 2 ≡ 0 → bit (n / 2) (trailingZeros d (n / 2)) ≡ true) → bit n (under r (trailingZeros d (n / 2))) ≡ true
     go zero e ih = half-bit n (trailingZeros d (n / 2)) ∙ ih e
     go (suc r) e ih = first-bit n ∙ ap (λ x. eqb x 1) (is-one n r e)
-
-both-same : (b : Bool) → (b && b) ≡ (b && true)
-both-same true = refl
-both-same false = refl
 
 both-low : (d n t : ℕ) → 0 < n → n < 2 ^ d → (bit n t && bit (n - 1) t) ≡ (bit n t && not (eqb t (trailingZeros d n)))
 unfolding trailingZeros
@@ -85,7 +74,7 @@ both-low (suc d) n (suc t) h k = go (n % 2) refl (λ (e : n % 2 ≡ 0). both-low
         ∙ ap₂ (λ a b. a && not b) (sym (half-bit n t)) (sym (eqb·suc-suc t (trailingZeros d (n / 2))))
     go (suc r) e ih =
         ap (λ b. bit n (suc t) && b) (half-bit (n - 1) t ∙ ap (λ x. bit x t) (same n r e) ∙ sym (half-bit n t))
-        ∙ both-same (bit n (suc t)) ∙ ap (λ b. bit n (suc t) && not b) (sym (eqb·suc-zero t))
+        ∙ and-self (bit n (suc t)) ∙ sym (and-true (bit n (suc t))) ∙ ap (λ b. bit n (suc t) && not b) (sym (eqb·suc-zero t))
 
 -- `and` with the number before takes the lowest set bit away
 pub without-low : (d n t : ℕ) → 0 < n → n < 2 ^ d → bit (bitAnd n (n - 1)) t ≡ (bit n t && not (eqb t (trailingZeros d n)))
@@ -109,7 +98,7 @@ module _ {left : ℕ} (small : left < 2 ^ 64) (ne : left ≡ 0 → ⊥) where
   pub others-stay : (t : ℕ) → (t ≡ trailingZeros 64 left → ⊥) → bit (bitAnd left (left - 1)) t ≡ bit left t
   others-stay t d =
       without-low 64 left t some-left small
-      ∙ ap (λ b. bit left t && not b) (not→false (eqb t (trailingZeros 64 left)) (λ u. d (eqb→eq t (trailingZeros 64 left) u))) ∙ keeps (bit left t)
+      ∙ ap (λ b. bit left t && not b) (not→false (eqb t (trailingZeros 64 left)) (λ u. d (eqb→eq t (trailingZeros 64 left) u))) ∙ and-true (bit left t)
 
   pub low-gone : bit (bitAnd left (left - 1)) (trailingZeros 64 left) ≡ false
   low-gone =

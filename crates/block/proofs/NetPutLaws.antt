@@ -7,9 +7,9 @@ use Prim.Native.Nat.{ℕ, _+_, _*_, _≤_, _<_}
 use native.Mathlib.Omega.{arith}
 use lib.ListN.{length, getD, set, length-set}
 use lib.Seq.{getD-set-same, getD-set-other}
+use Rattle.model.proofs.BoolLaws.{equal-or-not}
 use Rattle.block.specs.NetStates.{plane, NetPut, StatesKept}
 use Rattle.block.specs.declared.inner.words.NetState.{NetState}
-use Rattle.block.proofs.WordLaws.{same-place}
 use Rattle.block.proofs.PlaneLaws.{plane-at}
 
 -- Five writes, one after the other
@@ -111,7 +111,7 @@ module _ {net : ℕ} {s : NetState} {before after : List ℕ} (p : NetPut net s 
       ⊎-elim
       (λ (q : k ≡ net). subst (λ j. P j (getD after (at j) 0)) (sym q) (subst (λ x. P net x) (sym e) h))
       (λ (d : k ≡ net → ⊥). let l = below k net d m in subst (λ x. P k x) (sym (p .others (at k) (inl (under k l)))) (b k l))
-      (same-place net k)
+      (equal-or-not k net)
     where
       below : (k net : ℕ) → (k ≡ net → ⊥) → k < net + 1 → k < net
       below k net d m = omega arith

@@ -1,7 +1,7 @@
 -- A gate's value word and its open words in class 1, kind by kind.
 -- Assumes nothing.
 use mathlib.Core.Path.{_≡_, refl, ap, ap₂, sym, _∙_, subst}
-use mathlib.Core.Bool.{Bool, true, false, _&&_, _||_, not, Bool·beq}
+use mathlib.Core.Bool.{Bool, true, false, _&&_, _||_, not, Bool·beq, Bool·not-not}
 use mathlib.Core.List.{List, [], _∷_, map}
 use mathlib.Core.Logic.{⊎-elim}
 use Prim.Native.Nat.{ℕ, zero, suc, _-_, _^_, _≤_, _<_}
@@ -14,12 +14,12 @@ use Rattle.model.specs.Detect.{nonRobust, Evaluation, noEvaluation, odd, others
 use Rattle.model.specs.Read.{kindOf, pinsFit, within}
 use Rattle.model.proofs.BoolLaws.{and-left, and-right, or-cases}
 use Rattle.model.proofs.ListLaws.{getD-map-in}
-use Rattle.packed_pins.proofs.KindCases.{others-map}
-use Rattle.records.proofs.BitLaws.{and-bit, or-bit, xor-bit}
+use Rattle.packed_pins.proofs.KindCases.{others-map, no-ninth, always}
+use Rattle.records.proofs.BitLaws.{and-bit, or-bit, xor-bit, zero-bit}
 use Rattle.block.specs.Words.{unequal, flipWord, ValueIs, AloneIs, OpenIs}
 use Rattle.block.specs.declared.inner.gates.Seen.{Seen}
-use Rattle.block.proofs.WordBitLaws.{not-bit, zero-bit, ones-bits}
-use Rattle.block.proofs.SeenLaws.{not-not, any-zero, any-one, opens}
+use Rattle.block.proofs.WordBitLaws.{not-bit, ones-bits}
+use Rattle.block.proofs.SeenLaws.{any-zero, any-one, opens}
 
 pub ones-at : (t : ℕ) → t < 64 → bit (2 ^ 64 - 1) t ≡ true
 ones-at t h = ones-bits 64 t h
@@ -49,10 +49,7 @@ eighth (suc (suc (suc (suc (suc zero))))) a b n1 n3 n4 n5 n6 n7 P x y = absurd (
 eighth (suc (suc (suc (suc (suc (suc zero)))))) a b n1 n3 n4 n5 n6 n7 P x y = absurd (n6 refl)
 eighth (suc (suc (suc (suc (suc (suc (suc zero))))))) a b n1 n3 n4 n5 n6 n7 P x y = absurd (n7 refl)
 eighth (suc (suc (suc (suc (suc (suc (suc (suc zero)))))))) a b n1 n3 n4 n5 n6 n7 P x y = y
-eighth (suc (suc (suc (suc (suc (suc (suc (suc (suc k))))))))) a b n1 n3 n4 n5 n6 n7 P x y = absurd (past k b)
-  where
-    past : (k : ℕ) → suc (suc (suc (suc (suc (suc (suc (suc (suc k)))))))) ≤ 8 → ⊥
-    past k b = omega arith
+eighth (suc (suc (suc (suc (suc (suc (suc (suc (suc k))))))))) a b n1 n3 n4 n5 n6 n7 P x y = absurd (no-ninth k b)
 
 -- buffer and NOT have one pin
 pub one-pin : (kind pins : ℕ) → kind ≤ 2 → T (pinsFit kind pins) → pins ≡ 1
@@ -74,7 +71,7 @@ module _ (kind one parity : ℕ) where
   pub value-and : kind ≡ 3 → one < 2 ^ 64 → ValueIs kind one parity (2 ^ 64 - 1 - one)
   value-and e s = subst (λ k. ValueIs k one parity (2 ^ 64 - 1 - one)) (sym e) (record {
     at = λ vs t h f o q.
-        not-bit one t s h ∙ ap not (o ∙ ap (λ b. anyOf (unequal b) vs) (ones-at t h) ∙ any-zero vs) ∙ not-not (allOf (λ v. v) vs);
+        not-bit one t s h ∙ ap not (o ∙ ap (λ b. anyOf (unequal b) vs) (ones-at t h) ∙ any-zero vs) ∙ Bool·not-not (allOf (λ v. v) vs);
   })
 
   pub value-nand : kind ≡ 4 → ValueIs kind one parity one
@@ -148,18 +145,6 @@ module _ (seen : Seen) (flip value r : ℕ) (a : AloneIs (seen .one) (seen .two)
   open-nor kind e f = subst (λ k. OpenIs k seen value r) (sym e) (open-by 6 false (f ∙ ap (λ k. flipWord (kindOf k)) e) (λ t h. zero-bit t) (λ ns p. refl))
 
 -- the pins of the other kinds are always open
-always : (k : ℕ) (ns : List Evaluation) (p : ℕ) → (k ≡ 3 → ⊥) → (k ≡ 4 → ⊥) → (k ≡ 5 → ⊥) → (k ≡ 6 → ⊥) → true ≡ isOpen nonRobust (kindOf k) ns p
-always zero ns p n3 n4 n5 n6 = refl
-always (suc zero) ns p n3 n4 n5 n6 = refl
-always (suc (suc zero)) ns p n3 n4 n5 n6 = refl
-always (suc (suc (suc zero))) ns p n3 n4 n5 n6 = absurd (n3 refl)
-always (suc (suc (suc (suc zero)))) ns p n3 n4 n5 n6 = absurd (n4 refl)
-always (suc (suc (suc (suc (suc zero))))) ns p n3 n4 n5 n6 = absurd (n5 refl)
-always (suc (suc (suc (suc (suc (suc zero)))))) ns p n3 n4 n5 n6 = absurd (n6 refl)
-always (suc (suc (suc (suc (suc (suc (suc zero))))))) ns p n3 n4 n5 n6 = refl
-always (suc (suc (suc (suc (suc (suc (suc (suc zero)))))))) ns p n3 n4 n5 n6 = refl
-always (suc (suc (suc (suc (suc (suc (suc (suc (suc k))))))))) ns p n3 n4 n5 n6 = refl
-
 pub open-others : (kind : ℕ) (seen : Seen) (value : ℕ) → (kind ≡ 3 → ⊥) → (kind ≡ 4 → ⊥) → (kind ≡ 5 → ⊥) → (kind ≡ 6 → ⊥)
     → OpenIs kind seen value (2 ^ 64 - 1)
 open-others kind seen value n3 n4 n5 n6 = record { at = λ ns p t h l s v. ones-at t h ∙ always kind ns p n3 n4 n5 n6 }

@@ -1,7 +1,7 @@
 -- Adding an entry to the lists of the records of a word, the lowest record first.
 -- Assumes nothing.
 use mathlib.Core.Path.{_≡_, refl, ap, ap₂, sym, _∙_, subst}
-use mathlib.Core.Bool.{Bool, true, false, _&&_, not}
+use mathlib.Core.Bool.{Bool, true, false, _&&_, not, and-true, and-not-self}
 use mathlib.Core.List.{List, [], _∷_, _++_}
 use mathlib.Core.Logic.{⊎-elim, _⊎_, inl, inr}
 use Prim.Native.Nat.{ℕ, zero, suc, _+_, _-_, _*_, _^_, _≤_, _<_}
@@ -12,13 +12,11 @@ use lib.Count.{trailingZeros}
 use lib.ListN.{length, getD, set, length-set}
 use lib.Seq.{getD-set-same, getD-set-other}
 use Rattle.model.specs.Base.{bit, numbersFrom}
-use Rattle.model.proofs.BoolLaws.{le-or-lt}
+use Rattle.model.proofs.BoolLaws.{le-or-lt, equal-or-not}
 use Rattle.packed_pins.specs.Packed.{oneWhere}
+use Rattle.records.proofs.BitLaws.{zero-bit}
 use Rattle.block.specs.Words.{wordsAt}
 use Rattle.block.specs.Lists.{entries, pushIf, ListRoom, Pushed}
-use Rattle.block.proofs.WordBitLaws.{zero-bit}
-use Rattle.block.proofs.WordLaws.{same-place}
-use Rattle.block.proofs.TruthLaws.{keeps, none-yet}
 use Rattle.block.proofs.LowBitLaws.{low-in, low-there, less-left, others-stay, low-gone}
 
 -- Lists with one entry set
@@ -84,8 +82,8 @@ module _ (list₀ lens₀ : List ℕ) (word : ℕ) (f : ℕ → ℕ) where
     sameLength = refl;
     sameRecords = refl;
     within = λ t h e. e;
-    lists = λ t h. ap (λ b. pushIf b (f t) (entries list₀ lens₀ t)) (sym (none-yet (bit word t)));
-    counts = λ t h. sym (add-zero (getD lens₀ t 0)) ∙ ap (λ b. getD lens₀ t 0 + oneWhere b) (sym (none-yet (bit word t)));
+    lists = λ t h. ap (λ b. pushIf b (f t) (entries list₀ lens₀ t)) (sym (and-not-self (bit word t)));
+    counts = λ t h. sym (add-zero (getD lens₀ t 0)) ∙ ap (λ b. getD lens₀ t 0 + oneWhere b) (sym (and-not-self (bit word t)));
   }
 
   module _ (room : ListRoom list₀ lens₀) {list lens : List ℕ} {left : ℕ} (x : Pushing list₀ lens₀ list lens word f left) (ne : left ≡ 0 → ⊥) where
@@ -148,7 +146,7 @@ module _ (list₀ lens₀ : List ℕ) (word : ℕ) (f : ℕ → ℕ) where
           (λ (d : t ≡ trailingZeros 64 left → ⊥).
           stays list lens (trailingZeros 64 left) len v long whole place-in el few t h d (few-there t h)
           ∙ x .lists t h ∙ ap (λ b. pushIf (bit word t && not b) (f t) (entries list₀ lens₀ t)) (sym (others-stay (x .small) ne t d)))
-          (same-place (trailingZeros 64 left) t)
+          (equal-or-not t (trailingZeros 64 left))
 
       count-at : (t : ℕ) → t < 64 → getD lens′ t 0 ≡ getD lens₀ t 0 + oneWhere (bit word t && not (bit left′ t))
       unfolding lens′ left′
@@ -161,7 +159,7 @@ module _ (list₀ lens₀ : List ℕ) (word : ℕ) (f : ℕ → ℕ) where
           (λ (d : t ≡ trailingZeros 64 left → ⊥).
           getD-set-other lens (trailingZeros 64 left) t (len + 1) 0 d ∙ x .counts t h
           ∙ ap (λ b. getD lens₀ t 0 + oneWhere (bit word t && not b)) (sym (others-stay (x .small) ne t d)))
-          (same-place (trailingZeros 64 left) t)
+          (equal-or-not t (trailingZeros 64 left))
 
       pub push-step : Pushing list₀ lens₀ (set list (528 * trailingZeros 64 left + len) v) (set lens (trailingZeros 64 left) (len + 1)) word f (bitAnd left (left - 1))
       unfolding list′ lens′ left′
@@ -172,7 +170,7 @@ module _ (list₀ lens₀ : List ℕ) (word : ℕ) (f : ℕ → ℕ) where
         within = λ t h e.
             ⊎-elim
             (λ (q : t ≡ trailingZeros 64 left). subst (λ j. bit word j ≡ true) (sym q) (x .within (trailingZeros 64 left) place-in (low-there (x .small) ne)))
-            (λ (d : t ≡ trailingZeros 64 left → ⊥). x .within t h (sym (others-stay (x .small) ne t d) ∙ e)) (same-place (trailingZeros 64 left) t);
+            (λ (d : t ≡ trailingZeros 64 left → ⊥). x .within t h (sym (others-stay (x .small) ne t d) ∙ e)) (equal-or-not t (trailingZeros 64 left));
         lists = list-at;
         counts = count-at;
       }
@@ -186,4 +184,4 @@ module _ (list₀ lens₀ : List ℕ) (word : ℕ) (f : ℕ → ℕ) where
   }
     where
       all-pushed : (t : ℕ) → (bit word t && not (bit left t)) ≡ bit word t
-      all-pushed t = ap (λ b. bit word t && not b) (ap (λ w. bit w t) e ∙ zero-bit t) ∙ keeps (bit word t)
+      all-pushed t = ap (λ b. bit word t && not b) (ap (λ w. bit w t) e ∙ zero-bit t) ∙ and-true (bit word t)

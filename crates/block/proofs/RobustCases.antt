@@ -1,7 +1,7 @@
 -- The robustly open words of a gate's pins, kind by kind, and the open words in a class.
 -- Assumes nothing.
 use mathlib.Core.Path.{_≡_, refl, ap, ap₂, sym, _∙_, subst}
-use mathlib.Core.Bool.{Bool, true, false, _&&_, _||_, not, Bool·beq}
+use mathlib.Core.Bool.{Bool, true, false, _&&_, _||_, not, Bool·beq, and-true, and-comm}
 use mathlib.Core.List.{List, [], _∷_, map}
 use Prim.Native.Nat.{ℕ, zero, suc, _-_, _^_, _≤_, _<_}
 use native.Mathlib.Nat.{not-suc-le-zero, le-of-suc-le-suc}
@@ -12,20 +12,20 @@ use lib.ListN.{length, getD}
 use Rattle.model.specs.Base.{allOf, bit}
 use Rattle.model.specs.Detect.{nonRobust, robust, Evaluation, noEvaluation, others, robustSides, differs, isOpen}
 use Rattle.model.specs.Read.{kindOf, classOf, pinsFit}
-use Rattle.packed_pins.proofs.KindCases.{others-map}
-use Rattle.records.proofs.BitLaws.{and-bit, or-bit, xor-bit}
+use Rattle.packed_pins.proofs.KindCases.{others-map, no-ninth}
+use Rattle.records.proofs.BitLaws.{and-bit, or-bit, xor-bit, zero-bit}
 use Rattle.block.specs.Words.{unequal, flipWord, SeenAt, AloneIs, OpenIs}
 use Rattle.block.specs.Robust.{evaluationAt, RobustIs}
 use Rattle.block.specs.NetStates.{PinOpenIs}
 use Rattle.block.specs.declared.inner.gates.Seen.{Seen}
 use Rattle.block.specs.declared.inner.gates.Looks.{Looks}
-use Rattle.block.proofs.TruthLaws.{keeps, and-turn}
-use Rattle.block.proofs.WordBitLaws.{not-bit, zero-bit}
+use Rattle.block.proofs.WordBitLaws.{not-bit}
+use Rattle.block.proofs.SeenLaws.{unequal-true}
 use Rattle.block.proofs.OpenWordCases.{ones-at, one-pin, fact-length, fact-at}
 
 -- Two tests of every other entry
 and-cross : (x xs y ys : Bool) → ((x && xs) && (y && ys)) ≡ ((y && x) && (ys && xs))
-and-cross true true true ys = sym (keeps ys)
+and-cross true true true ys = sym (and-true ys)
 and-cross true true false ys = refl
 and-cross true false true true = refl
 and-cross true false true false = refl
@@ -36,13 +36,13 @@ and-cross false xs false ys = refl
 module _ (f g : Evaluation → Bool) where
   all-both : (ns : List Evaluation) → (allOf f ns && allOf g ns) ≡ allOf (λ n. g n && f n) ns
   all-both [] = refl
-  all-both (n ∷ ns) = and-cross (f n) (allOf f ns) (g n) (allOf g ns) ∙ ap (λ b. (g n && f n) && b) (and-turn (allOf g ns) (allOf f ns) ∙ all-both ns)
+  all-both (n ∷ ns) = and-cross (f n) (allOf f ns) (g n) (allOf g ns) ∙ ap (λ b. (g n && f n) && b) (and-comm (allOf g ns) (allOf f ns) ∙ all-both ns)
 
   others-both : (ns : List Evaluation) (p : ℕ) → (others f ns p && others g ns p) ≡ others (λ n. g n && f n) ns p
   others-both [] p = refl
   others-both (n ∷ ns) zero = all-both ns
   others-both (n ∷ ns) (suc p) =
-      and-cross (f n) (others f ns p) (g n) (others g ns p) ∙ ap (λ b. (g n && f n) && b) (and-turn (others g ns p) (others f ns p) ∙ others-both ns p)
+      and-cross (f n) (others f ns p) (g n) (others g ns p) ∙ ap (λ b. (g n && f n) && b) (and-comm (others g ns p) (others f ns p) ∙ others-both ns p)
 
 -- the other pins of a robustly open pin: non-controlling, and steady unless this one ends non-controlling
 sides : (b : Bool) (ns : List Evaluation) (p : ℕ)
@@ -51,7 +51,7 @@ sides b ns p = go (Bool·beq b (getD ns p noEvaluation .underV2))
   where
     go : (t : Bool) → (others (λ n. Bool·beq b (n .underV2)) ns p && (t || others (λ n. n .steady) ns p))
         ≡ elim t [ true ↦ others (λ n. Bool·beq b (n .underV2)) ns p | false ↦ others (λ n. n .steady && Bool·beq b (n .underV2)) ns p ]
-    go true = keeps (others (λ n. Bool·beq b (n .underV2)) ns p)
+    go true = and-true (others (λ n. Bool·beq b (n .underV2)) ns p)
     go false = others-both (λ n. Bool·beq b (n .underV2)) (λ n. n .steady) ns p
 
 unequal-not : (b v : Bool) → unequal b (not v) ≡ Bool·beq b v
@@ -59,10 +59,6 @@ unequal-not true true = refl
 unequal-not true false = refl
 unequal-not false true = refl
 unequal-not false false = refl
-
-not-unequal : (v : Bool) → not v ≡ unequal true v
-not-unequal true = refl
-not-unequal false = refl
 
 module _ (last loose : Seen) (flip v1 v2 steady calm clear : ℕ) (small₂ : v2 < 2 ^ 64) (small₃ : steady < 2 ^ 64)
     (ac : AloneIs (loose .one) (loose .two) (2 ^ 64 - 1 - steady) calm) (al : AloneIs (last .one) (last .two) (bitXor flip v2) clear) where
@@ -78,7 +74,7 @@ module _ (last loose : Seen) (flip v1 v2 steady calm clear : ℕ) (small₂ : v2
     calm-sides s =
         let vs = map (λ n. n .steady) ns in
         let m : bit (2 ^ 64 - 1 - steady) t ≡ unequal true (getD vs p false) =
-        not-bit steady t small₃ h ∙ not-unequal (bit steady t)
+        not-bit steady t small₃ h ∙ sym (unequal-true (bit steady t))
         ∙ ap (unequal true) (ap (λ (n : Evaluation). n .steady) e ∙ sym (fact-at ns p l (λ n. n .steady))) in
         ac .at vs true p t h (fact-length ns p l (λ n. n .steady)) (s .ones) (s .twos) m
         ∙ others-map (Bool·beq true) (λ n. n .steady) ns p ∙ same ns p
@@ -176,10 +172,7 @@ module _ (last loose : Seen) (flip v1 v2 steady calm clear : ℕ) (small₂ : v2
   rest-open (suc (suc (suc (suc (suc (suc zero)))))) ns p n3 n4 n5 n6 f l b = absurd (n6 refl)
   rest-open (suc (suc (suc (suc (suc (suc (suc zero))))))) ns p n3 n4 n5 n6 f l b = refl
   rest-open (suc (suc (suc (suc (suc (suc (suc (suc zero)))))))) ns p n3 n4 n5 n6 f l b = refl
-  rest-open (suc (suc (suc (suc (suc (suc (suc (suc (suc k))))))))) ns p n3 n4 n5 n6 f l b = absurd (past k b)
-    where
-      past : (k : ℕ) → suc (suc (suc (suc (suc (suc (suc (suc (suc k)))))))) ≤ 8 → ⊥
-      past k b = omega arith
+  rest-open (suc (suc (suc (suc (suc (suc (suc (suc (suc k))))))))) ns p n3 n4 n5 n6 f l b = absurd (no-ninth k b)
 
   pub robust-others : (kind : ℕ) → kind ≤ 8 → (kind ≡ 3 → ⊥) → (kind ≡ 4 → ⊥) → (kind ≡ 5 → ⊥) → (kind ≡ 6 → ⊥)
       → RobustIs kind last loose v1 v2 steady (bitAnd (bitXor v1 v2) calm)

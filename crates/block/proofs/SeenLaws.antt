@@ -12,11 +12,7 @@ use Rattle.model.specs.Detect.{others}
 use Rattle.block.specs.Words.{unequal, twoOf}
 use Rattle.block.proofs.TruthLaws.{unequal-false}
 
-pub not-not : (b : Bool) → not (not b) ≡ b
-not-not true = refl
-not-not false = refl
-
-unequal-true : (v : Bool) → unequal true v ≡ not v
+pub unequal-true : (v : Bool) → unequal true v ≡ not v
 unequal-true true = refl
 unequal-true false = refl
 

@@ -1,37 +1,33 @@
 -- Words with a bit for each record: those of the first records, and bits flipped by a mask.
 -- Assumes nothing.
 use mathlib.Core.Path.{_≡_, refl, ap, ap₂, sym, _∙_, subst}
-use mathlib.Core.Bool.{Bool, true, _&&_, not}
+use mathlib.Core.Bool.{Bool, true, _&&_, not, and-true, and-not-self}
 use mathlib.Core.List.{List}
 use mathlib.Core.Logic.{⊎-elim}
-use Prim.Native.Nat.{ℕ, zero, suc, _-_, _*_, _%_, _^_, _≤_, _<_}
-use native.Mathlib.Nat.{mod-eq-of-lt}
+use Prim.Native.Nat.{ℕ, _-_, _*_, _%_, _^_, _≤_, _<_}
 use native.Mathlib.Omega.{arith}
 use lib.Bits.{bitAnd, bitXor}
 use lib.Count.{trailingZeros}
-use lib.ListN.{length, getD, set, length-set, replicate}
-use lib.Pow.{pow-lt, pow-pos}
+use lib.ListN.{length, getD, set, length-set}
+use lib.Pow.{pow-pos}
 use lib.Seq.{getD-set-same, getD-set-other}
 use Rattle.model.specs.Base.{bit}
-use Rattle.records.proofs.BitLaws.{xor-bit}
+use Rattle.model.proofs.BoolLaws.{equal-or-not}
+use Rattle.records.proofs.BitLaws.{xor-bit, zero-bit, one-shifted}
 use Rattle.block.specs.Words.{unequal}
 use Rattle.block.specs.Spread.{Flipped}
-use Rattle.block.proofs.WordBitLaws.{zero-bit, ones-bits}
-use Rattle.block.proofs.WordLaws.{same-place}
-use Rattle.block.proofs.TruthLaws.{keeps, none-yet, unequal-none}
+use Rattle.block.proofs.WordBitLaws.{ones-bits}
+use Rattle.block.proofs.TruthLaws.{unequal-none}
 use Rattle.block.proofs.LowBitLaws.{low-in, low-there, less-left, others-stay, low-gone}
 
-pub shifted : (t : ℕ) → t < 64 → (1 * 2 ^ t) % 2 ^ 64 ≡ 2 ^ t
-shifted t h = let m : 1 * 2 ^ t ≡ 2 ^ t = omega arith in rw (m, mod-eq-of-lt (pow-lt h))
-
 pub shifted-some : (t : ℕ) → t < 64 → 1 ≤ (1 * 2 ^ t) % 2 ^ 64
-shifted-some t h = rw (shifted t h) (pow-pos t)
+shifted-some t h = rw (one-shifted t h) (pow-pos t)
 
 pub first-all : (n : ℕ) → n ≡ 64 → (s : ℕ) → s < n → bit (2 ^ 64 - 1) s ≡ true
 first-all n e s h = ones-bits 64 s (omega arith)
 
 pub first-word : (n : ℕ) → n ≤ 64 → (n ≡ 64 → ⊥) → (s : ℕ) → s < n → bit ((1 * 2 ^ n) % 2 ^ 64 - 1) s ≡ true
-first-word n h d s l = ap (λ w. bit (w - 1) s) (shifted n (omega (arith, d))) ∙ ones-bits n s l
+first-word n h d s l = ap (λ w. bit (w - 1) s) (one-shifted n (omega (arith, d))) ∙ ones-bits n s l
 
 pub first-fits : (n : ℕ) → n ≤ 64 → (n ≡ 64 → ⊥) → n < 64
 first-fits n h d = omega (arith, d)
@@ -53,7 +49,7 @@ module _ (words₀ : List ℕ) (changed mask : ℕ) where
     sameLength = refl;
     within = λ j e. e;
     bits = λ j h t.
-        sym (unequal-none (bit (getD words₀ j 0) t)) ∙ ap (λ b. unequal (bit (getD words₀ j 0) t) (b && bit mask t)) (sym (none-yet (bit changed j)));
+        sym (unequal-none (bit (getD words₀ j 0) t)) ∙ ap (λ b. unequal (bit (getD words₀ j 0) t) (b && bit mask t)) (sym (and-not-self (bit changed j)));
   }
 
   module _ {words : List ℕ} {left : ℕ} (x : Flipping words₀ words changed mask left) (ne : left ≡ 0 → ⊥) where
@@ -88,7 +84,7 @@ module _ (words₀ : List ℕ) (changed mask : ℕ) where
           sameLength = length-set words z v ∙ x .sameLength;
           within = λ j e.
               ⊎-elim (λ (q : j ≡ z). subst (λ i. bit changed i ≡ true) (sym q) was)
-              (λ (d : j ≡ z → ⊥). x .within j (sym (others-stay (x .small) ne j d) ∙ e)) (same-place z j);
+              (λ (d : j ≡ z → ⊥). x .within j (sym (others-stay (x .small) ne j d) ∙ e)) (equal-or-not j z);
           bits = λ j h s.
               ⊎-elim
               (λ (q : j ≡ z).
@@ -97,7 +93,7 @@ module _ (words₀ : List ℕ) (changed mask : ℕ) where
               (λ (d : j ≡ z → ⊥).
               ap (λ y. bit y s) (getD-set-other words z j v 0 d) ∙ x .bits j h s
               ∙ ap (λ b. unequal (bit (getD words₀ j 0) s) ((bit changed j && not b) && bit mask s)) (sym (others-stay (x .small) ne j d)))
-              (same-place z j);
+              (equal-or-not j z);
         }
 
   pub flip-end : {words : List ℕ} {left : ℕ} → left ≡ 0 → Flipping words₀ words changed mask left → Flipped words₀ words changed mask
@@ -106,10 +102,5 @@ module _ (words₀ : List ℕ) (changed mask : ℕ) where
     bits = λ j h s.
         x .bits j h s
         ∙ ap (λ b. unequal (bit (getD words₀ j 0) s) (b && bit mask s))
-        (ap (λ w. bit changed j && not (bit w j)) e ∙ ap (λ b. bit changed j && not b) (zero-bit j) ∙ keeps (bit changed j));
+        (ap (λ w. bit changed j && not (bit w j)) e ∙ ap (λ b. bit changed j && not b) (zero-bit j) ∙ and-true (bit changed j));
   }
-
-pub zero-at : (n i : ℕ) → getD {A = ℕ} (replicate n 0) i 0 ≡ 0
-zero-at zero i = refl
-zero-at (suc n) zero = refl
-zero-at (suc n) (suc i) = zero-at n i

@@ -1,7 +1,7 @@
 -- A gate's steadiness word, kind by kind.
 -- Assumes nothing.
 use mathlib.Core.Path.{_≡_, refl, ap, ap₂, sym, _∙_, subst}
-use mathlib.Core.Bool.{Bool, true, false, _&&_, _||_, not}
+use mathlib.Core.Bool.{Bool, true, false, _&&_, _||_, not, Bool·not-not, or-false}
 use mathlib.Core.List.{List, map}
 use Prim.Native.Nat.{ℕ, zero, suc, _-_, _^_, _<_}
 use lib.Bits.{bitOr}
@@ -9,18 +9,17 @@ use Rattle.model.specs.Base.{allOf, anyOf, bit}
 use Rattle.model.specs.Detect.{Evaluation, gateSteady}
 use Rattle.model.specs.Read.{kindOf}
 use Rattle.packed_pins.proofs.KindCases.{allOf-map}
-use Rattle.records.proofs.BitLaws.{or-bit}
+use Rattle.records.proofs.BitLaws.{or-bit, zero-bit}
 use Rattle.block.specs.Words.{unequal, flipWord}
 use Rattle.block.specs.Robust.{SteadyIs}
-use Rattle.block.proofs.WordBitLaws.{not-bit, zero-bit}
-use Rattle.block.proofs.SeenLaws.{not-not, any-zero}
+use Rattle.block.proofs.WordBitLaws.{not-bit}
+use Rattle.block.proofs.SeenLaws.{any-zero}
 use Rattle.block.proofs.OpenWordCases.{ones-at}
-use Rattle.block.proofs.TruthLaws.{or-none}
 
 -- no pin is loose: all are steady
 all-steady : (ns : List Evaluation) → not (anyOf (unequal true) (map (λ n. n .steady) ns)) ≡ allOf (λ n. n .steady) ns
 all-steady ns =
-    ap not (any-zero (map (λ n. n .steady) ns)) ∙ not-not (allOf (λ v. v) (map (λ n. n .steady) ns)) ∙ allOf-map (λ v. v) (λ n. n .steady) ns
+    ap not (any-zero (map (λ n. n .steady) ns)) ∙ Bool·not-not (allOf (λ v. v) (map (λ n. n .steady) ns)) ∙ allOf-map (λ v. v) (λ n. n .steady) ns
 
 module _ (kind loose held : ℕ) (s : loose < 2 ^ 64) where
   -- the kinds with a non-controlling value `b`
@@ -48,16 +47,16 @@ module _ (kind loose held : ℕ) (s : loose < 2 ^ 64) where
 
   -- the other kinds
   steady-rest : (k : ℕ) (ns : List Evaluation) → (k ≡ 3 → ⊥) → (k ≡ 4 → ⊥) → (k ≡ 5 → ⊥) → (k ≡ 6 → ⊥) → allOf (λ n. n .steady) ns ≡ gateSteady (kindOf k) ns
-  steady-rest zero ns n3 n4 n5 n6 = sym (or-none (allOf (λ n. n .steady) ns))
-  steady-rest (suc zero) ns n3 n4 n5 n6 = sym (or-none (allOf (λ n. n .steady) ns))
-  steady-rest (suc (suc zero)) ns n3 n4 n5 n6 = sym (or-none (allOf (λ n. n .steady) ns))
+  steady-rest zero ns n3 n4 n5 n6 = sym (or-false (allOf (λ n. n .steady) ns))
+  steady-rest (suc zero) ns n3 n4 n5 n6 = sym (or-false (allOf (λ n. n .steady) ns))
+  steady-rest (suc (suc zero)) ns n3 n4 n5 n6 = sym (or-false (allOf (λ n. n .steady) ns))
   steady-rest (suc (suc (suc zero))) ns n3 n4 n5 n6 = absurd (n3 refl)
   steady-rest (suc (suc (suc (suc zero)))) ns n3 n4 n5 n6 = absurd (n4 refl)
   steady-rest (suc (suc (suc (suc (suc zero))))) ns n3 n4 n5 n6 = absurd (n5 refl)
   steady-rest (suc (suc (suc (suc (suc (suc zero)))))) ns n3 n4 n5 n6 = absurd (n6 refl)
-  steady-rest (suc (suc (suc (suc (suc (suc (suc zero))))))) ns n3 n4 n5 n6 = sym (or-none (allOf (λ n. n .steady) ns))
-  steady-rest (suc (suc (suc (suc (suc (suc (suc (suc zero)))))))) ns n3 n4 n5 n6 = sym (or-none (allOf (λ n. n .steady) ns))
-  steady-rest (suc (suc (suc (suc (suc (suc (suc (suc (suc k))))))))) ns n3 n4 n5 n6 = sym (or-none (allOf (λ n. n .steady) ns))
+  steady-rest (suc (suc (suc (suc (suc (suc (suc zero))))))) ns n3 n4 n5 n6 = sym (or-false (allOf (λ n. n .steady) ns))
+  steady-rest (suc (suc (suc (suc (suc (suc (suc (suc zero)))))))) ns n3 n4 n5 n6 = sym (or-false (allOf (λ n. n .steady) ns))
+  steady-rest (suc (suc (suc (suc (suc (suc (suc (suc (suc k))))))))) ns n3 n4 n5 n6 = sym (or-false (allOf (λ n. n .steady) ns))
 
   pub steady-others : (kind ≡ 3 → ⊥) → (kind ≡ 4 → ⊥) → (kind ≡ 5 → ⊥) → (kind ≡ 6 → ⊥) → SteadyIs kind loose held (2 ^ 64 - 1 - loose)
   steady-others n3 n4 n5 n6 = record { at = λ ns t h x y. not-bit loose t s h ∙ ap not x ∙ all-steady ns ∙ steady-rest kind ns n3 n4 n5 n6 }

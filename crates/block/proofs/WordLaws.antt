@@ -7,15 +7,11 @@ use mathlib.Core.Logic.{⊎-elim, _⊎_, inl, inr}
 use Prim.Native.Nat.{ℕ, zero, suc, _+_, _-_, _≤_, _<_}
 use native.Mathlib.Nat.{not-suc-le-zero, le-of-suc-le-suc}
 use native.Mathlib.Omega.{arith}
-use lib.Dec.{eqb, eqb→eq}
 use lib.ListN.{length, getD, set, length-set}
 use lib.Seq.{getD-set-same, getD-set-other}
 use Rattle.model.specs.Base.{bit}
-use Rattle.model.proofs.BoolLaws.{bool-cases, eqb-false, true→T}
+use Rattle.model.proofs.BoolLaws.{equal-or-not}
 use Rattle.block.specs.Words.{bitsAt, wordsAt, netsFrom, Filled}
-
-pub same-place : (i j : ℕ) → (j ≡ i) ⊎ (j ≡ i → ⊥)
-same-place i j = ⊎-elim (λ e. inl (eqb→eq j i (true→T (eqb j i) e))) (λ e. inr (eqb-false j i e)) (bool-cases (eqb j i))
 
 pub words-length : (array ns : List ℕ) → length (wordsAt array ns) ≡ length ns
 words-length array [] = refl
@@ -82,7 +78,7 @@ module _ {first n : ℕ} {P : ℕ → ℕ → Type 0} {before after : List ℕ} 
             (subst (P (k - 1)) (sym (getD-set-same after (first + (k - 1)) c 0 i)) h))
             (λ (q : p ≡ k - 1 → ⊥).
             subst (P p) (sym (getD-set-other after (first + (k - 1)) (first + p) c 0 (apart first p (k - 1) q))) (x .each p (above p k q m l) o))
-            (same-place (k - 1) p);
+            (equal-or-not p (k - 1));
       }
     where
       away : (j : ℕ) → (j < first) ⊎ (first + n ≤ j) → k ≤ n → j ≡ first + (k - 1) → ⊥

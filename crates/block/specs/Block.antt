@@ -3,12 +3,12 @@
 use mathlib.Core.Path.{_≡_}
 use mathlib.Core.Bool.{Bool, false, _&&_}
 use mathlib.Core.List.{List}
-use Prim.Native.Nat.{ℕ, _+_, _*_, _≤_, _<_}
-use lib.ListN.{length, getD}
+use Prim.Native.Nat.{ℕ, _≤_, _<_}
+use lib.ListN.{getD}
 use Rattle.model.specs.Base.{anyOf, bit, numbersFrom}
-use Rattle.model.specs.Netlist.{Netlist, counts, pinsOf, pinNet}
+use Rattle.model.specs.Netlist.{Netlist, counts, pinNet}
 use Rattle.model.specs.Path.{Edge}
-use Rattle.model.specs.Detect.{Class, Test, Evaluation, noEvaluation, evaluate, openPin, hasEdge, inNetSet}
+use Rattle.model.specs.Detect.{Class, Test, Evaluation, noEvaluation, evaluate, openPin, inNetSet}
 use Rattle.block.specs.Words.{WordIs}
 
 -- A net is live for an edge when its set is not empty
@@ -42,14 +42,6 @@ pub record StateWords (N : Netlist) (tests : ℕ → Test) (n top : ℕ) (firsts
   pub first : FactWords (λ e. e .underV1) N tests n top firsts
   pub last : FactWords (λ e. e .underV2) N tests n top lasts
   pub steady : FactWords (λ e. e .steady) N tests n top steadies
-
--- the open words of the pins of the gates below `top`, pin p of net n at place 8 n + p
-pub record OpenWords (N : Netlist) (tests : ℕ → Test) (n top : ℕ) (array : List ℕ) : Type 0 where
-  pub words : (net p : ℕ) → N .inputs ≤ net → net < top → p < length (pinsOf N net) → WordIs (getD array (8 * net + p) 0) (λ t. openPin N (tests t) net p) n
-
--- the edge words of the inputs
-pub record EdgeWords (tests : ℕ → Test) (e : Edge) (n inputs : ℕ) (array : List ℕ) : Type 0 where
-  pub words : (j : ℕ) → j < inputs → WordIs (getD array j 0) (λ t. hasEdge (tests t) e j) n
 
 -- the live words of the nets below `top`, for an edge
 pub record LiveWords (N : Netlist) (tests : ℕ → Test) (e : Edge) (n top : ℕ) (array : List ℕ) : Type 0 where

@@ -5,7 +5,7 @@ use mathlib.Core.Bool.{Bool, true, false}
 use mathlib.Core.List.{List, [], _∷_, _++_, map}
 use Prim.Native.Nat.{ℕ, _+_, _*_, _≤_, _<_}
 use lib.ListN.{length, getD}
-use Rattle.model.specs.Base.{anyOf, numbersFrom}
+use Rattle.model.specs.Base.{numbersFrom}
 use Rattle.model.specs.Netlist.{Netlist, pinsOf}
 use Rattle.model.specs.Path.{Edge}
 use Rattle.model.specs.Detect.{Test}
@@ -55,10 +55,7 @@ pub record EmptyLists (list lens : List ℕ) : Type 0 where
   pub records : length lens ≡ 64
   pub empty : (t : ℕ) → t < 64 → getD lens t 0 ≡ 0
 
--- from the active words of a gate's pins: it is live in record t, and its entry there
-abbrev pub someActive : List ℕ → ℕ → ℕ → Bool
-someActive rows pins t = anyOf (λ v. v) (bitsAt (firstWords rows pins) t)
-
+-- a live gate's entry in record t, from the active words of its pins
 abbrev pub entryOf : ℕ → List ℕ → ℕ → ℕ → ℕ
 entryOf net rows pins t = 256 * net + packBits (bitsAt (firstWords rows pins) t)
 

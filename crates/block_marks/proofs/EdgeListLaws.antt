@@ -16,12 +16,12 @@ use Rattle.model.specs.Path.{Edge}
 use Rattle.model.specs.Detect.{Test, hasEdge}
 use Rattle.model.proofs.BoolLaws.{lt-false, le-or-lt}
 use Rattle.model.proofs.NumberLaws.{output-net}
+use Rattle.model.proofs.ListLaws.{zeros-at}
 use Rattle.block.specs.Words.{wordsAt}
 use Rattle.block.specs.Block.{InputBits, LiveWords, liveNet}
 use Rattle.block.specs.Lists.{EmptyLists, ListsTrue}
 use Rattle.block.specs.Table.{CircuitTable}
 use Rattle.block.proofs.GateTableLaws.{well}
-use Rattle.block.proofs.SpreadCases.{zero-at}
 use Rattle.block_vectors.specs.Vectors.{SpreadIs}
 use Rattle.block_marks.specs.Marks.{PlaceTable, VectorsOf, liveOutput, ListedEdge, entriesOf}
 use Rattle.block_marks.specs.EdgeMarks.{outAt, OutsAre}
@@ -34,7 +34,7 @@ words-part list at (suc n) h =
 
 -- new lists are empty
 pub no-entries : (list : List ℕ) → 33792 ≤ length list → EmptyLists list (replicate 64 0)
-no-entries list h = record { places = h; records = refl; empty = λ t l. zero-at 64 t }
+no-entries list h = record { places = h; records = refl; empty = λ t l. zeros-at 64 t }
 
 -- the words of the inputs are the vectors, spread
 pub input-bits : {N : Netlist} {tests : ℕ → Test} {n inputs : ℕ} {vectors firsts lasts : List ℕ} → inputs ≡ N .inputs → VectorsOf N tests n vectors

@@ -1,9 +1,8 @@
 -- The marks of an edge written record by record: three places for each.
 -- Assumes nothing.
-use mathlib.Core.Path.{_≡_, refl, ap, sym, _∙_, subst}
+use mathlib.Core.Path.{_≡_, refl, ap, _∙_, subst}
 use mathlib.Core.Bool.{_&&_, not}
 use mathlib.Core.List.{List}
-use mathlib.Core.Logic.{⊎-elim}
 use Prim.Native.Nat.{ℕ, _+_, _-_, _≤_, _<_}
 use native.Mathlib.Omega.{arith}
 use lib.Bits.{bitAnd, bitXor}
@@ -11,8 +10,8 @@ use lib.ListN.{length, getD, set, length-set}
 use lib.Seq.{getD-set-same, getD-set-other}
 use Rattle.model.specs.Base.{bit}
 use Rattle.records.proofs.BitLaws.{rise-bit}
-use Rattle.block.proofs.WordLaws.{same-place}
 use Rattle.block_marks.specs.EdgeMarks.{EdgeWritten}
+use Rattle.block_marks.proofs.OneMoreLaws.{one-more}
 
 -- three places set
 module _ (ws : List ℕ) (a b c x y z : ℕ) where
@@ -51,10 +50,6 @@ module _ (vectors outs lens before : List ℕ) (n first : ℕ) where
         (bitAnd (bitXor (getD vectors (first + t) 0) (getD vectors (64 - first + t) 0)) (getD vectors (64 - first + t) 0))
         (getD outs t 0) (getD lens t 0)
 
-    -- a fact of the records before t and of t itself
-    more : (P : ℕ → Type 0) → ((s : ℕ) → s < t → P s) → P t → (s : ℕ) → s < t + 1 → P s
-    more P p q s h = ⊎-elim (λ (e : s ≡ t). subst P (sym e) q) (λ (d : s ≡ t → ⊥). p s (omega (arith, d))) (same-place t s)
-
     kept : (k : ℕ) → (k ≡ first + t → ⊥) → (k ≡ 128 + first + t → ⊥) → (k ≡ 256 + first + t → ⊥) → getD written k 0 ≡ getD after k 0
     kept k p q r = elsewhere after (first + t) (128 + first + t) (256 + first + t) _ _ _ k p q r
 
@@ -64,15 +59,15 @@ module _ (vectors outs lens before : List ℕ) (n first : ℕ) where
         record {
           sameLength = thrice-length after (first + t) (128 + first + t) (256 + first + t) _ _ _ ∙ long;
           edges = λ s j h.
-              more (λ s. bit (getD written (first + s) 0) j ≡ (not (bit (getD vectors (first + s) 0) j) && bit (getD vectors (64 - first + s) 0) j))
+              one-more (λ s. bit (getD written (first + s) 0) j ≡ (not (bit (getD vectors (first + s) 0) j) && bit (getD vectors (64 - first + s) 0) j)) t
               (λ s m. ap (λ w. bit w j) (kept (first + s) (λ e. omega arith) (λ e. omega arith) (λ e. omega arith)) ∙ x .edges s j m)
               (ap (λ w. bit w j) (at-first after (first + t) (128 + first + t) (256 + first + t) _ _ _ (omega (arith, long)) (omega arith) (omega arith))
               ∙ rise-bit (getD vectors (first + t) 0) (getD vectors (64 - first + t) 0) j)
               s h;
-          outsAt = more (λ s. getD written (128 + first + s) 0 ≡ getD outs s 0)
+          outsAt = one-more (λ s. getD written (128 + first + s) 0 ≡ getD outs s 0) t
               (λ s m. kept (128 + first + s) (λ e. omega arith) (λ e. omega arith) (λ e. omega arith) ∙ x .outsAt s m)
               (at-second after (first + t) (128 + first + t) (256 + first + t) _ _ _ (omega (arith, long)) (omega arith));
-          lensAt = more (λ s. getD written (256 + first + s) 0 ≡ getD lens s 0)
+          lensAt = one-more (λ s. getD written (256 + first + s) 0 ≡ getD lens s 0) t
               (λ s m. kept (256 + first + s) (λ e. omega arith) (λ e. omega arith) (λ e. omega arith) ∙ x .lensAt s m)
               (at-third after (first + t) (128 + first + t) (256 + first + t) _ _ _ (omega (arith, long)));
           others = λ k o.

@@ -7,11 +7,11 @@ use Prim.Native.Nat.{ℕ, _+_, _≤_, _<_}
 use native.Mathlib.Omega.{arith}
 use lib.ListN.{length, getD, set, length-set}
 use lib.Seq.{getD-set-same, getD-set-other}
+use Rattle.model.proofs.BoolLaws.{equal-or-not}
 use Rattle.block.specs.Words.{Filled}
-use Rattle.block.proofs.WordLaws.{same-place}
 
 pub one-more : (P : ℕ → Type 0) (n : ℕ) → ((t : ℕ) → t < n → P t) → P n → (t : ℕ) → t < n + 1 → P t
-one-more P n old new t h = ⊎-elim (λ (e : t ≡ n). subst P (sym e) new) (λ (q : t ≡ n → ⊥). old t (below t n q h)) (same-place n t)
+one-more P n old new t h = ⊎-elim (λ (e : t ≡ n). subst P (sym e) new) (λ (q : t ≡ n → ⊥). old t (below t n q h)) (equal-or-not t n)
   where
     below : (t n : ℕ) → (t ≡ n → ⊥) → t < n + 1 → t < n
     below t n q h = omega arith

@@ -1,7 +1,7 @@
 -- The live outputs of each record, output by output.
 -- Assumes nothing.
 use mathlib.Core.Path.{_≡_, refl, ap, ap₂, sym, _∙_}
-use mathlib.Core.Bool.{Bool, true, _&&_}
+use mathlib.Core.Bool.{Bool, true, _&&_, and-true, and-false}
 use mathlib.Core.List.{List}
 use mathlib.Core.Logic.{⊎-elim}
 use Prim.Native.Nat.{ℕ, zero, suc, _+_, _*_, _/_, _%_, _^_, _≤_, _<_}
@@ -10,14 +10,14 @@ use native.Mathlib.Omega.{arith}
 use lib.Dec.{eqb, eqb→eq, eqb·suc-suc, eqb·suc-zero, eqb·zero-suc, leb, ltb}
 use lib.ListN.{length, getD, replicate}
 use Rattle.model.specs.Base.{bit}
-use Rattle.model.proofs.BoolLaws.{T→true, not→false, eq→eqb, le-true, lt-false, le-or-lt}
+use Rattle.model.proofs.BoolLaws.{T→true, not→false, eq→eqb, le-true, lt-false, le-or-lt, equal-or-not}
+use Rattle.model.proofs.ListLaws.{zeros-at}
+use Rattle.records.proofs.BitLaws.{zero-bit, one-shifted}
 use Rattle.block.specs.Words.{unequal}
 use Rattle.block.specs.Spread.{Flipped}
 use Rattle.block.specs.NetStates.{plane}
-use Rattle.block.proofs.WordBitLaws.{half-bit, first-bit, zero-bit}
-use Rattle.block.proofs.WordLaws.{same-place}
-use Rattle.block.proofs.TruthLaws.{keeps, none-there, unequal-none, unequal-false}
-use Rattle.block.proofs.SpreadCases.{shifted, zero-at}
+use Rattle.block.proofs.WordBitLaws.{half-bit, first-bit}
+use Rattle.block.proofs.TruthLaws.{unequal-none, unequal-false}
 use Rattle.block_marks.specs.EdgeMarks.{outAt, OutsAre}
 use Rattle.block.proofs.PlaneLaws.{plane-at}
 
@@ -35,7 +35,7 @@ power-bit (suc o) (suc s) = half-bit (2 ^ suc o) s ∙ ap (λ x. bit x s) (half 
     half w v e = omega arith
 
 mask-bit : (o s : ℕ) → o < 64 → bit ((1 * 2 ^ o) % 2 ^ 64) s ≡ eqb s o
-mask-bit o s h = ap (λ w. bit w s) (shifted o h) ∙ power-bit o s
+mask-bit o s h = ap (λ w. bit w s) (one-shifted o h) ∙ power-bit o s
 
 -- the word of a gate's net, and of an input
 module _ (words : List ℕ) (inputs net edge : ℕ) where
@@ -62,7 +62,7 @@ module _ (places : List ℕ) (inputs outputs : ℕ) (live : List ℕ) where
     room = refl;
     done = record {
       bits = λ t p h l.
-          ap (λ w. bit w p) (zero-at 64 t) ∙ zero-bit p
+          ap (λ w. bit w p) (zeros-at 64 t) ∙ zero-bit p
           ∙ ap (λ b. b && (leb inputs (outAt places p) && bit (getD live (outAt places p) 0) t)) (sym (lt-false (suc p) 0 (omega arith)));
     };
   }
@@ -79,16 +79,16 @@ module _ (places : List ℕ) (inputs outputs : ℕ) (live : List ℕ) where
         ⊎-elim
         (λ (e : p ≡ o).
         ap₂ (λ a b. unequal (a && shown t p) (shown t o && b)) (lt-false (suc p) o (omega arith)) (T→true (eqb p o) (eq→eqb p o e))
-        ∙ unequal-false (shown t o && true) ∙ keeps (shown t o) ∙ ap (shown t) (sym e)
+        ∙ unequal-false (shown t o && true) ∙ and-true (shown t o) ∙ ap (shown t) (sym e)
         ∙ ap (λ b. b && shown t p) (sym (le-true (suc p) (o + 1) (omega arith))))
         (λ (d : p ≡ o → ⊥).
         ap (λ b. unequal (ltb p o && shown t p) (shown t o && b)) (not→false (eqb p o) (λ u. d (eqb→eq p o u)))
-        ∙ ap (unequal (ltb p o && shown t p)) (none-there (shown t o)) ∙ unequal-none (ltb p o && shown t p)
+        ∙ ap (unequal (ltb p o && shown t p)) (and-false (shown t o)) ∙ unequal-none (ltb p o && shown t p)
         ∙ ap (λ b. b && shown t p)
         (⊎-elim (λ (a : suc p ≤ o). le-true (suc p) o a ∙ sym (le-true (suc p) (o + 1) (omega arith)))
         (λ (a : o < suc p). lt-false (suc p) o a ∙ sym (lt-false (suc p) (o + 1) (omega (arith, d))))
         (le-or-lt (suc p) o)))
-        (same-place o p)
+        (equal-or-not p o)
 
     pub outputs-step : Outputting places inputs outputs live outs′ (o + 1)
     unfolding shown

@@ -11,7 +11,7 @@ use lib.ListN.{length, getD, set, take, drop, length-set}
 use lib.Seq.{getD-set-same, getD-set-other}
 use Rattle.model.specs.Netlist.{outputCount}
 use Rattle.netlist.specs.Tables.{outputIn}
-use Rattle.records.proofs.PartLaws.{part-rest}
+use Rattle.netlist.proofs.OutputLaws.{output-here, output-long}
 use Rattle.block.specs.Words.{Filled}
 use Rattle.block_marks.specs.PlaceParts.{pathsTo, pinsAt, pinPaths, GateFits, PinsPlaced, GatesFit, GatesPlaced, netAt, outputPaths, OutputsFit, OutputsPlaced}
 use Rattle.block_marks.proofs.OneMoreLaws.{one-more, fill-more}
@@ -95,7 +95,7 @@ pub record OutputsDone (part : List ℕ) (inputs outputs : ℕ) (counts before a
 module _ {part : List ℕ} {inputs outputs : ℕ} {counts : List ℕ} (f : OutputsFit part inputs outputs counts)
     {before after : List ℕ} {offset o : ℕ} (d : OutputsDone part inputs outputs counts before after offset o) where
   pub output-inside : o < outputs → 4 ≤ length (take (length part - 4 * o) (drop (4 * o) part))
-  output-inside l = rw (part-rest (4 * o) part) (omega (arith, lib.ListN.length-drop (4 * o) part, f .inside))
+  output-inside l = output-long part o outputs (f .inside) l
 
   pub outputs-all : outputs ≤ o → OutputsPlaced part inputs outputs counts before after
   outputs-all l =
@@ -104,7 +104,7 @@ module _ {part : List ℕ} {inputs outputs : ℕ} {counts : List ℕ} (f : Outpu
 
   module _ (l : o < outputs) {net : ℕ} (en : net ≡ outputIn (take (length part - 4 * o) (drop (4 * o) part))) where
     net-is : net ≡ netAt part o
-    net-is = en ∙ ap outputIn (part-rest (4 * o) part)
+    net-is = output-here part o net en
 
     pub output-net : net < 512
     output-net = omega (arith, net-is, f .atNets o l)

@@ -1,7 +1,7 @@
 -- The marks of a block's records, from what the steps promise.
 -- Assumes nothing.
 use mathlib.Core.Path.{_≡_, ap, ap₂, sym, _∙_}
-use mathlib.Core.Bool.{false, _&&_, not}
+use mathlib.Core.Bool.{false, _&&_, not, and-comm}
 use mathlib.Core.List.{List}
 use Prim.Native.Nat.{ℕ, _+_, _*_, _≤_, _<_}
 use native.Mathlib.Nat.{zero-add}
@@ -16,7 +16,6 @@ use Rattle.netlist.specs.declared.inner.Shape.{Shape}
 use Rattle.block.specs.Block.{BlockOf}
 use Rattle.block.specs.Table.{CircuitTable}
 use Rattle.block.specs.NetStates.{riseWords, fallWords, InputWords, GatesListed}
-use Rattle.block.proofs.TruthLaws.{and-turn}
 use Rattle.block_vectors.specs.Vectors.{SpreadIs}
 use Rattle.block_marks.specs.Marks.{PlaceTable, VectorsOf, MarksTrue}
 use Rattle.block_marks.specs.EdgeMarks.{BatchTables, OutsAre, EdgeWritten}
@@ -51,7 +50,7 @@ module _ {vectors upOuts upLens downOuts downLens marks₀ marks₁ marks : List
     fall-bits : (j : ℕ) → j < N .inputs → bit (getD marks (64 + t) 0) j ≡ hasEdge (tests t) falling j
     unfolding hasEdge
     fall-bits j l =
-        w₂ .edges t j h ∙ ap₂ (λ y z. not y && z) (v .second t j h l) (first-at j l) ∙ and-turn (not (getD (tests t .v2) j false)) (getD (tests t .v1) j false)
+        w₂ .edges t j h ∙ ap₂ (λ y z. not y && z) (v .second t j h l) (first-at j l) ∙ and-comm (not (getD (tests t .v2) j false)) (getD (tests t .v1) j false)
 
 -- all marks, from what the steps promise
 module _ {table places : List ℕ} {b : Batch} (s : BatchTables table places b) {vectors firsts lasts : List ℕ}

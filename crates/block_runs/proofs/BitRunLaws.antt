@@ -1,7 +1,7 @@
 -- What the set bits of a word add: nothing where none is set, else what the lowest adds and then the others; and runs that are apart or shifted.
 -- Assumes nothing.
 use mathlib.Core.Path.{_≡_, refl, ap, sym, _∙_}
-use mathlib.Core.Bool.{true, false}
+use mathlib.Core.Bool.{true, false, _&&_}
 use mathlib.Core.List.{List, [], _∷_, _++_, append-assoc, append-nil}
 use mathlib.Core.Logic.{⊎-elim}
 use Prim.Native.Nat.{ℕ, zero, suc, _+_, _-_, _/_, _%_, _^_, _≤_, _<_}
@@ -13,13 +13,13 @@ use lib.Dec.{eqb}
 use lib.Pow.{pow-mono}
 use Rattle.model.specs.Base.{bit}
 use Rattle.model.specs.Runs.{Run}
-use Rattle.model.proofs.BoolLaws.{cases}
+use Rattle.model.proofs.BoolLaws.{and-left, T→true, true→T, cases, equal-or-not}
 use Rattle.runs.specs.RunLists.{run, Sound, onlyIf, addRuns, shiftRuns}
 use Rattle.runs.proofs.MemberLaws.{member, run-path, runsOf-unique}
 use Rattle.run_union.proofs.AddRunLaws.{Asc, sound-asc, addRuns-sound, addRuns-member}
-use Rattle.block.proofs.WordBitLaws.{half-bit, first-bit, zero-bit}
+use Rattle.records.proofs.BitLaws.{zero-bit, and-bit}
+use Rattle.block.proofs.WordBitLaws.{half-bit, first-bit}
 use Rattle.block.proofs.LowBitLaws.{low-there, others-stay, low-gone}
-use Rattle.block.proofs.WordLaws.{same-place}
 use Rattle.block_runs.specs.PinSpans.{bitRuns}
 
 -- ---- bits
@@ -41,6 +41,10 @@ past-word d n p h l = ap (λ x. eqb (x % 2) 1) (div-eq-of-lt {n = n} {m = 2 ^ p}
 
 pub set-within : (d n p : ℕ) → n < 2 ^ d → bit n p ≡ true → p < d
 set-within d n p h e = cases d p (λ l. absurd (mathlib.Core.Bool.false≢true (sym (past-word d n p h l) ∙ e))) (λ l. l)
+
+-- a bit of `and` is one of its first word
+pub and-within : (a b p : ℕ) → bit (bitAnd a b) p ≡ true → bit a p ≡ true
+and-within a b p e = T→true (bit a p) (and-left (bit a p) (bit b p) (true→T (bit a p && bit b p) (sym (and-bit a b p) ∙ e)))
 
 -- ---- what they add
 
@@ -72,7 +76,7 @@ module _ (f : ℕ → List Run) where
         (λ (e : n ≡ low). rw e (here))
         (λ (d : n ≡ low → ⊥).
         (λ j. bits-first n (omega arith) j ++ onlyIf (sym (stay n d) j) (f n)) ∙ append-assoc (f low) (bitRuns f w′ n) (onlyIf (bit w′ n) (f n)))
-        (same-place low n)
+        (equal-or-not n low)
       where
         here : bitRuns f w low ++ onlyIf (bit w low) (f low) ≡ f low ++ (bitRuns f w′ low ++ onlyIf (bit w′ low) (f low))
         here =

@@ -7,14 +7,15 @@ use Prim.Native.Nat.{ℕ, zero, suc, _+_, _-_, _*_, _/_, _%_, _^_, _≤_, _<_}
 use native.Mathlib.Nat.{pow-suc, lt-of-lt-of-le}
 use native.Mathlib.Omega.{arith}
 use lib.Dec.{eqb}
-use lib.ListN.{length, getD}
+use lib.ListN.{length, getD, length-map}
 use lib.Pow.{pow-mono}
 use Rattle.model.specs.Base.{anyOf, bit, numbersFrom}
 use Rattle.model.proofs.BoolLaws.{cases}
 use Rattle.model.proofs.ListLaws.{getD-map-in, length-numbersFrom, numbersFrom-at}
 use Rattle.packed_pins.specs.Packed.{oneWhere}
+use Rattle.records.proofs.BitLaws.{zero-bit}
 use Rattle.block.specs.Lists.{packBits, keepIf, keep}
-use Rattle.block.proofs.WordBitLaws.{half-bit, first-bit, zero-bit}
+use Rattle.block.proofs.WordBitLaws.{half-bit, first-bit}
 use Rattle.block_runs.proofs.BitRunLaws.{past-word}
 
 -- ---- packed values
@@ -48,17 +49,13 @@ packed-some g (n ∷ ns) e = go (g n) (packBits (map g ns)) e (packed-some g ns)
     go true m e ih = omega arith
     go false m e ih = omega (arith, ih e)
 
-length-map-in : (g : ℕ → Bool) (ns : List ℕ) → length (map g ns) ≡ length ns
-length-map-in g [] = refl
-length-map-in g (n ∷ ns) = ap suc (length-map-in g ns)
-
 -- the values of a test at the first n numbers
 module _ (g : ℕ → Bool) (n : ℕ) where
   abbrev packed : ℕ
   packed = packBits (map g (numbersFrom 0 n))
 
   many : length (map g (numbersFrom 0 n)) ≡ n
-  many = length-map-in g (numbersFrom 0 n) ∙ length-numbersFrom 0 n
+  many = length-map (numbersFrom 0 n) g ∙ length-numbersFrom 0 n
 
   pub pack-small : packBits (map g (numbersFrom 0 n)) < 2 ^ n
   pack-small = rw many at (packed-small (map g (numbersFrom 0 n)))

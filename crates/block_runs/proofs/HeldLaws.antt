@@ -25,7 +25,7 @@ pub record AllIn (P : ℕ → Type 0) (s : List Run) : Type 0 where
   pub each : (x : ℕ) → T (inRuns s x) → P x
 
 module _ {P : ℕ → Type 0} where
-  all-none : AllIn P []
+  pub all-none : AllIn P []
   unfolding inRuns
   all-none = record { each = λ x t. absurd t }
 

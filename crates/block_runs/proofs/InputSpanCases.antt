@@ -1,21 +1,16 @@
 -- The loop over the inputs: the spans of the inputs so far are written.
 -- Assumes nothing.
-use mathlib.Core.Path.{_≡_, ap, _∙_, subst}
+use mathlib.Core.Path.{_≡_, _∙_, subst}
 use mathlib.Core.List.{List}
-use mathlib.Core.Logic.{⊎-elim}
 use Prim.Native.Nat.{ℕ, _+_, _≤_, _<_}
 use native.Mathlib.Omega.{arith}
 use borrow.Author.Needs.{needs}
 use lib.ListN.{length}
-use Rattle.block.proofs.WordLaws.{same-place}
+use Rattle.block_marks.proofs.OneMoreLaws.{one-more}
 use Rattle.block_runs.specs.Spans.{firstOf, endOf, shiftOf, Ascending, InputSpans}
 use Rattle.block_runs.specs.PinSpans.{withSpan, SameSpan}
 use Rattle.block_runs.proofs.SectionLaws.{ascending-same}
 use Rattle.block_runs.proofs.SpanCases.{span-length, span-others, span-past, span-first, span-end, span-shift}
-
--- a value at one place more
-one-more : (f : ℕ → ℕ) (v i : ℕ) → f i ≡ v → ((j : ℕ) → j < i → f j ≡ v) → (j : ℕ) → j < i + 1 → f j ≡ v
-one-more f v i here below j h = ⊎-elim (λ (e : j ≡ i). ap f e ∙ here) (λ (d : j ≡ i → ⊥). below j (omega (arith, d))) (same-place i j)
 
 pub record InputsSpanned (inputs : ℕ) (spans : List ℕ) (input : ℕ) : Type 0 where
   pub few : inputs ≤ 64
@@ -62,9 +57,9 @@ module _ {inputs : ℕ} {spans : List ℕ} {input : ℕ} (x : InputsSpanned inpu
             room = span-length spans input 0 1 0 ∙ room;
             rising = ascending-same (λ k p q. span-past spans input 0 1 0 few k p) (x .spanned .rising);
             falling = ascending-same (λ k p q. span-past spans input 0 1 0 few k (omega arith)) (x .spanned .falling);
-            firsts = one-more (firstOf now) 0 input (span-first spans input 0 1 0 few room) (λ j h. others j h .firsts ∙ x .spanned .firsts j h);
-            ends = one-more (endOf now) 1 input (span-end spans input 0 1 0 few room) (λ j h. others j h .ends ∙ x .spanned .ends j h);
-            shifts = one-more (shiftOf now) 0 input (span-shift spans input 0 1 0 few room) (λ j h. others j h .shifts ∙ x .spanned .shifts j h);
+            firsts = one-more (λ j. firstOf now j ≡ 0) input (λ j h. others j h .firsts ∙ x .spanned .firsts j h) (span-first spans input 0 1 0 few room);
+            ends = one-more (λ j. endOf now j ≡ 1) input (λ j h. others j h .ends ∙ x .spanned .ends j h) (span-end spans input 0 1 0 few room);
+            shifts = one-more (λ j. shiftOf now j ≡ 0) input (λ j h. others j h .shifts ∙ x .spanned .shifts j h) (span-shift spans input 0 1 0 few room);
           };
         }
 

@@ -1,9 +1,8 @@
 -- The loop over the live outputs: the runs so far, with those of the outputs left, make the whole.
 -- Assumes nothing.
-use mathlib.Core.Path.{_≡_, refl, ap, sym, _∙_, subst⁻¹}
+use mathlib.Core.Path.{_≡_, refl, ap, _∙_, subst⁻¹}
 use mathlib.Core.Bool.{true}
 use mathlib.Core.List.{List, _++_}
-use mathlib.Core.Logic.{⊎-elim}
 use Prim.Native.Nat.{ℕ, _+_, _-_, _*_, _^_, _≤_, _<_}
 use native.Mathlib.Omega.{arith}
 use borrow.Author.Needs.{needs}
@@ -22,12 +21,11 @@ use Rattle.runs.specs.declared.inner.Added.the-variants.{Count, Full}
 use Rattle.run_union.specs.Unions.{withShifted}
 use Rattle.run_union.proofs.Adding.{Adding, adding-start, adding-runs, adding-length, adding-done, part-full, part-more, as-rest}
 use Rattle.place_runs.proofs.AddedLaws.{as-adds}
-use Rattle.block.proofs.LowBitLaws.{low-in, low-there, less-left, others-stay, low-gone}
-use Rattle.block.proofs.WordLaws.{same-place}
+use Rattle.block.proofs.LowBitLaws.{low-in, low-there, less-left}
 use Rattle.block_runs.specs.Spans.{firstOf, endOf, standing}
 use Rattle.block_runs.specs.PinSpans.{bitRuns}
 use Rattle.block_runs.specs.LiveOutputs.{outNet, outShift, runsOfOutput, runsOfOutputs, OutputReady, OutputsReady}
-use Rattle.block_runs.proofs.BitRunLaws.{no-bits, bits-low}
+use Rattle.block_runs.proofs.BitRunLaws.{and-within, no-bits, bits-low}
 
 -- places of the two arrays
 pub place-fits : (x : ℕ) → x < 4224 → Fits w64 x
@@ -130,13 +128,6 @@ module _ {places : List ℕ} {outs : ℕ} {spans ws₀ : List ℕ} where
       pub output-less : bitAnd left (left - 1) < left
       output-less = less-left (i .small) ne
 
-      within-less : (o : ℕ) → bit (bitAnd left (left - 1)) o ≡ true → bit outs o ≡ true
-      within-less o t =
-          ⊎-elim
-          (λ (e : o ≡ trailingZeros 64 left). absurd (mathlib.Core.Bool.true≢false (sym t ∙ ap (bit (bitAnd left (left - 1))) e ∙ low-gone (i .small) ne)))
-          (λ (d : o ≡ trailingZeros 64 left → ⊥). i .within o (sym (others-stay (i .small) ne o d) ∙ t))
-          (same-place (trailingZeros 64 left) o)
-
       module _ {ws′ : List ℕ} {q : Added}
           (d : Adds ws ws′ maxRuns maxRuns (withShifted ws (firstOf spans (outNet places (trailingZeros 64 left))) (endOf spans (outNet places (trailingZeros 64 left)))
           maxRuns count (outShift places spans (trailingZeros 64 left))) q) where
@@ -159,7 +150,7 @@ module _ {places : List ℕ} {outs : ℕ} {spans ws₀ : List ℕ} where
         output-more {c} t = record {
           ready = i .ready;
           small = omega (arith, output-less, i .small);
-          within = within-less;
+          within = λ o t. i .within o (and-within left (left - 1) o t);
           adding = part-more ws₀ ws maxRuns maxRuns count (runsOfOutputs places outs spans ws₀) ws′ part rest then q c t (omega (arith, i .ready .room)) added;
         }
 

@@ -28,7 +28,7 @@ use Rattle.block.specs.Block.{liveNet}
 use Rattle.block_marks.specs.Marks.{PlaceTable, ListedEdge}
 use Rattle.block_runs.specs.Spans.{firstOf, endOf, shiftOf, standing, SpanIs}
 use Rattle.block_runs.specs.PinSpans.{bitRuns}
-use Rattle.block_runs.specs.LiveOutputs.{outNet, outShift, runsOfOutput, runsOfOutputs, OutputReady, EndsBefore, OutputsReady}
+use Rattle.block_runs.specs.LiveOutputs.{outNet, runsOfOutput, runsOfOutputs, OutputReady, EndsBefore, OutputsReady}
 use Rattle.block_runs.proofs.BitRunLaws.{shift-shift}
 use Rattle.block_runs.proofs.LiveRunLaws.{shift-most, dead-set, live-set, set-counted}
 

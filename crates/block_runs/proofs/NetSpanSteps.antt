@@ -15,7 +15,7 @@ use mir.Syntax.{w64}
 use Rattle.model.specs.Base.{numbersFrom}
 use Rattle.model.specs.Netlist.{nets}
 use Rattle.model.specs.Store.{maxRuns}
-use Rattle.model.proofs.BoolLaws.{cases}
+use Rattle.model.proofs.BoolLaws.{cases, equal-or-not}
 use Rattle.model.proofs.ReadLaws.{limits}
 use Rattle.runs.specs.declared.inner.Added.the-variants.{Count, Full}
 use Rattle.intervals.specs.Edges.{Case}
@@ -25,7 +25,6 @@ use Rattle.intervals.proofs.DetectedLaws.{set-sound, working-all}
 use Rattle.intervals.proofs.StandLaws.{runs-next, runs-mono, kept-refl, kept-then}
 use Rattle.block.specs.Block.{liveNet}
 use Rattle.block.specs.Lists.{keep, gateEntry, liveEntries}
-use Rattle.block.proofs.WordLaws.{same-place}
 use Rattle.block_runs.specs.Spans.{SpanIs, InputSpans, SpansMade}
 use Rattle.block_runs.specs.PinSpans.{entryRuns, SpanMade, NetSpanned, EntryReady, NetsListed, SomeNetsListed}
 use Rattle.block_runs.specs.declared.nets.Grown.{Grown}
@@ -215,7 +214,7 @@ module _ {table places entries spans₀ ws₀ : List ℕ} where
                   (λ (z : q ≡ here → ⊥).
                   span-stays made-here (omega (arith, high K inputs a, few-nets K inputs a)) z (span .grows)
                   (d K inputs a .spansAre q (before K inputs a q (omega arith) live) live))
-                  (same-place here q);
+                  (equal-or-not q here);
               summed = omega (arith, d K inputs a .summed, span .counted, runs-next (setRuns K) here, so-far K inputs a);
               few = λ l. omega (arith, span .most, span .counted, runs-next (setRuns K) here, so-far K inputs a, standing-few K inputs a);
               most = few-total;

@@ -1,9 +1,8 @@
 -- The loop over a gate's active pins: the list holds what the pins that are no longer left add.
 -- Assumes nothing.
-use mathlib.Core.Path.{_≡_, refl, sym, ap, _∙_, subst⁻¹}
+use mathlib.Core.Path.{_≡_, refl, ap, _∙_, subst⁻¹}
 use mathlib.Core.Bool.{true}
 use mathlib.Core.List.{List, _++_}
-use mathlib.Core.Logic.{⊎-elim}
 use Prim.Native.Nat.{ℕ, _+_, _-_, _^_, _≤_, _<_}
 use native.Mathlib.Omega.{arith}
 use borrow.Author.Needs.{needs}
@@ -21,11 +20,10 @@ use Rattle.runs.specs.declared.inner.Added.{Added}
 use Rattle.runs.specs.declared.inner.Added.the-variants.{Count, Full}
 use Rattle.run_union.proofs.Adding.{Adding, adding-start, adding-runs, adding-length, adding-done, as-rest, part-full, part-more}
 use Rattle.place_runs.proofs.AddedLaws.{as-adds}
-use Rattle.block.proofs.LowBitLaws.{low-there, less-left, others-stay, low-gone}
-use Rattle.block.proofs.WordLaws.{same-place}
+use Rattle.block.proofs.LowBitLaws.{low-there, less-left}
 use Rattle.block_runs.specs.Spans.{firstOf, endOf, standing}
 use Rattle.block_runs.specs.PinSpans.{sourceAt, shiftAt, pinRuns, bitRuns, byteRuns, PinReady, ByteReady}
-use Rattle.block_runs.proofs.BitRunLaws.{set-within, no-bits, bits-low}
+use Rattle.block_runs.proofs.BitRunLaws.{set-within, and-within, no-bits, bits-low}
 
 -- the runs of a net that stands before the list are as they were
 pub standing-kept : (spans ws ws′ : List ℕ) (made net : ℕ) → ((f k : ℕ) → f + k ≤ made → runsInWords ws′ f k ≡ runsInWords ws f k)
@@ -124,11 +122,7 @@ module _ {table places : List ℕ} {first byte : ℕ} {spans ws₀ : List ℕ} {
         pin-more {c} t = record {
           ready = x .ready;
           small = omega (arith, left-less, x .small);
-          within = λ p e.
-              ⊎-elim
-              (λ (z : p ≡ trailingZeros 64 left). absurd (mathlib.Core.Bool.false≢true (sym (ap (bit (bitAnd left (left - 1))) z ∙ low-gone wide ne) ∙ e)))
-              (λ (z : p ≡ trailingZeros 64 left → ⊥). x .within p (sym (others-stay wide ne p z) ∙ e))
-              (same-place (trailingZeros 64 left) p);
+          within = λ p e. x .within p (and-within left (left - 1) p e);
           adding = part-more ws₀ ws made (maxRuns - made) count all ws′ (adds (trailingZeros 64 left)) (bitRuns adds (bitAnd left (left - 1)) 8) then q c t
               (omega (arith, x .ready .room, pins-used)) added;
         }

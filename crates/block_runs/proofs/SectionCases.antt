@@ -1,7 +1,7 @@
 -- Runs of outputs that lie in held runs: one run, those of a net, those of the live outputs one after the other.
 -- Assumes nothing.
-use mathlib.Core.Path.{_≡_, refl, ap, sym, _∙_, subst, subst⁻¹}
-use mathlib.Core.Bool.{Bool, true, false, not}
+use mathlib.Core.Path.{_≡_, ap, sym, _∙_, subst⁻¹}
+use mathlib.Core.Bool.{Bool, true, false, not, Bool·not-not}
 use mathlib.Core.List.{List}
 use mathlib.Core.Logic.{⊎-elim}
 use Prim.Native.Nat.{ℕ, _+_, _-_, _*_, _/_, _^_, _≤_, _<_}
@@ -16,20 +16,17 @@ use mir.Val.{Fits}
 use mir.Syntax.{w64}
 use Rattle.model.specs.Base.{bit}
 use Rattle.model.specs.Store.{maxRuns}
+use Rattle.model.proofs.BoolLaws.{equal-or-not}
 use Rattle.runs.specs.RunLists.{run, Sound, RunWithin, shiftRun, runAt, runsInWords}
 use Rattle.runs.specs.Answers.{RunInside}
 use Rattle.runs.proofs.RunWordLaws.{sound-at}
-use Rattle.block.proofs.LowBitLaws.{low-in, low-there, less-left, others-stay, low-gone}
-use Rattle.block.proofs.WordBitLaws.{zero-bit}
-use Rattle.block.proofs.WordLaws.{same-place}
+use Rattle.records.proofs.BitLaws.{zero-bit}
+use Rattle.block.proofs.LowBitLaws.{low-in, low-there, less-left, others-stay}
 use Rattle.block_runs.specs.Spans.{Ascending}
 use Rattle.block_runs.specs.LiveOutputs.{OutputReady, OutputsReady}
 use Rattle.block_runs.specs.Sections.{SectionIn, SpanHeld, OutputHeld, OutputsHeld, Asked}
+use Rattle.block_runs.proofs.BitRunLaws.{and-within}
 use Rattle.block_runs.proofs.WholeOutputLaws.{no-answer, whole-held}
-
-not-not : (b : Bool) → not b ≡ false → b ≡ true
-not-not true e = refl
-not-not false e = no-answer (sym e)
 
 -- ---- one run, at the place that was found
 
@@ -86,9 +83,9 @@ module _ {ws : List ℕ} {from to shift : ℕ} {held : List ℕ} where
         sound = x .sound;
         done = λ j p q.
             ⊎-elim
-            (λ (d : j ≡ i). subst⁻¹ (λ n. RunInside held 0 (length held / 2) (shiftRun shift (runAt ws n))) d (f (not-not b e)))
+            (λ (d : j ≡ i). subst⁻¹ (λ n. RunInside held 0 (length held / 2) (shiftRun shift (runAt ws n))) d (f (sym (Bool·not-not b) ∙ ap not e)))
             (λ (d : j ≡ i → ⊥). x .done j p (omega (arith, d)))
-            (same-place i j);
+            (equal-or-not j i);
       }
 
 pub ruleset span-held-cases = (span-begin, span-not, span-done, span-in, span-low, span-high, span-more, needs)
@@ -150,9 +147,6 @@ module _ {places : List ℕ} {outs : ℕ} {spans : List ℕ} {base : ℕ} {ws he
       pub held-less : bitAnd left (left - 1) < left
       held-less = less-left (x .small) ne
 
-      gone : (o : ℕ) → (o ≡ trailingZeros 64 left → ⊥) → bit (bitAnd left (left - 1)) o ≡ bit left o
-      gone = others-stay (x .small) ne
-
       pub held-more : {b : Bool} → not b ≡ false → (b ≡ true → OutputHeld places spans ws held (trailingZeros 64 left)) → HeldSoFar places outs spans base ws held (bitAnd left (left - 1))
       held-more {b} e f = record {
         few = x .few;
@@ -160,16 +154,12 @@ module _ {places : List ℕ} {outs : ℕ} {spans : List ℕ} {base : ℕ} {ws he
         ascending = x .ascending;
         last = x .last;
         small = omega (arith, held-less, x .small);
-        within = λ o t.
-            ⊎-elim
-            (λ (d : o ≡ trailingZeros 64 left). no-answer (sym (ap (bit (bitAnd left (left - 1))) d ∙ low-gone (x .small) ne) ∙ t))
-            (λ (d : o ≡ trailingZeros 64 left → ⊥). x .within o (sym (gone o d) ∙ t))
-            (same-place (trailingZeros 64 left) o);
+        within = λ o t. x .within o (and-within left (left - 1) o t);
         done = λ o h t u.
             ⊎-elim
-            (λ (d : o ≡ trailingZeros 64 left). subst⁻¹ (λ n. OutputHeld places spans ws held n) d (f (not-not b e)))
-            (λ (d : o ≡ trailingZeros 64 left → ⊥). x .done o h t (sym (gone o d) ∙ u))
-            (same-place (trailingZeros 64 left) o);
+            (λ (d : o ≡ trailingZeros 64 left). subst⁻¹ (λ n. OutputHeld places spans ws held n) d (f (sym (Bool·not-not b) ∙ ap not e)))
+            (λ (d : o ≡ trailingZeros 64 left → ⊥). x .done o h t (sym (others-stay (x .small) ne o d) ∙ u))
+            (equal-or-not o (trailingZeros 64 left));
       }
 
 pub ruleset held-cases = (held-begin, held-not, held-done, held-in, held-fits, held-few, held-room, held-ready, held-section, held-less, held-more, needs)

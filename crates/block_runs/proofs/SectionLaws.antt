@@ -8,9 +8,9 @@ use native.Mathlib.Omega.{arith}
 use borrow.Author.Needs.{needs}
 use lib.ListN.{length, getD, set, length-set}
 use lib.Seq.{getD-set-same, getD-set-other}
+use Rattle.model.proofs.BoolLaws.{equal-or-not}
 use mir.Val.{Fits}
 use mir.Syntax.{w64}
-use Rattle.block.proofs.WordLaws.{same-place}
 use Rattle.block_runs.specs.Spans.{Ascending, InputSpans}
 
 pub ascending-same : {base : ℕ} {spans spans′ : List ℕ} → ((k : ℕ) → base ≤ k → k ≤ base + 64 → getD spans′ k 0 ≡ getD spans k 0)
@@ -43,7 +43,7 @@ module _ {spans : List ℕ} {o : ℕ} (x : Cleared spans o) where
         ⊎-elim
         (λ (e : k ≡ o). ap (λ j. getD (set spans (1536 + o) 0) (1536 + j) 0) e ∙ getD-set-same spans (1536 + o) 0 0 (omega (arith, x .room)))
         (λ (d : k ≡ o → ⊥). getD-set-other spans (1536 + o) (1536 + k) 0 0 (λ e. d (minus o k e)) ∙ x .zeros k (omega (arith, d)))
-        (same-place o k);
+        (equal-or-not k o);
   }
     where
       minus : (a b : ℕ) → 1536 + b ≡ 1536 + a → b ≡ a
@@ -95,7 +95,7 @@ found-more {spans₀} {base} {spans} {at} {output} x {new} h l = record {
       ⊎-elim
       (λ (e : k ≡ output). let v : getD (set spans (base + output) new) (base + k) 0 ≡ new = ap (λ j. getD (set spans (base + output) new) (base + j) 0) e ∙ here in omega (arith, v))
       (λ (d : k ≡ output → ⊥). let v = there (base + k) (λ e. d (minus e)) in omega (arith, v, x .last k (omega (arith, d))))
-      (same-place output k);
+      (equal-or-not k output);
   next = λ k p.
       let v = there (base + k) (λ e. omega arith) in
       ⊎-elim
@@ -104,7 +104,7 @@ found-more {spans₀} {base} {spans} {at} {output} x {new} h l = record {
       let w : getD (set spans (base + output) new) (base + k + 1) 0 ≡ new = ap (λ j. getD (set spans (base + output) new) j 0) i ∙ here in
       omega (arith, v, w, x .last k (omega arith)))
       (λ (d : k + 1 ≡ output → ⊥). let w = there (base + k + 1) (λ e. d (omega arith)) in omega (arith, v, w, x .next k (omega (arith, d))))
-      (same-place output (k + 1));
+      (equal-or-not (k + 1) output);
   below = λ k p. there k (λ e. omega arith) ∙ x .below k p;
   above = λ k p. there k (λ e. omega arith) ∙ x .above k p;
 }

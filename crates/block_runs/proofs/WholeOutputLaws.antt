@@ -3,7 +3,7 @@
 use mathlib.Core.Path.{_≡_, refl, ap, sym, _∙_}
 use mathlib.Core.Bool.{Bool, true, false, not, _&&_}
 use mathlib.Core.List.{List}
-use Prim.Native.Nat.{ℕ, _+_, _-_, _*_, _/_, _^_, _≤_, _<_}
+use Prim.Native.Nat.{ℕ, _+_, _-_, _/_, _^_, _≤_, _<_}
 use native.Mathlib.Nat.{lt-of-le-of-lt}
 use native.Mathlib.Omega.{arith}
 use borrow.Author.Needs.{needs}
@@ -13,24 +13,18 @@ use lib.ListN.{length, getD}
 use lib.Pow.{shr-le}
 use Rattle.model.specs.Base.{bit}
 use Rattle.model.proofs.BoolLaws.{cases}
-use Rattle.records.proofs.BitLaws.{and-bit}
-use Rattle.runs.specs.RunLists.{shiftRun, runAt}
-use Rattle.runs.specs.Answers.{RunInside}
+use Rattle.records.proofs.BitLaws.{and-bit, zero-bit}
 use Rattle.runs.proofs.RunWordLaws.{sound-at}
 use Rattle.block.proofs.LowBitLaws.{low-there}
-use Rattle.block.proofs.WordBitLaws.{zero-bit, not-bit}
+use Rattle.block.proofs.WordBitLaws.{not-bit}
 use Rattle.block_vectors.proofs.WordShiftLaws.{right-bit}
 use Rattle.block_runs.specs.Spans.{firstOf, endOf}
-use Rattle.block_runs.specs.LiveOutputs.{outNet, outShift, OutputsReady}
+use Rattle.block_runs.specs.LiveOutputs.{outNet, OutputsReady}
 use Rattle.block_runs.specs.Sections.{OutputHeld, FirstHolds, Asked}
-use Rattle.block_runs.proofs.BitRunLaws.{set-within}
+use Rattle.block_runs.proofs.BitRunLaws.{set-within, and-within}
 
 pub no-answer : {A : Type 0} → false ≡ true → A
 no-answer e = absurd (mathlib.Core.Bool.false≢true e)
-
-left-true : (a b : Bool) → (a && b) ≡ true → a ≡ true
-left-true true b e = refl
-left-true false b e = no-answer e
 
 -- a bit that `and` with the complement takes away
 taken-away : (a b : Bool) → a ≡ true → (a && not b) ≡ false → b ≡ true
@@ -57,7 +51,7 @@ pub asked-rest : {places : List ℕ} {outs : ℕ} {held : List ℕ} (whole first
     → 2 ≤ length held → getD held 0 0 ≤ 1 → getD places (4096 + first) 0 ≤ getD held 1 0 → Asked places outs held (bitAnd outs ((2 ^ 64 - 1) - whole))
 asked-rest {outs = outs} whole first s u below ne some low high = record {
   small = lt-of-le-of-lt (and-le-l outs ((2 ^ 64 - 1) - whole)) s;
-  within = λ o e. left-true (bit outs o) (bit ((2 ^ 64 - 1) - whole) o) (sym (and-bit outs ((2 ^ 64 - 1) - whole) o) ∙ e);
+  within = λ o e. and-within outs ((2 ^ 64 - 1) - whole) o e;
   others = λ o h t f.
       let gone = taken-away (bit outs o) (bit whole o) t (sym (and-bit outs ((2 ^ 64 - 1) - whole) o ∙ ap (λ b. bit outs o && b) (not-bit whole o u h)) ∙ f) in
       record {

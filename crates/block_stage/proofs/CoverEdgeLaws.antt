@@ -2,12 +2,12 @@
 -- Assumes nothing.
 use mathlib.Core.Path.{_≡_, refl, sym, ap, _∙_, subst}
 use mathlib.Core.Bool.{Bool, true, false, cond, _||_}
-use mathlib.Core.List.{List, []}
+use mathlib.Core.List.{List}
 use mathlib.Core.Logic.{⊎-elim}
 use Prim.Native.Nat.{ℕ, _*_, _/_, _^_, _≤_}
 use native.Mathlib.Omega.{arith}
 use borrow.Author.Tests.{le-leb, leb-true}
-use lib.Dec.{T, leb}
+use lib.Dec.{leb}
 use lib.ListN.{length, drop}
 use Rattle.model.specs.Store.{maxRuns}
 use Rattle.model.specs.Netlist.{pathTotal}
@@ -34,7 +34,7 @@ use Rattle.block_runs.specs.Spans.{Ascending, InputSpans, ListedAt, SomeListedA
 use Rattle.block_runs.specs.LiveOutputs.{runsOfOutputs, OutputsReady, SpansListed}
 use Rattle.block_runs.specs.Sections.{OutputsHeld}
 use Rattle.block_runs.proofs.ListedLaws.{listed-none, spans-over, spans-detect}
-use Rattle.block_runs.proofs.HeldLaws.{AllIn, outputs-numbers}
+use Rattle.block_runs.proofs.HeldLaws.{AllIn, all-none, outputs-numbers}
 use Rattle.block_stage.specs.Covering.{EdgeReady, SomeEdgeReady}
 use Rattle.block_stage.specs.declared.covering.EdgeMarks.{EdgeMarks}
 
@@ -53,10 +53,6 @@ then-same K s so a =
     runs-same (λ k. P k || inRuns s k) (inRuns s) n
     (λ j h l. or-held (P j) (inRuns s j) (λ e. a .each j (true→T (inRuns (runsOf P n) j) (runs-test P n j h l ∙ e))))
     ∙ runs-of-runs n s so
-
-none-in : {P : ℕ → Type 0} → AllIn P []
-unfolding inRuns
-none-in = record { each = λ x t. absurd t }
 
 module _ {table places entries : List ℕ} {marks : EdgeMarks} {held spans ws : List ℕ} where
   module _ {K : Case} (h : EdgeReady K table places entries marks held spans ws) where
@@ -80,7 +76,7 @@ module _ {table places entries : List ℕ} {marks : EdgeMarks} {held spans ws : 
     pub edge-none : marks .edges ≡ 0 → Covers K (heldRuns held) ws ws (marks .target) (Covered Kept)
     edge-none z =
         let d = listed-none (h .listed) z in
-        kept-covers (none-working d) (subst (λ (s : List Run). AllIn (λ x. inRuns (heldRuns held) x ≡ true) s) (d .runsAre 0 refl) none-in) (λ k l. refl)
+        kept-covers (none-working d) (subst (λ (s : List Run). AllIn (λ x. inRuns (heldRuns held) x ≡ true) s) (d .runsAre 0 refl) all-none) (λ k l. refl)
       where
         count-cases : (b : Bool) (n : ℕ) → _≡_ {A = Added} (Count 0) (cond b (Count n) Full) → b ≡ true
         count-cases true n e = refl

@@ -2,20 +2,6 @@
 ghost use mathlib.Core.Path.{_≡_};
 ghost use lib.ListN.{length};
 
-// The words of a path.
-pub(crate) fn path_buffer() -> [u16; 1024]
-    ensures { λ r. ⌜ 1024 ≡ length r ⌝ }
-{
-    [0; 1024]
-}
-
-// Test records, or .bench text.
-pub(crate) fn tests_buffer() -> [u8; 1024]
-    ensures { λ r. ⌜ 1024 ≡ length r ⌝ }
-{
-    [0; 1024]
-}
-
 // A netlist.
 pub(crate) fn netlist_buffer() -> [u8; 16384]
     ensures { λ r. ⌜ 16384 ≡ length r ⌝ }

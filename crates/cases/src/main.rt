@@ -2,14 +2,11 @@
 // another, or that is not understood, with its number; the last line has the number of comparisons and of wrong lines. The head of cases.txt says
 // how its lines are written.
 mod buffers;
-mod by_length;
 mod calls;
 mod lines;
 mod names;
-mod reading;
 mod storing;
 mod verbs;
-mod writing;
 
 ghost use mathlib.Core.Path.{_≡_};
 ghost use lib.ListN.{length};

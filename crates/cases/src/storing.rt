@@ -1,13 +1,13 @@
 // The calls that write store or working memory, by their verbs.
 use crate::buffers::record_buffer;
 use crate::buffers::record_cells;
-use crate::buffers::tests_buffer;
 use crate::calls;
 use crate::names::AUDIT;
 use crate::names::CLASS;
 use crate::names::EMPTY;
 use crate::names::FIRST;
 use crate::names::TEST;
+use case_questions::inner::buffers::tests_buffer;
 use script::inner::answers::Answer;
 use script::inner::answers::unknown;
 use script::inner::copies::load_bytes;

@@ -1,8 +1,8 @@
 // The calls by their verbs: each is handed memory of the lengths set.
 use crate::buffers::netlist_buffer;
-use crate::reading::ask_reading;
 use crate::storing::ask_storing;
-use crate::writing::ask_writing;
+use case_questions::inner::reading::ask_reading;
+use case_questions::inner::writing::ask_writing;
 use script::inner::answers::Answer;
 use script::inner::answers::unknown;
 use script::inner::copies::load_bytes;

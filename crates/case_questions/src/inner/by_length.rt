@@ -1,8 +1,8 @@
 // The call for coverage by length, by its rows.
-use crate::names::FALLING;
-use crate::names::HELD;
-use crate::names::PATHS;
-use crate::names::RISING;
+use crate::inner::names::FALLING;
+use crate::inner::names::HELD;
+use crate::inner::names::PATHS;
+use crate::inner::names::RISING;
 use lengths::EdgeRows;
 use lengths::LengthRows;
 use lengths::LengthsAnswer;

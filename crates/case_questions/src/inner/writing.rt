@@ -1,11 +1,11 @@
 // The calls that write path, report, the records of a load or the converter's netlist file, by their verbs: each with its bytes out of cells and back.
-use crate::buffers::path_buffer;
-use crate::buffers::tests_buffer;
-use crate::calls;
-use crate::names::BENCH;
-use crate::names::FIND;
-use crate::names::LOAD;
-use crate::names::WRITE;
+use crate::inner::buffers::path_buffer;
+use crate::inner::buffers::tests_buffer;
+use crate::inner::calls;
+use crate::inner::names::BENCH;
+use crate::inner::names::FIND;
+use crate::inner::names::LOAD;
+use crate::inner::names::WRITE;
 use script::inner::answers::Answer;
 use script::inner::answers::unknown;
 use script::inner::copies::load_bytes;
@@ -154,7 +154,7 @@ fn ask_bench(numbers: Numbers, lengths: Lengths, cells: &mut [u64]) -> Answer {
 }
 
 // Calls that write path, report or the records of a load; the converter writes its netlist file into the report.
-pub(crate) fn ask_writing(
+pub fn ask_writing(
     line: &[u8],
     netlist: &[u8],
     lengths: Lengths,

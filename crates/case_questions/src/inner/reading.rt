@@ -1,16 +1,16 @@
 // The calls that only read, by their verbs.
-use crate::buffers::path_buffer;
-use crate::by_length;
-use crate::calls;
-use crate::names::COUNTS;
-use crate::names::FALLING;
-use crate::names::FAULT;
-use crate::names::HOLDS;
-use crate::names::LENGTHS;
-use crate::names::NUMBER;
-use crate::names::RISING;
-use crate::names::SURVEY;
-use crate::names::TOTALS;
+use crate::inner::buffers::path_buffer;
+use crate::inner::by_length;
+use crate::inner::calls;
+use crate::inner::names::COUNTS;
+use crate::inner::names::FALLING;
+use crate::inner::names::FAULT;
+use crate::inner::names::HOLDS;
+use crate::inner::names::LENGTHS;
+use crate::inner::names::NUMBER;
+use crate::inner::names::RISING;
+use crate::inner::names::SURVEY;
+use crate::inner::names::TOTALS;
 use script::inner::answers::Answer;
 use script::inner::answers::unknown;
 use script::inner::copies::load_path;
@@ -74,7 +74,7 @@ fn ask_number(numbers: Numbers, netlist: &[u8], cells: &[u64]) -> Answer {
 }
 
 // Calls that only read.
-pub(crate) fn ask_reading(line: &[u8], netlist: &[u8], store: &[u64], path: &[u64]) -> Answer {
+pub fn ask_reading(line: &[u8], netlist: &[u8], store: &[u64], path: &[u64]) -> Answer {
     let key = key_of(line);
     let arguments = after_word(line);
     match key {

@@ -1,0 +1,6 @@
+pub mod buffers;
+mod by_length;
+mod calls;
+mod names;
+pub mod reading;
+pub mod writing;
