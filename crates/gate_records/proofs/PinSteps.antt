@@ -1,9 +1,9 @@
 -- The pins of a gate, one at a time.
 -- Assumes nothing.
 use Prim.Native.Nat.{ℕ, zero, suc, _+_, _-_, _^_, _≤_, _<_}
-use mathlib.Core.Path.{_≡_, refl, sym, _∙_}
+use mathlib.Core.Path.{_≡_, refl, ap, sym, _∙_, subst}
 use mathlib.Core.List.{List, _∷_}
-use mathlib.Core.Bool.{Bool, true, false, _&&_}
+use mathlib.Core.Bool.{Bool, true, false, _&&_, and-true}
 use native.Mathlib.Omega.{arith}
 use native.Mathlib.Numerals.{sub-one}
 use borrow.Author.Tests.{lt-ltb, le-ltb}
@@ -13,7 +13,8 @@ use lib.Seq.{drop-drop}
 use Rattle.model.specs.Base.{field}
 use Rattle.model.specs.Read.{netFields}
 use Rattle.model.proofs.BoolLaws.{and-left, and-right, T→true, true→T}
-use Rattle.gate_records.specs.GateReading.{pinsLower, pinSum}
+use Rattle.gate_records.specs.GateReading.{pinsLower, pinSum, SumIs}
+use Rattle.gate_records.specs.declared.inner.SumAnswer.{SumAnswer}
 
 pub pins-step : (n at : ℕ) (s : List ℕ) → 0 < n → netFields n (drop at s) ≡ field at 2 s ∷ netFields (n - 1) (drop (at + 2) s)
 pins-step zero at s h = absurd (omega arith)
@@ -66,3 +67,46 @@ sum-end counts (suc n) at s sum whole h w = absurd (omega arith)
 
 pub sum-fits : (counts : List ℕ) (n at : ℕ) (s : List ℕ) (sum whole : ℕ) → n ≤ 0 → sum ≤ 2 ^ 62 → sum + pinSum counts n at s ≡ whole → whole ≤ 2 ^ 62
 sum-fits counts n at s sum whole h l w = omega (arith, sum-end counts n at s sum whole h w)
+
+-- ---- a gate of two pins
+
+module _ (net : ℕ) (s : List ℕ) (a b : ℕ) (e : a ≡ field 4 2 s) (d : b ≡ field 6 2 s) where
+  both-lower : pinsLower net 2 4 s ≡ ltb a net && (ltb b net && true)
+  unfolding pinsLower
+  both-lower = step net 2 4 s true a (omega arith) e ∙ ap (λ (x : Bool). ltb a net && x) (step net 1 6 s true b (omega arith) d)
+
+  pub two-first-not : net ≤ a → false ≡ pinsLower net 2 4 s
+  two-first-not h = sym (both-lower ∙ rw (le-ltb a net h) refl)
+
+  pub two-decides : a < net → ltb b net ≡ pinsLower net 2 4 s
+  two-decides h = sym (both-lower ∙ rw (lt-ltb a net h) (and-true (ltb b net)))
+
+pub two-second-net : (net : ℕ) (s : List ℕ) (b : ℕ) → b ≡ field 6 2 s → pinsLower net 2 4 s ≡ true → b < net
+two-second-net net s b d w = lower-first net 1 6 s b (omega arith) d (lower-rest net 2 4 s (omega arith) w)
+
+module _ (counts s : List ℕ) (a b : ℕ) (e : a ≡ field 4 2 s) (d : b ≡ field 6 2 s) where
+  both-sum : pinSum counts 2 4 s ≡ getD counts a 0 + (getD counts b 0 + 0)
+  unfolding pinSum
+  both-sum = split counts 2 4 s 0 0 a (omega arith) e ∙ ap (λ (x : ℕ). getD counts a 0 + x) (split counts 1 6 s 0 0 b (omega arith) d)
+
+  pub two-first-over : 2 ^ 62 < getD counts a 0 → 2 ^ 62 < pinSum counts 2 4 s
+  two-first-over h = omega (arith, both-sum)
+
+  pub two-over : getD counts a 0 ≤ 2 ^ 62 → 2 ^ 62 - getD counts a 0 < getD counts b 0 → 2 ^ 62 < pinSum counts 2 4 s
+  two-over h l = omega (arith, both-sum)
+
+  pub two-sum-is : getD counts a 0 + getD counts b 0 ≡ pinSum counts 2 4 s
+  two-sum-is = omega (arith, both-sum)
+
+  pub two-sum-fits : getD counts a 0 ≤ 2 ^ 62 → getD counts b 0 ≤ 2 ^ 62 - getD counts a 0 → pinSum counts 2 4 s ≤ 2 ^ 62
+  two-sum-fits h l = omega (arith, both-sum)
+
+module _ (s : List ℕ) {pins : ℕ} (two : pins ≡ 2) where
+  pub lower-as-two : (net : ℕ) (r : Bool) → r ≡ pinsLower net 2 4 s → r ≡ pinsLower net pins 4 s
+  lower-as-two net r e = e ∙ ap (λ (n : ℕ). pinsLower net n 4 s) (sym two)
+
+  pub two-lower-still : (net : ℕ) → pinsLower net pins 4 s ≡ true → pinsLower net 2 4 s ≡ true
+  two-lower-still net e = sym (ap (λ (n : ℕ). pinsLower net n 4 s) two) ∙ e
+
+  pub sum-as-two : (counts : List ℕ) (r : SumAnswer) → SumIs r (pinSum counts 2 4 s) → SumIs r (pinSum counts pins 4 s)
+  sum-as-two counts r i = subst (λ (n : ℕ). SumIs r (pinSum counts n 4 s)) (sym two) i

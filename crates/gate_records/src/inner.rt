@@ -99,11 +99,27 @@ fn read_gate(part: &[u8], net: usize, counts: &[u64; 512]) -> GateAnswer
     }
 }
 
-// Whether every pin names a net lower than the gate's.
+// Whether both pins of a gate of two name a net lower than the gate's.
+fn two_lower(part: &[u8], net: usize) -> bool
+    requires { ⌜ 8 ≤ length (now part) ⌝ }
+    ensures { λ r. ⌜ r ≡ pinsLower net 2 4 (now (part .entry)) ⌝ }
+{
+    let first = u16_at(part, 4);
+    let second = u16_at(part, 6);
+    if net <= first {
+        return false;
+    }
+    second < net
+}
+
+// Whether every pin names a net lower than the gate's. Most gates have two pins: of these without a loop.
 fn pins_lower(part: &[u8], pins: usize, net: usize) -> bool
     requires { ⌜ 4 + 2 * pins ≤ length (now part) ⌝ }
     ensures { λ r. ⌜ r ≡ pinsLower net pins 4 (now (part .entry)) ⌝ }
 {
+    if pins == 2 {
+        return two_lower(part, net);
+    }
     let mut left = pins;
     let mut at = 4;
     while 0 < left {
@@ -117,11 +133,30 @@ fn pins_lower(part: &[u8], pins: usize, net: usize) -> bool
     true
 }
 
-// The sum of the counts of the nets at the pins, unless it is over the limit.
+// The sum of the counts of the nets at the pins of a gate of two, unless it is over the limit.
+fn two_sum(part: &[u8], counts: &[u64; 512]) -> SumAnswer
+    requires { ⌜ (8 ≤ length (now part)) × (pinsLower 512 2 4 (now part) ≡ true) ⌝ }
+    ensures { λ r. ⌜ SumIs r (pinSum (now (counts .entry)) 2 4 (now (part .entry))) ⌝ }
+{
+    let first = counts[u16_at(part, 4)];
+    let second = counts[u16_at(part, 6)];
+    if MAX_COUNT < first {
+        return SumAnswer::Over;
+    }
+    if MAX_COUNT - first < second {
+        return SumAnswer::Over;
+    }
+    SumAnswer::Sum(first + second)
+}
+
+// The sum of the counts of the nets at the pins, unless it is over the limit. Again, two pins are summed without a loop.
 fn pin_sum(part: &[u8], pins: usize, counts: &[u64; 512]) -> SumAnswer
     requires { ⌜ (4 + 2 * pins ≤ length (now part)) × (pinsLower 512 pins 4 (now part) ≡ true) ⌝ }
     ensures { λ r. ⌜ SumIs r (pinSum (now (counts .entry)) pins 4 (now (part .entry))) ⌝ }
 {
+    if pins == 2 {
+        return two_sum(part, counts);
+    }
     let mut left = pins;
     let mut at = 4;
     let mut sum: u64 = 0;

@@ -22,7 +22,7 @@ use Rattle.model.proofs.BoolLaws.{cases}
 use Rattle.run_union.proofs.Adding.{answer-fits}
 use Rattle.place_runs.specs.RunsOfPlaces.{pathsBefore, firstRuns, runsIn, gatePlaces, gateRuns, GateReady}
 use Rattle.place_runs.proofs.AddedLaws.{as-adds, times-most}
-use Rattle.intervals.specs.OpenRuns.{countIf, runCount, openRuns, PinsReady}
+use Rattle.intervals.specs.OpenRuns.{countIf, runCount, pinRuns, openRuns, PinsReady}
 
 -- ---- the runs of one pin's net
 
@@ -45,7 +45,26 @@ module _ (from to opened : ℕ) (l : opened < 2) where
 
 pub ruleset count-cases = (count-fits, count-small, count-is, needs)
 
--- ---- the loop over the pins
+module _ {part starts : List ℕ} (ready : PinsReady part starts) {pin : ℕ} (h : pin < pinCountIn part) where
+  pub pin-inside : 4 + 2 * pin + 2 ≤ length part
+  pin-inside = omega (arith, ready .inside)
+
+  pub pin-digit : pin < 64
+  pin-digit = omega (arith, ready .fewPins)
+
+  module _ {net : ℕ} (e : net ≡ pinIn part pin) where
+    pub pin-is-net : net < 512
+    pin-is-net = omega (arith, ready .areNets pin h)
+
+    pub pin-ordered : getD starts net 0 ≤ getD starts (net + 1) 0
+    pin-ordered = subst⁻¹ (λ (x : ℕ). getD starts x 0 ≤ getD starts (x + 1) 0) e (ready .ordered pin h)
+
+    pub pin-counted : (mask : ℕ) {k : ℕ} {b : Bool} → b ≡ bit mask pin → k ≡ countIf b (runCount starts net) → k ≡ pinRuns part mask starts pin
+    pin-counted mask o c = c ∙ ap₂ (λ (b : Bool) (x : ℕ). countIf b (runCount starts x)) o e
+
+pub ruleset pin-cases = (pin-inside, pin-digit, pin-is-net, pin-ordered, pin-counted, needs)
+
+-- ---- all pins
 
 -- `sum` counts the runs of the nets of the open ones of the first `pin` pins
 pub record OpenDone (part : List ℕ) (mask : ℕ) (starts : List ℕ) (pins pin sum : ℕ) : Type 0 where
@@ -54,6 +73,23 @@ pub record OpenDone (part : List ℕ) (mask : ℕ) (starts : List ℕ) (pins pin
   pub within : pin ≤ pins
   pub total : sum ≡ openRuns part mask starts pin
   pub small : sum ≤ 65536 * pin
+
+-- a gate of two pins
+module _ (part : List ℕ) (mask : ℕ) (starts : List ℕ) {pins : ℕ} (e : pins ≡ pinCountIn part) (two : pins ≡ 2) where
+  pub two-first : 0 < pinCountIn part
+  two-first = omega arith
+
+  pub two-second : 1 < pinCountIn part
+  two-second = omega arith
+
+  pub two-together : {a b : ℕ} → a ≡ pinRuns part mask starts 0 → b ≡ pinRuns part mask starts 1 → a + b ≡ openRuns part mask starts (pinCountIn part)
+  unfolding openRuns
+  two-together {a} {b} p q =
+      let none : a + b ≡ 0 + a + b = omega arith in
+      none ∙ ap₂ (λ (x y : ℕ). 0 + x + y) p q ∙ ap (openRuns part mask starts) (sym two ∙ e)
+
+pub two-fits : {a b : ℕ} → a < 65536 → b < 65536 → Fits w64 (a + b)
+two-fits p q = record { fits = omega arith }
 
 module _ {part : List ℕ} {mask : ℕ} {starts : List ℕ} {pins : ℕ} where
   pub open-start : PinsReady part starts → pins ≡ pinCountIn part → OpenDone part mask starts pins 0 0
@@ -65,36 +101,26 @@ module _ {part : List ℕ} {mask : ℕ} {starts : List ℕ} {pins : ℕ} where
     open-done h = let e : pin ≡ pinCountIn part = omega (arith, i .within, i .all) in i .total ∙ ap (openRuns part mask starts) e
 
     module _ (h : pin < pins) where
-      pub open-inside : 4 + 2 * pin + 2 ≤ length part
-      open-inside = omega (arith, i .ready .inside, i .all)
+      pub open-ready : PinsReady part starts
+      open-ready = i .ready
 
-      pub open-digit : pin < 64
-      open-digit = omega (arith, i .ready .fewPins, i .all)
+      pub open-pin : pin < pinCountIn part
+      open-pin = omega (arith, i .all)
 
       pub open-sum : {k : ℕ} → k < 65536 → Fits w64 (sum + k)
-      open-sum l = record { fits = omega (arith, i .small, open-digit) }
+      open-sum l = record { fits = omega (arith, i .small, i .ready .fewPins, i .all) }
 
-      module _ {net : ℕ} (e : net ≡ pinIn part pin) where
-        pub open-net : net < 512
-        open-net = omega (arith, i .ready .areNets pin (omega (arith, i .all)))
+      pub open-more : {k : ℕ} → k ≡ pinRuns part mask starts pin → k < 65536 → OpenDone part mask starts pins (pin + 1) (sum + k)
+      unfolding openRuns
+      open-more {k} c l = record {
+        ready = i .ready;
+        all = i .all;
+        within = omega arith;
+        total = rw (add-one pin) (omega (arith, i .total, c));
+        small = omega (arith, i .small);
+      }
 
-        pub open-ordered : getD starts net 0 ≤ getD starts (net + 1) 0
-        open-ordered = subst⁻¹ (λ (x : ℕ). getD starts x 0 ≤ getD starts (x + 1) 0) e (i .ready .ordered pin (omega (arith, i .all)))
-
-        pub open-more : {k : ℕ} {b : Bool} → b ≡ bit mask pin → k ≡ countIf b (runCount starts net) → k < 65536
-            → OpenDone part mask starts pins (pin + 1) (sum + k)
-        unfolding openRuns
-        open-more {k} o c l = record {
-          ready = i .ready;
-          all = i .all;
-          within = omega arith;
-          total =
-              let here : k ≡ countIf (bit mask pin) (runCount starts (pinIn part pin)) = c ∙ ap₂ (λ (b : Bool) (x : ℕ). countIf b (runCount starts x)) o e in
-              rw (add-one pin) (omega (arith, i .total, here));
-          small = omega (arith, i .small);
-        }
-
-pub ruleset open-cases = (open-start, open-done, open-inside, open-digit, open-sum, open-net, open-ordered, open-more, needs)
+pub ruleset open-cases = (open-start, two-first, two-second, two-together, two-fits, open-done, open-ready, open-pin, open-sum, open-more, needs)
 
 -- ---- a gate whose open pins' nets have no run
 

@@ -16,10 +16,14 @@ countIf false n = 0
 abbrev pub runCount : List ℕ → ℕ → ℕ
 runCount starts net = getD starts (net + 1) 0 - getD starts net 0
 
+-- how many runs the net of a gate's pin has, only where the pin is open
+abbrev pub pinRuns : List ℕ → ℕ → List ℕ → ℕ → ℕ
+pinRuns part mask starts pin = countIf (bit mask pin) (runCount starts (pinIn part pin))
+
 -- how many runs the nets of the open ones of a gate's first n pins have together, each pin's for itself
 unfoldable pub openRuns : List ℕ → ℕ → List ℕ → ℕ → ℕ
 openRuns part mask starts zero = 0
-openRuns part mask starts (suc n) = openRuns part mask starts n + countIf (bit mask n) (runCount starts (pinIn part n))
+openRuns part mask starts (suc n) = openRuns part mask starts n + pinRuns part mask starts n
 
 -- a gate's record, and where the runs of its pins' nets begin and end
 pub record PinsReady (part starts : List ℕ) : Type 0 where

@@ -7,7 +7,7 @@ ghost use Rattle.model.specs.Store.{maxRuns};
 ghost use Rattle.netlist.specs.Tables.{pinCountIn};
 ghost use Rattle.runs.specs.Answers.{Adds};
 ghost use Rattle.place_runs.specs.RunsOfPlaces.{GateReady, gateRuns};
-ghost use Rattle.intervals.specs.OpenRuns.{PinsReady, openRuns, countIf, runCount};
+ghost use Rattle.intervals.specs.OpenRuns.{PinsReady, pinRuns, openRuns, countIf, runCount};
 ghost use Rattle.intervals.specs.Edges.{Case};
 ghost use Rattle.intervals.specs.Nets.{inputRuns, Stand, Kept, NetsAt, SomeNetsAt, NetsMade};
 use netlist::inner::Shape;
@@ -53,17 +53,28 @@ fn open_count(opened: usize, starts: &[u16; 513], net: usize) -> usize
     (to - from) * opened
 }
 
-// How many runs the nets of a gate's open pins have together.
+// How many runs the net of a gate's pin has where the pin is open, and 0 where it is not.
+fn pin_runs(part: &[u8], mask: u8, starts: &[u16; 513], pin: usize) -> usize
+    requires { ⌜ PinsReady (now part) (now starts) × (pin < pinCountIn (now part)) ⌝ }
+    ensures { λ r. ⌜ (r ≡ pinRuns (now (part .entry)) mask (now (starts .entry)) pin) × (r < 65536) ⌝ }
+{
+    let net = pin_net(part, pin);
+    open_count(digit(mask as u64, pin as u64), starts, net)
+}
+
+// How many runs the nets of a gate's open pins have together. Most gates have two pins: of these without a loop.
 fn open_runs(part: &[u8], mask: u8, starts: &[u16; 513]) -> usize
     requires { ⌜ PinsReady (now part) (now starts) ⌝ }
     ensures { λ r. ⌜ r ≡ openRuns (now (part .entry)) mask (now (starts .entry)) (pinCountIn (now (part .entry))) ⌝ }
 {
     let pins = wide(part[3]);
+    if pins == 2 {
+        return pin_runs(part, mask, starts, 0) + pin_runs(part, mask, starts, 1);
+    }
     let mut pin = 0;
     let mut sum = 0;
     while pin < pins {
-        let net = pin_net(part, pin);
-        sum += open_count(digit(mask as u64, pin as u64), starts, net);
+        sum += pin_runs(part, mask, starts, pin);
         pin += 1;
     }
     sum

@@ -17,7 +17,7 @@ use Rattle.model.proofs.BoolLaws.{and-left, and-right, true→T}
 use Rattle.runs.specs.RunLists.{runsInWords}
 use Rattle.store_words.specs.Sound.{FewRuns}
 use Rattle.store_words.proofs.RunPlaceLaws.{placesOf, places-rising, places-falling}
-use Rattle.store_words.proofs.ZeroSteps.{zeros}
+use Rattle.store_words.specs.WordAnswers.{zeroWords}
 
 module _ (f : Edge → Bool) (a : Bool) (first : a ≡ f rising) where
   fails-first : a ≡ false → a ≡ bothEdges f
@@ -52,7 +52,7 @@ module _ (ws : List ℕ) (paths : ℕ) (a : Bool) (first : a ≡ separatedRuns p
   separated-both e b second =
       second-decides apart a (first ∙ ap (separatedRuns paths 1) (places-rising ws)) e b (second ∙ ap (separatedRuns paths 1) (places-falling ws))
 
-module _ (ws : List ℕ) (a : Bool) (first : a ≡ zeros ws (headWords + 2 * runCount ws rising) (placeWords - 2 * runCount ws rising)) where
+module _ (ws : List ℕ) (a : Bool) (first : a ≡ zeroWords ws (headWords + 2 * runCount ws rising) (placeWords - 2 * runCount ws rising)) where
   clean : Edge → Bool
   clean e = allOf (λ w. eqb w 0) (wordsAfter ws e)
 
@@ -60,7 +60,7 @@ module _ (ws : List ℕ) (a : Bool) (first : a ≡ zeros ws (headWords + 2 * run
   unfolding clean
   zeros-first = fails-first clean a first
 
-  pub zeros-both : a ≡ true → (b : Bool) → b ≡ zeros ws (headWords + placeWords + 2 * runCount ws falling) (placeWords - 2 * runCount ws falling)
+  pub zeros-both : a ≡ true → (b : Bool) → b ≡ zeroWords ws (headWords + placeWords + 2 * runCount ws falling) (placeWords - 2 * runCount ws falling)
       → b ≡ bothEdges (λ e. allOf (λ w. eqb w 0) (wordsAfter ws e))
   unfolding clean
   zeros-both e b second = second-decides clean a first e b second

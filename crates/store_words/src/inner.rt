@@ -10,7 +10,7 @@ ghost use Rattle.model.specs.Base.{allOf, checks};
 ghost use Rattle.model.specs.Runs.{inRuns, separatedRuns};
 ghost use Rattle.model.specs.Store.{maxRuns, maxTests, storeWords, bothEdges, runCount, testsTaken, runsOfTests, storeRuns, wordsAfter, storeRules};
 ghost use Rattle.faults.specs.Answers.{modelEdge};
-ghost use Rattle.store_words.specs.WordAnswers.{checkOf, totalsIn, totalsBoth};
+ghost use Rattle.store_words.specs.WordAnswers.{checkOf, totalsIn, totalsBoth, zeroWords, rowWords};
 ghost use Rattle.store_words.specs.Sound.{FewRuns, SoundWords};
 use faults::Edge;
 use faults::PathNo;
@@ -32,6 +32,9 @@ pub const FALLING_COUNT: usize = 1;
 // The word where the falling runs begin; the rising ones begin after the head.
 pub const FALLING_WORD: usize = HEAD_WORDS + PLACE_WORDS;
 
+// So many words past the runs are read in a row.
+const ROW_WORDS: usize = 32;
+
 // What the checks of a store's words answer.
 pub enum StoreCheck {
     Sound,
@@ -44,10 +47,24 @@ pub struct StoreTotals {
     pub falling: u64,
 }
 
-// Whether the n words from word `at` on are zero. All are read, with no early end, so that the compiler reads several at once.
-fn zero_words(words: &[u64], at: usize, n: usize) -> bool
+// The bits of ROW_WORDS words together, from word `at` on: 0 where all are zero.
+fn row_bits(words: &[u64], at: usize) -> u64
+    requires { ⌜ at + rowWords ≤ length (now words) ⌝ }
+    ensures { λ r. ⌜ eqb r 0 ≡ zeroWords (now (words .entry)) at rowWords ⌝ }
+{
+    let mut seen: u64 = 0;
+    let mut i = 0;
+    while i < ROW_WORDS {
+        seen = seen | words[at + i];
+        i += 1;
+    }
+    seen
+}
+
+// Whether the n words from word `at` on are zero.
+fn few_zero(words: &[u64], at: usize, n: usize) -> bool
     requires { ⌜ at + n ≤ length (now words) ⌝ }
-    ensures { λ r. ⌜ r ≡ allOf (λ w. eqb w 0) (take n (drop at (now (words .entry)))) ⌝ }
+    ensures { λ r. ⌜ r ≡ zeroWords (now (words .entry)) at n ⌝ }
 {
     let mut place = at;
     let mut left = n;
@@ -58,6 +75,29 @@ fn zero_words(words: &[u64], at: usize, n: usize) -> bool
         left -= 1;
     }
     seen == 0
+}
+
+// The same of many words: they are read a row at a time, with no early end and no jump within a row, so that the compiler reads several at once. The
+// first is read alone: a store's runs begin at an odd word, and reads of two words from an even one on do not cross the ends of cache lines.
+fn zero_words(words: &[u64], at: usize, n: usize) -> bool
+    requires { ⌜ at + n ≤ length (now words) ⌝ }
+    ensures { λ r. ⌜ r ≡ zeroWords (now (words .entry)) at n ⌝ }
+{
+    if n == 0 {
+        return true;
+    }
+    let mut seen = words[at];
+    let mut place = at + 1;
+    let mut left = n - 1;
+    while ROW_WORDS <= left {
+        seen = seen | row_bits(words, place);
+        place += ROW_WORDS;
+        left -= ROW_WORDS;
+    }
+    if seen != 0 {
+        return false;
+    }
+    few_zero(words, place, left)
 }
 
 // Whether neither edge has more runs than places.

@@ -5,11 +5,24 @@ ghost use Rattle.simulation.specs.StateWords.{StatesAt, PacksStates, low
 use gate_logic::inner::PinStates;
 use netlist::inner::pin_net;
 
-// The states at the pins of the gate's record with which the part begins, packed.
+// The states at the pins of a gate's record of two pins, packed.
+fn pack_two(part: &[u8], states: &[u32; 512]) -> u32
+    requires { ⌜ StatesAt (now part) 2 (now states) ⌝ }
+    ensures { λ r. ⌜ PacksStates (now (part .entry)) 2 (now (states .entry)) r ⌝ }
+{
+    let first = pin_net(part, 0);
+    let second = pin_net(part, 1);
+    2 * states[second] + states[first]
+}
+
+// The states at the pins of the gate's record with which the part begins, packed. Most gates have two pins: of these without a loop.
 pub(crate) fn pack_states(part: &[u8], pins: usize, states: &[u32; 512]) -> u32
     requires { ⌜ StatesAt (now part) pins (now states) ⌝ }
     ensures { λ r. ⌜ PacksStates (now (part .entry)) pins (now (states .entry)) r ⌝ }
 {
+    if pins == 2 {
+        return pack_two(part, states);
+    }
     let mut packed: u32 = 0;
     let mut k = pins;
     while 0 < k {

@@ -7,7 +7,7 @@ use mathlib.Core.Bool.{true}
 use borrow.Author.Needs.{needs}
 use lib.ListN.{length}
 use Rattle.gate_records.specs.GateReading.{pinsLower, pinSum}
-use Rattle.gate_records.proofs.PinSteps.{lower-first, lower-rest, sum-again, sum-stop, sum-end, sum-fits}
+use Rattle.gate_records.proofs.PinSteps.{lower-first, lower-rest, sum-again, sum-stop, sum-end, sum-fits, two-lower-still, sum-as-two}
 use Rattle.gate_records.proofs.inner.pin_sum.Statement.{statement}
 use Rattle.gate_records.proofs.inner.pin_sum.Tie as tie
 
@@ -21,6 +21,12 @@ Inv-loop part pins counts left₀ at₀ sum₀ left at sum =
 abbrev μ-loop : tie.MeasureT-loop
 μ-loop part pins counts left₀ at₀ sum₀ left at sum = left
 
+two-sum-requires : tie.Need-two-sum-requires Inv-loop μ-loop
+two-sum-requires c κs = search (two-lower-still, needs)
+
+returns : tie.Need-returns Inv-loop μ-loop
+returns c = search (sum-as-two, needs)
+
 loop-holds : tie.Need-loop-holds Inv-loop μ-loop
 loop-holds c = search needs
 
@@ -33,11 +39,11 @@ mul-count c = search needs
 element-copy-out-count : tie.Need-element-copy-out-count Inv-loop μ-loop
 element-copy-out-count c = search (lower-first, needs)
 
-sub-if1 : tie.Need-sub-if1 Inv-loop μ-loop
-sub-if1 c = search needs
+sub-if2 : tie.Need-sub-if2 Inv-loop μ-loop
+sub-if2 c = search needs
 
-returns : tie.Need-returns Inv-loop μ-loop
-returns c = search (sum-stop, needs)
+returns-2 : tie.Need-returns-2 Inv-loop μ-loop
+returns-2 c = search (sum-stop, needs)
 
 add-sum : tie.Need-add-sum Inv-loop μ-loop
 add-sum c = search needs
@@ -54,8 +60,8 @@ loop-less c = search needs
 loop-again : tie.Need-loop-again Inv-loop μ-loop
 loop-again c = search (lower-rest, sum-again, needs)
 
-returns-2 : tie.Need-returns-2 Inv-loop μ-loop
-returns-2 c = search (sum-end, sum-fits, needs)
+returns-3 : tie.Need-returns-3 Inv-loop μ-loop
+returns-3 c = search (sum-end, sum-fits, needs)
 
 pub pin-sum-spec : {M : Type 1} → statement M
 pin-sum-spec =
@@ -63,15 +69,17 @@ pin-sum-spec =
     (tie.spec
     Inv-loop
     μ-loop
+    two-sum-requires
+    returns
     loop-holds
     u16-at-requires
     mul-count
     element-copy-out-count
-    sub-if1
-    returns
+    sub-if2
+    returns-2
     add-sum
     add-at
     sub-left
     loop-less
     loop-again
-    returns-2)
+    returns-3)

@@ -5,7 +5,7 @@ use mathlib.Core.Path.{_≡_}
 use borrow.Author.Needs.{needs}
 use lib.ListN.{length}
 use Rattle.gate_records.specs.GateReading.{pinsLower}
-use Rattle.gate_records.proofs.PinSteps.{lower-again, lower-stop, lower-end}
+use Rattle.gate_records.proofs.PinSteps.{lower-again, lower-stop, lower-end, lower-as-two}
 use Rattle.gate_records.proofs.inner.pins_lower.Statement.{statement}
 use Rattle.gate_records.proofs.inner.pins_lower.Tie as tie
 
@@ -16,14 +16,20 @@ Inv-loop part pins net left₀ at₀ left at =
 abbrev μ-loop : tie.MeasureT-loop
 μ-loop part pins net left₀ at₀ left at = left
 
+two-lower-requires : tie.Need-two-lower-requires Inv-loop μ-loop
+two-lower-requires c κs = search needs
+
+returns : tie.Need-returns Inv-loop μ-loop
+returns c = search (lower-as-two, needs)
+
 loop-holds : tie.Need-loop-holds Inv-loop μ-loop
 loop-holds c = search needs
 
 u16-at-requires : tie.Need-u16-at-requires Inv-loop μ-loop
 u16-at-requires c κs = search needs
 
-returns : tie.Need-returns Inv-loop μ-loop
-returns c = search (lower-stop, needs)
+returns-2 : tie.Need-returns-2 Inv-loop μ-loop
+returns-2 c = search (lower-stop, needs)
 
 add-at : tie.Need-add-at Inv-loop μ-loop
 add-at c = search needs
@@ -37,8 +43,8 @@ loop-less c = search needs
 loop-again : tie.Need-loop-again Inv-loop μ-loop
 loop-again c = search (lower-again, needs)
 
-returns-2 : tie.Need-returns-2 Inv-loop μ-loop
-returns-2 c = search (lower-end, needs)
+returns-3 : tie.Need-returns-3 Inv-loop μ-loop
+returns-3 c = search (lower-end, needs)
 
 pub pins-lower-spec : {M : Type 1} → statement M
 pins-lower-spec =
@@ -46,11 +52,13 @@ pins-lower-spec =
     (tie.spec
     Inv-loop
     μ-loop
+    two-lower-requires
+    returns
     loop-holds
     u16-at-requires
-    returns
+    returns-2
     add-at
     sub-left
     loop-less
     loop-again
-    returns-2)
+    returns-3)

@@ -17,17 +17,23 @@ shared-slice-read-wide c = search open-cases
 wide-requires : tie.Need-wide-requires Inv-loop μ-loop
 wide-requires c κs = search open-cases
 
+pin-runs-requires : tie.Need-pin-runs-requires Inv-loop μ-loop
+pin-runs-requires c κs = search open-cases
+
+pin-runs-requires-2 : tie.Need-pin-runs-requires-2 Inv-loop μ-loop
+pin-runs-requires-2 c κs = search open-cases
+
+add-result : tie.Need-add-result Inv-loop μ-loop
+add-result c = search open-cases
+
+returns : tie.Need-returns Inv-loop μ-loop
+returns c = search open-cases
+
 loop-holds : tie.Need-loop-holds Inv-loop μ-loop
 loop-holds c = search open-cases
 
-pin-net-requires : tie.Need-pin-net-requires Inv-loop μ-loop
-pin-net-requires c κs = search open-cases
-
-digit-requires : tie.Need-digit-requires Inv-loop μ-loop
-digit-requires c κs = search open-cases
-
-open-count-requires : tie.Need-open-count-requires Inv-loop μ-loop
-open-count-requires c κs = search open-cases
+pin-runs-requires-3 : tie.Need-pin-runs-requires-3 Inv-loop μ-loop
+pin-runs-requires-3 c κs = search open-cases
 
 add-sum : tie.Need-add-sum Inv-loop μ-loop
 add-sum c = search open-cases
@@ -41,8 +47,8 @@ loop-less c = search open-cases
 loop-again : tie.Need-loop-again Inv-loop μ-loop
 loop-again c = search open-cases
 
-returns : tie.Need-returns Inv-loop μ-loop
-returns c = search open-cases
+returns-2 : tie.Need-returns-2 Inv-loop μ-loop
+returns-2 c = search open-cases
 
 pub open-runs-spec : {M : Type 1} → statement M
 open-runs-spec =
@@ -52,12 +58,14 @@ open-runs-spec =
     μ-loop
     shared-slice-read-wide
     wide-requires
+    pin-runs-requires
+    pin-runs-requires-2
+    add-result
+    returns
     loop-holds
-    pin-net-requires
-    digit-requires
-    open-count-requires
+    pin-runs-requires-3
     add-sum
     add-pin
     loop-less
     loop-again
-    returns)
+    returns-2)
