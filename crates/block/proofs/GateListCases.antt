@@ -27,6 +27,7 @@ use Rattle.block.proofs.GateTableLaws.{few-nets, from-inputs, well}
 use Rattle.block.proofs.BlockNetLaws.{value-first, value-last, steady-true, open-true}
 use Rattle.block.proofs.NetPutLaws.{kept-start, kept-more, plane-more}
 use Rattle.block.proofs.LiveEntryLaws.{ListedTo, live-true, listed-more}
+use Rattle.block.specs.Layout.{listSize, listsSize}
 
 -- Lists of one edge: room, and at most so many entries in each
 pub record ListsUpTo (most : ℕ) (list₀ list lens : List ℕ) : Type 0 where
@@ -37,7 +38,7 @@ pub record ListsUpTo (most : ℕ) (list₀ list lens : List ℕ) : Type 0 where
 none-listed : {most : ℕ} {list lens : List ℕ} → EmptyLists list lens → ListsUpTo most list list lens
 none-listed m = record { places = refl; records = m .records; counts = λ t h. omega (arith, m .empty t h) }
 
-pub push-room : {most : ℕ} {list₀ list lens : List ℕ} → ListsUpTo most list₀ list lens → most < 528 → 33792 ≤ length list₀ → ListRoom list lens
+pub push-room : {most : ℕ} {list₀ list lens : List ℕ} → ListsUpTo most list₀ list lens → most < listSize → listsSize ≤ length list₀ → ListRoom list lens
 push-room x h p = record { places = omega (arith, x .places); records = x .records; oneMore = λ t l. omega (arith, x .counts t l) }
 
 pushed-more : {most next : ℕ} {list₀ list lens list′ lens′ : List ℕ} {b : ℕ → Bool} {entry : ℕ → ℕ} → ListsUpTo most list₀ list lens
@@ -56,7 +57,7 @@ empty-listed {N} {tests} {e} {inputs = inputs} {list} few q m =
     let z : inputs - N .inputs ≡ 0 = omega arith in
     record {
       lists = λ t h.
-          ap (λ k. wordsAt list (numbersFrom (528 * t) k)) (m .empty t (omega arith)) ∙ ap (λ k. liveEntries N (tests t) e k) (sym z);
+          ap (λ k. wordsAt list (numbersFrom (listSize * t) k)) (m .empty t (omega arith)) ∙ ap (λ k. liveEntries N (tests t) e k) (sym z);
     }
 
 -- all gates are listed after the last

@@ -23,6 +23,7 @@ use Rattle.block.specs.Words.{pinNets, Filled, GateIs, PinsIn}
 use Rattle.block.specs.Table.{NetsIn, GateNumbers, GateRow, CircuitTable, SomeTable}
 use Rattle.block.specs.declared.inner.gates.Gate.{Gate}
 use Rattle.block.proofs.WordLaws.{words-length, words-at}
+use Rattle.block.specs.Layout.{gateTableSize, kindsAt, pinCountsAt}
 
 -- the numbers of a gate's record
 numbers-in : {part : List ℕ} {N : Netlist} {net : ℕ} → GatePart part N net → GateNumbers N net (kindIn part) (pinCountIn part) (pinIn part)
@@ -54,14 +55,14 @@ row-few {N} {net} {kind} {pins} x = leb→le pins 8 (and-right (leb 1 pins) (leb
 pub record Tabling (file positions : List ℕ) (shape : Shape) (table : List ℕ) (net : ℕ) : Type 0 where
   pub fromInputs : shape .inputs ≤ net
   pub toNets : net ≤ shape .nets
-  pub room : length table ≡ 5120
+  pub room : length table ≡ gateTableSize
   pub rows : (N : Netlist) (cs : List ℕ) → CircuitTables N file positions cs shape → (i : ℕ) → N .inputs ≤ i → i < net → GateRow N table i
 
 module _ {file positions : List ℕ} {shape : Shape} (s : SomeCircuit file positions shape) where
   pub circuit-nets : shape .nets ≤ 512
   circuit-nets = tables.few-nets (s .known .tables)
 
-  pub table-start : (table : List ℕ) → length table ≡ 5120 → Tabling file positions shape table (shape .inputs)
+  pub table-start : (table : List ℕ) → length table ≡ gateTableSize → Tabling file positions shape table (shape .inputs)
   table-start table r = record {
     fromInputs = omega arith;
     toNets = tables.inputs-below (s .known .tables);
@@ -90,11 +91,11 @@ module _ {file positions : List ℕ} {shape : Shape} (s : SomeCircuit file posit
         isNet = λ p h. rw (here .pinIs p h) (omega (arith, here .lower p h, t, circuit-nets));
       }))
 
-      pub table-room : length (set (set table (4096 + net) (getD part 2 0)) (4608 + net) (getD part 3 0)) ≡ 5120
-      table-room = length-set (set table (4096 + net) (getD part 2 0)) (4608 + net) (getD part 3 0) ∙ length-set table (4096 + net) (getD part 2 0) ∙ x .room
+      pub table-room : length (set (set table (kindsAt + net) (getD part 2 0)) (pinCountsAt + net) (getD part 3 0)) ≡ gateTableSize
+      table-room = length-set (set table (kindsAt + net) (getD part 2 0)) (pinCountsAt + net) (getD part 3 0) ∙ length-set table (kindsAt + net) (getD part 2 0) ∙ x .room
 
       pub table-step : (table′ : List ℕ) (pins : ℕ) → pins ≡ getD part 3 0
-          → Filled (8 * net) pins (λ p w. w ≡ pinIn part p) (set (set table (4096 + net) (getD part 2 0)) (4608 + net) (getD part 3 0)) table′
+          → Filled (8 * net) pins (λ p w. w ≡ pinIn part p) (set (set table (kindsAt + net) (getD part 2 0)) (pinCountsAt + net) (getD part 3 0)) table′
           → Tabling file positions shape table′ (net + 1)
       table-step table′ pins en f = record {
         fromInputs = omega (arith, x .fromInputs);
@@ -119,28 +120,28 @@ module _ {file positions : List ℕ} {shape : Shape} (s : SomeCircuit file posit
           before : (i net : ℕ) → (i ≡ net → ⊥) → i < net + 1 → i < net
           before i net q h = omega arith
 
-          above : (i : ℕ) → 4096 ≤ i → getD table′ i 0 ≡ getD (set (set table (4096 + net) kind) (4608 + net) count) i 0
+          above : (i : ℕ) → kindsAt ≤ i → getD table′ i 0 ≡ getD (set (set table (kindsAt + net) kind) (pinCountsAt + net) count) i 0
           above i h = f .same i (inr (omega (arith, few, t, circuit-nets)))
 
-          other : (i : ℕ) → (i ≡ 4608 + net → ⊥) → (i ≡ 4096 + net → ⊥) → getD (set (set table (4096 + net) kind) (4608 + net) count) i 0 ≡ getD table i 0
-          other i a b = getD-set-other (set table (4096 + net) kind) (4608 + net) i count 0 a ∙ getD-set-other table (4096 + net) i kind 0 b
+          other : (i : ℕ) → (i ≡ pinCountsAt + net → ⊥) → (i ≡ kindsAt + net → ⊥) → getD (set (set table (kindsAt + net) kind) (pinCountsAt + net) count) i 0 ≡ getD table i 0
+          other i a b = getD-set-other (set table (kindsAt + net) kind) (pinCountsAt + net) i count 0 a ∙ getD-set-other table (kindsAt + net) i kind 0 b
 
-          low : 4096 + net < length table
+          low : kindsAt + net < length table
           low = omega (arith, x .room, t, circuit-nets)
 
-          high : 4608 + net < length (set table (4096 + net) kind)
-          high = omega (arith, length-set table (4096 + net) kind, x .room, t, circuit-nets)
+          high : pinCountsAt + net < length (set table (kindsAt + net) kind)
+          high = omega (arith, length-set table (kindsAt + net) kind, x .room, t, circuit-nets)
 
           new : (N : Netlist) (cs : List ℕ) → CircuitTables N file positions cs shape → GateRow N table′ net
           new N cs c =
               let g = numbers-in (subst (λ (y : List ℕ). GatePart y N net) (sym ep) (tables.gate-part c net (x .fromInputs) t)) in
               same-numbers
-              (above (4096 + net) (omega arith) ∙ getD-set-other (set table (4096 + net) kind) (4608 + net) (4096 + net) count 0 (λ e. apart net e)
-              ∙ getD-set-same table (4096 + net) kind 0 low)
-              (above (4608 + net) (omega arith) ∙ getD-set-same (set table (4096 + net) kind) (4608 + net) count 0 high)
+              (above (kindsAt + net) (omega arith) ∙ getD-set-other (set table (kindsAt + net) kind) (pinCountsAt + net) (kindsAt + net) count 0 (λ e. apart net e)
+              ∙ getD-set-same table (kindsAt + net) kind 0 low)
+              (above (pinCountsAt + net) (omega arith) ∙ getD-set-same (set table (kindsAt + net) kind) (pinCountsAt + net) count 0 high)
               (λ p l. f .each p (omega (arith, en, g .pinCount))) g
             where
-              apart : (net : ℕ) → 4096 + net ≡ 4608 + net → ⊥
+              apart : (net : ℕ) → kindsAt + net ≡ pinCountsAt + net → ⊥
               apart net e = omega arith
 
           old : (N : Netlist) (cs : List ℕ) → CircuitTables N file positions cs shape → (i : ℕ) → N .inputs ≤ i → i < net → GateRow N table′ i
@@ -148,31 +149,31 @@ module _ {file positions : List ℕ} {shape : Shape} (s : SomeCircuit file posit
               let r = x .rows N cs c i l h in
               let m : i < 512 = omega (arith, t, circuit-nets) in
               same-numbers
-              (above (4096 + i) (omega arith) ∙ other (4096 + i) (λ e. far i net m e) (λ e. near i net h e))
-              (above (4608 + i) (omega arith) ∙ other (4608 + i) (λ e. near′ i net h e) (λ e. far′ i net m e (omega (arith, t, circuit-nets))))
+              (above (kindsAt + i) (omega arith) ∙ other (kindsAt + i) (λ e. far i net m e) (λ e. near i net h e))
+              (above (pinCountsAt + i) (omega arith) ∙ other (pinCountsAt + i) (λ e. near′ i net h e) (λ e. far′ i net m e (omega (arith, t, circuit-nets))))
               (λ p q. f .same (8 * i + p) (inl (omega (arith, row-few r, r .pinCount)))
               ∙ other (8 * i + p) (λ e. low-a i net p m (omega (arith, row-few r, r .pinCount)) e) (λ e. low-b i net p m (omega (arith, row-few r, r .pinCount)) e)) r
             where
-              far : (i net : ℕ) → i < 512 → 4096 + i ≡ 4608 + net → ⊥
+              far : (i net : ℕ) → i < 512 → kindsAt + i ≡ pinCountsAt + net → ⊥
               far i net m e = omega arith
 
-              near : (i net : ℕ) → i < net → 4096 + i ≡ 4096 + net → ⊥
+              near : (i net : ℕ) → i < net → kindsAt + i ≡ kindsAt + net → ⊥
               near i net h e = omega arith
 
-              near′ : (i net : ℕ) → i < net → 4608 + i ≡ 4608 + net → ⊥
+              near′ : (i net : ℕ) → i < net → pinCountsAt + i ≡ pinCountsAt + net → ⊥
               near′ i net h e = omega arith
 
-              far′ : (i net : ℕ) → i < 512 → 4608 + i ≡ 4096 + net → net < 512 → ⊥
+              far′ : (i net : ℕ) → i < 512 → pinCountsAt + i ≡ kindsAt + net → net < 512 → ⊥
               far′ i net m e n = omega arith
 
-              low-a : (i net p : ℕ) → i < 512 → p < 8 → 8 * i + p ≡ 4608 + net → ⊥
+              low-a : (i net p : ℕ) → i < 512 → p < 8 → 8 * i + p ≡ pinCountsAt + net → ⊥
               low-a i net p m q e = omega arith
 
-              low-b : (i net p : ℕ) → i < 512 → p < 8 → 8 * i + p ≡ 4096 + net → ⊥
+              low-b : (i net p : ℕ) → i < 512 → p < 8 → 8 * i + p ≡ kindsAt + net → ⊥
               low-b i net p m q e = omega arith
 
   pub table-end : {table : List ℕ} {net : ℕ} → shape .nets ≤ net → Tabling file positions shape table net
-      → (length table ≡ 5120) × ((N : Netlist) (cs : List ℕ) → CircuitTables N file positions cs shape → CircuitTable N table (shape .inputs) (shape .nets))
+      → (length table ≡ gateTableSize) × ((N : Netlist) (cs : List ℕ) → CircuitTables N file positions cs shape → CircuitTable N table (shape .inputs) (shape .nets))
   table-end {table} {net} h x = (
     x .room,
     λ N cs c. record {
@@ -212,7 +213,7 @@ module _ {N : Netlist} {table : List ℕ} {net : ℕ} {g : Gate} (w : WellFormed
 
   pub kind-fits : T (pinsFit (g .kind) (length (pinsOf N net)))
   kind-fits = subst (λ k. T (pinsFit k (length (pinsOf N net)))) (sym (i .kindIs))
-      (subst (λ m. T (pinsFit (getD table (4096 + net) 0) m)) (r .pinCount) (r .fits))
+      (subst (λ m. T (pinsFit (getD table (kindsAt + net) 0) m)) (r .pinCount) (r .fits))
 
   pub pin-is : (p : ℕ) → p < length (pinsOf N net) → getD table (g .first + p) 0 ≡ pinNet N net p
   pin-is p l = ap (λ f. getD table (f + p) 0) (i .firstIs) ∙ r .pinIs p l

@@ -17,10 +17,11 @@ use Rattle.block.specs.declared.inner.gates.Gate.{Gate}
 use Rattle.block.specs.declared.inner.gates.Seen.{Seen}
 use Rattle.block.proofs.WordLaws.{nets-more, nets-none, nets-all}
 use Rattle.block.proofs.PlaneLaws.{plane-at, plane-first}
+use Rattle.block.specs.Layout.{kindsAt}
 
 -- the places of a gate's pins
 module _ {table : List ℕ} {g : Gate} (h : PinsIn table g) {k : ℕ} (m : k ≤ g .pins) (l : 0 < k) where
-  pub pin-place : g .first + (k - 1) < 4096
+  pub pin-place : g .first + (k - 1) < kindsAt
   pin-place = omega (arith, h .few, h .inside)
 
   pub pin-net : {net : ℕ} → net ≡ getD table (g .first + (k - 1)) 0 → net < 512

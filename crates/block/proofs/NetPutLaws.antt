@@ -11,6 +11,7 @@ use Rattle.model.proofs.BoolLaws.{equal-or-not}
 use Rattle.block.specs.NetStates.{plane, NetPut, StatesKept}
 use Rattle.block.specs.declared.inner.words.NetState.{NetState}
 use Rattle.block.proofs.PlaneLaws.{plane-at}
+use Rattle.block.specs.Layout.{netsSize}
 
 -- Five writes, one after the other
 module _ (before : List ℕ) (net : ℕ) (s : NetState) where
@@ -42,7 +43,7 @@ module _ (before : List ℕ) (net : ℕ) (s : NetState) where
   length4 = length-set with3 (8 * net + 3) (s .rises) ∙ length3
 
   -- the places are there at each write
-  module _ (low : net < 512) (room : 4096 ≤ length before) where
+  module _ (low : net < 512) (room : netsSize ≤ length before) where
     pub room2 : 8 * net + 1 < length with1
     room2 = omega (arith, length1)
 

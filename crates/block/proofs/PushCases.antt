@@ -18,6 +18,7 @@ use Rattle.records.proofs.BitLaws.{zero-bit}
 use Rattle.block.specs.Words.{wordsAt}
 use Rattle.block.specs.Lists.{entries, pushIf, ListRoom, Pushed}
 use Rattle.block.proofs.LowBitLaws.{low-in, low-there, less-left, others-stay, low-gone}
+use Rattle.block.specs.Layout.{listSize, listsSize}
 
 -- Lists with one entry set
 outside : (list : List ℕ) (i c n k : ℕ) → (i < k) ⊎ (k + n ≤ i) → wordsAt (set list i c) (numbersFrom k n) ≡ wordsAt list (numbersFrom k n)
@@ -46,20 +47,20 @@ at-end list c (suc n) k i e l =
     apart k n i q e = omega arith
 
 -- one record's list grows, the others stay
-module _ (list lens : List ℕ) (z len x : ℕ) (r : 33792 ≤ length list) (q : length lens ≡ 64) (lz : z < 64)
-    (el : len ≡ getD lens z 0) (few : len < 528) where
-  grown : entries (set list (528 * z + len) x) (set lens z (len + 1)) z ≡ entries list lens z ++ (x ∷ [])
+module _ (list lens : List ℕ) (z len x : ℕ) (r : listsSize ≤ length list) (q : length lens ≡ 64) (lz : z < 64)
+    (el : len ≡ getD lens z 0) (few : len < listSize) where
+  grown : entries (set list (listSize * z + len) x) (set lens z (len + 1)) z ≡ entries list lens z ++ (x ∷ [])
   grown =
-      ap (λ m. wordsAt (set list (528 * z + len) x) (numbersFrom (528 * z) m)) (getD-set-same lens z (len + 1) 0 (omega arith))
-      ∙ at-end list x len (528 * z) (528 * z + len) refl (omega arith)
-      ∙ ap (λ m. wordsAt list (numbersFrom (528 * z) m) ++ (x ∷ [])) el
+      ap (λ m. wordsAt (set list (listSize * z + len) x) (numbersFrom (listSize * z) m)) (getD-set-same lens z (len + 1) 0 (omega arith))
+      ∙ at-end list x len (listSize * z) (listSize * z + len) refl (omega arith)
+      ∙ ap (λ m. wordsAt list (numbersFrom (listSize * z) m) ++ (x ∷ [])) el
 
-  stays : (t : ℕ) → t < 64 → (t ≡ z → ⊥) → getD lens t 0 ≤ 528 → entries (set list (528 * z + len) x) (set lens z (len + 1)) t ≡ entries list lens t
+  stays : (t : ℕ) → t < 64 → (t ≡ z → ⊥) → getD lens t 0 ≤ listSize → entries (set list (listSize * z + len) x) (set lens z (len + 1)) t ≡ entries list lens t
   stays t lt d f =
-      ap (λ m. wordsAt (set list (528 * z + len) x) (numbersFrom (528 * t) m)) (getD-set-other lens z t (len + 1) 0 d)
-      ∙ outside list (528 * z + len) x (getD lens t 0) (528 * t) (apart t z len (getD lens t 0) d few f)
+      ap (λ m. wordsAt (set list (listSize * z + len) x) (numbersFrom (listSize * t) m)) (getD-set-other lens z t (len + 1) 0 d)
+      ∙ outside list (listSize * z + len) x (getD lens t 0) (listSize * t) (apart t z len (getD lens t 0) d few f)
     where
-      apart : (t z len m : ℕ) → (t ≡ z → ⊥) → len < 528 → m ≤ 528 → (528 * z + len < 528 * t) ⊎ (528 * t + m ≤ 528 * z + len)
+      apart : (t z len m : ℕ) → (t ≡ z → ⊥) → len < listSize → m ≤ listSize → (listSize * z + len < listSize * t) ⊎ (listSize * t + m ≤ listSize * z + len)
       apart t z len m d l f = ⊎-elim (λ (h : t ≤ z). inr (omega (arith, d))) (λ (h : z < t). inl (omega arith)) (le-or-lt t z)
 
 -- The loop: the records of `word` that are not left have their entry
@@ -99,10 +100,10 @@ module _ (list₀ lens₀ : List ℕ) (word : ℕ) (f : ℕ → ℕ) where
         x .counts (trailingZeros 64 left) place-in
         ∙ ap (λ b. getD lens₀ (trailingZeros 64 left) 0 + oneWhere b) not-yet ∙ add-zero (getD lens₀ (trailingZeros 64 left) 0)
 
-    pub len-few : getD lens (trailingZeros 64 left) 0 < 528
+    pub len-few : getD lens (trailingZeros 64 left) 0 < listSize
     len-few = rw len-there (room .oneMore (trailingZeros 64 left) place-in)
 
-    pub list-place : 528 * trailingZeros 64 left + getD lens (trailingZeros 64 left) 0 < length list
+    pub list-place : listSize * trailingZeros 64 left + getD lens (trailingZeros 64 left) 0 < length list
     list-place = omega (arith, len-few, place-in, room .places, x .sameLength)
 
     pub left-less : bitAnd left (left - 1) < left
@@ -111,12 +112,12 @@ module _ (list₀ lens₀ : List ℕ) (word : ℕ) (f : ℕ → ℕ) where
     pushed-there : (bit word (trailingZeros 64 left) && not (bit (bitAnd left (left - 1)) (trailingZeros 64 left))) ≡ true
     pushed-there = ap₂ (λ a b. a && not b) (x .within (trailingZeros 64 left) place-in (low-there (x .small) ne)) (low-gone (x .small) ne)
 
-    few-there : (t : ℕ) → t < 64 → getD lens t 0 ≤ 528
+    few-there : (t : ℕ) → t < 64 → getD lens t 0 ≤ listSize
     few-there t h = omega (arith, x .counts t h, room .oneMore t h, at-most-one (bit word t && not (bit left t)))
 
     module _ (len v : ℕ) (el : len ≡ getD lens (trailingZeros 64 left) 0) (ev : v ≡ f (trailingZeros 64 left)) where
       list′ : List ℕ
-      list′ = set list (528 * trailingZeros 64 left + len) v
+      list′ = set list (listSize * trailingZeros 64 left + len) v
 
       lens′ : List ℕ
       lens′ = set lens (trailingZeros 64 left) (len + 1)
@@ -124,13 +125,13 @@ module _ (list₀ lens₀ : List ℕ) (word : ℕ) (f : ℕ → ℕ) where
       left′ : ℕ
       left′ = bitAnd left (left - 1)
 
-      long : 33792 ≤ length list
+      long : listsSize ≤ length list
       long = omega (arith, room .places, x .sameLength)
 
       whole : length lens ≡ 64
       whole = x .sameRecords ∙ room .records
 
-      few : len < 528
+      few : len < listSize
       few = omega (arith, len-few)
 
       list-at : (t : ℕ) → t < 64 → entries list′ lens′ t ≡ pushIf (bit word t && not (bit left′ t)) (f t) (entries list₀ lens₀ t)
@@ -161,11 +162,11 @@ module _ (list₀ lens₀ : List ℕ) (word : ℕ) (f : ℕ → ℕ) where
           ∙ ap (λ b. getD lens₀ t 0 + oneWhere (bit word t && not b)) (sym (others-stay (x .small) ne t d)))
           (equal-or-not t (trailingZeros 64 left))
 
-      pub push-step : Pushing list₀ lens₀ (set list (528 * trailingZeros 64 left + len) v) (set lens (trailingZeros 64 left) (len + 1)) word f (bitAnd left (left - 1))
+      pub push-step : Pushing list₀ lens₀ (set list (listSize * trailingZeros 64 left + len) v) (set lens (trailingZeros 64 left) (len + 1)) word f (bitAnd left (left - 1))
       unfolding list′ lens′ left′
       push-step = record {
         small = omega (arith, left-less, x .small);
-        sameLength = length-set list (528 * trailingZeros 64 left + len) v ∙ x .sameLength;
+        sameLength = length-set list (listSize * trailingZeros 64 left + len) v ∙ x .sameLength;
         sameRecords = length-set lens (trailingZeros 64 left) (len + 1) ∙ x .sameRecords;
         within = λ t h e.
             ⊎-elim

@@ -1,7 +1,7 @@
 -- The robustly open words of a gate's pins, kind by kind, and the open words in a class.
 -- Assumes nothing.
 use mathlib.Core.Path.{_≡_, refl, ap, ap₂, sym, _∙_, subst}
-use mathlib.Core.Bool.{Bool, true, false, _&&_, _||_, not, Bool·beq, and-true, and-comm}
+use mathlib.Core.Bool.{Bool, true, false, _&&_, _||_, not, Bool·beq}
 use mathlib.Core.List.{List, [], _∷_, map}
 use Prim.Native.Nat.{ℕ, zero, suc, _-_, _^_, _≤_, _<_}
 use native.Mathlib.Nat.{not-suc-le-zero, le-of-suc-le-suc}
@@ -13,6 +13,7 @@ use Rattle.model.specs.Base.{allOf, bit}
 use Rattle.model.specs.Detect.{nonRobust, robust, Evaluation, noEvaluation, others, robustSides, differs, isOpen}
 use Rattle.model.specs.Read.{kindOf, classOf, pinsFit}
 use Rattle.packed_pins.proofs.KindCases.{others-map, no-ninth}
+use Rattle.gate_logic.proofs.StateLaws.{sides-rule}
 use Rattle.records.proofs.BitLaws.{and-bit, or-bit, xor-bit, zero-bit}
 use Rattle.block.specs.Words.{unequal, flipWord, SeenAt, AloneIs, OpenIs}
 use Rattle.block.specs.Robust.{evaluationAt, RobustIs}
@@ -22,37 +23,6 @@ use Rattle.block.specs.declared.inner.gates.Looks.{Looks}
 use Rattle.block.proofs.WordBitLaws.{not-bit}
 use Rattle.block.proofs.SeenLaws.{unequal-true}
 use Rattle.block.proofs.OpenWordCases.{ones-at, one-pin, fact-length, fact-at}
-
--- Two tests of every other entry
-and-cross : (x xs y ys : Bool) → ((x && xs) && (y && ys)) ≡ ((y && x) && (ys && xs))
-and-cross true true true ys = sym (and-true ys)
-and-cross true true false ys = refl
-and-cross true false true true = refl
-and-cross true false true false = refl
-and-cross true false false ys = refl
-and-cross false xs true ys = refl
-and-cross false xs false ys = refl
-
-module _ (f g : Evaluation → Bool) where
-  all-both : (ns : List Evaluation) → (allOf f ns && allOf g ns) ≡ allOf (λ n. g n && f n) ns
-  all-both [] = refl
-  all-both (n ∷ ns) = and-cross (f n) (allOf f ns) (g n) (allOf g ns) ∙ ap (λ b. (g n && f n) && b) (and-comm (allOf g ns) (allOf f ns) ∙ all-both ns)
-
-  others-both : (ns : List Evaluation) (p : ℕ) → (others f ns p && others g ns p) ≡ others (λ n. g n && f n) ns p
-  others-both [] p = refl
-  others-both (n ∷ ns) zero = all-both ns
-  others-both (n ∷ ns) (suc p) =
-      and-cross (f n) (others f ns p) (g n) (others g ns p) ∙ ap (λ b. (g n && f n) && b) (and-comm (others g ns p) (others f ns p) ∙ others-both ns p)
-
--- the other pins of a robustly open pin: non-controlling, and steady unless this one ends non-controlling
-sides : (b : Bool) (ns : List Evaluation) (p : ℕ)
-    → (others (λ n. Bool·beq b (n .underV2)) ns p && (Bool·beq b (getD ns p noEvaluation .underV2) || others (λ n. n .steady) ns p)) ≡ robustSides b ns p
-sides b ns p = go (Bool·beq b (getD ns p noEvaluation .underV2))
-  where
-    go : (t : Bool) → (others (λ n. Bool·beq b (n .underV2)) ns p && (t || others (λ n. n .steady) ns p))
-        ≡ elim t [ true ↦ others (λ n. Bool·beq b (n .underV2)) ns p | false ↦ others (λ n. n .steady && Bool·beq b (n .underV2)) ns p ]
-    go true = and-true (others (λ n. Bool·beq b (n .underV2)) ns p)
-    go false = others-both (λ n. Bool·beq b (n .underV2)) (λ n. n .steady) ns p
 
 unequal-not : (b v : Bool) → unequal b (not v) ≡ Bool·beq b v
 unequal-not true true = refl
@@ -114,7 +84,7 @@ module _ (last loose : Seen) (flip v1 v2 steady calm clear : ℕ) (small₂ : v2
           and-bit (bitXor v1 v2) (bitAnd clear (bitOr c calm)) t
           ∙ ap₂ (λ x y. x && y) moves
           (and-bit clear (bitOr c calm) t ∙ ap₂ (λ x y. x && y) (clear-sides s₁) (or-bit c calm t ∙ ap₂ (λ x y. x || y) ends-clear (calm-sides s₂))
-          ∙ sides b ns p)
+          ∙ sides-rule b ns p)
 
   -- the kinds with a non-controlling value
   abbrev sided : ℕ

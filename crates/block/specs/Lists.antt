@@ -12,6 +12,7 @@ use Rattle.model.specs.Detect.{Test}
 use Rattle.packed_pins.specs.Packed.{oneWhere}
 use Rattle.block.specs.Words.{wordsAt, bitsAt, firstWords}
 use Rattle.block.specs.Block.{liveNet, activePin}
+use Rattle.block.specs.Layout.{listSize, listsSize}
 
 -- values packed into a number, the first in the lowest bit
 abbrev pub packBits : List Bool → ℕ
@@ -35,9 +36,9 @@ gateEntry N t e net = 256 * net + packBits (map (activePin N t e net) (numbersFr
 unfoldable pub liveEntries : Netlist → Test → Edge → ℕ → List ℕ
 liveEntries N t e m = map (gateEntry N t e) (keep (liveNet N t e) (numbersFrom (N .inputs) m))
 
--- the list of record t, from place 528 t on
+-- the list of record t
 abbrev pub entries : List ℕ → List ℕ → ℕ → List ℕ
-entries list lens t = wordsAt list (numbersFrom (528 * t) (getD lens t 0))
+entries list lens t = wordsAt list (numbersFrom (listSize * t) (getD lens t 0))
 
 -- the list of each record is that of its live gates
 pub record ListsTrue (N : Netlist) (tests : ℕ → Test) (e : Edge) (n : ℕ) (list lens : List ℕ) : Type 0 where
@@ -45,13 +46,13 @@ pub record ListsTrue (N : Netlist) (tests : ℕ → Test) (e : Edge) (n : ℕ) (
 
 -- room for 64 lists, and for one entry more in each
 pub record ListRoom (list lens : List ℕ) : Type 0 where
-  pub places : 33792 ≤ length list
+  pub places : listsSize ≤ length list
   pub records : length lens ≡ 64
-  pub oneMore : (t : ℕ) → t < 64 → getD lens t 0 < 528
+  pub oneMore : (t : ℕ) → t < 64 → getD lens t 0 < listSize
 
 -- room for 64 lists, each empty
 pub record EmptyLists (list lens : List ℕ) : Type 0 where
-  pub places : 33792 ≤ length list
+  pub places : listsSize ≤ length list
   pub records : length lens ≡ 64
   pub empty : (t : ℕ) → t < 64 → getD lens t 0 ≡ 0
 

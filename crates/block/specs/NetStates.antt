@@ -23,6 +23,7 @@ use Rattle.block.specs.declared.inner.gates.Seen.{Seen}
 use Rattle.block.specs.declared.inner.gates.Looks.{Looks}
 use Rattle.block.specs.declared.inner.robust.Live.{Live}
 use Rattle.block.specs.declared.inner.words.NetState.{NetState}
+use Rattle.block.specs.Layout.{netsSize}
 
 -- the words of net n stand from place 8 n on: one of them for each of 512 nets
 abbrev pub plane : ℕ → List ℕ → List ℕ
@@ -96,7 +97,7 @@ pub record NetPut (net : ℕ) (s : NetState) (before after : List ℕ) : Type 0 
 -- of the memory lent for the words of the nets, what stands past those of 512 nets is as before
 pub record StatesKept (before after : List ℕ) : Type 0 where
   pub sameLength : length after ≡ length before
-  pub past : (i : ℕ) → 4096 ≤ i → getD after i 0 ≡ getD before i 0
+  pub past : (i : ℕ) → netsSize ≤ i → getD after i 0 ≡ getD before i 0
 
 -- the words of the inputs of n records, from their words under V1 and V2
 pub record InputWords (firsts lasts : List ℕ) (inputs n : ℕ) (before after : List ℕ) : Type 0 where

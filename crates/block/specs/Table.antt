@@ -9,6 +9,7 @@ use Rattle.model.specs.Base.{value}
 use Rattle.model.specs.Netlist.{Netlist, nets, gateOf, pinsOf, pinNet}
 use Rattle.model.specs.Read.{readNetlist, kindOf, pinsFit}
 use Rattle.netlist.specs.Tables.{pinIn}
+use Rattle.block.specs.Layout.{kindsAt, pinCountsAt}
 
 -- a part with so many pins' nets, as a gate's record has them, each one of 512
 pub record NetsIn (part : List ℕ) (pins : ℕ) : Type 0 where
@@ -27,7 +28,7 @@ pub record GateNumbers (N : Netlist) (net kind pins : ℕ) (pin : ℕ → ℕ) :
 
 -- the same at their places in the table
 abbrev pub GateRow : Netlist → List ℕ → ℕ → Type 0
-GateRow N table net = GateNumbers N net (getD table (4096 + net) 0) (getD table (4608 + net) 0) (λ p. getD table (8 * net + p) 0)
+GateRow N table net = GateNumbers N net (getD table (kindsAt + net) 0) (getD table (pinCountsAt + net) 0) (λ p. getD table (8 * net + p) 0)
 
 -- the table of a legal netlist with so many inputs and nets
 pub record CircuitTable (N : Netlist) (table : List ℕ) (inputs netCount : ℕ) : Type 0 where

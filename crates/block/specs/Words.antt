@@ -13,6 +13,7 @@ use Rattle.model.specs.Detect.{nonRobust, Evaluation, noEvaluation, odd, gateVa
 use Rattle.model.specs.Read.{pinsFit, kindOf}
 use Rattle.block.specs.declared.inner.gates.Gate.{Gate}
 use Rattle.block.specs.declared.inner.gates.Seen.{Seen}
+use Rattle.block.specs.Layout.{kindsAt, pinCountsAt}
 
 -- bit t of the word is what `f` says of record t, for the first n records
 abbrev pub WordIs : ℕ → (ℕ → Bool) → ℕ → Type 0
@@ -54,15 +55,15 @@ pub record Filled (first n : ℕ) (P : ℕ → ℕ → Type 0) (before after : L
 
 -- a gate, read from the table
 pub record GateIs (table : List ℕ) (net : ℕ) (g : Gate) : Type 0 where
-  pub kindIs : g .kind ≡ getD table (4096 + net) 0
-  pub pinsAre : g .pins ≡ getD table (4608 + net) 0
+  pub kindIs : g .kind ≡ getD table (kindsAt + net) 0
+  pub pinsAre : g .pins ≡ getD table (pinCountsAt + net) 0
   pub firstIs : g .first ≡ 8 * net
   pub flipIs : g .flip ≡ flipWord (kindOf (g .kind))
 
 -- the gate's pins stand in the table, each with one of 512 nets
 pub record PinsIn (table : List ℕ) (g : Gate) : Type 0 where
   pub few : g .pins ≤ 8
-  pub inside : g .first + 8 ≤ 4096
+  pub inside : g .first + 8 ≤ kindsAt
   pub isNet : (p : ℕ) → p < g .pins → getD table (g .first + p) 0 < 512
 
 -- the nets at the `n` pins from place `first` on, and their words

@@ -24,7 +24,9 @@ use Rattle.block.specs.Table.{CircuitTable}
 use Rattle.block.proofs.GateTableLaws.{well}
 use Rattle.block_vectors.specs.Vectors.{SpreadIs}
 use Rattle.block_marks.specs.Marks.{PlaceTable, VectorsOf, liveOutput, ListedEdge, entriesOf}
-use Rattle.block_marks.specs.EdgeMarks.{outAt, OutsAre}
+use Rattle.block_marks.specs.EdgeMarks.{OutsAre}
+use Rattle.block.specs.Layout.{listSize, listsSize}
+use Rattle.block_marks.specs.Layout.{outAt}
 
 -- the words at places one after the other are a part of the list
 words-part : (list : List ℕ) (at n : ℕ) → at + n ≤ length list → take n (drop at list) ≡ wordsAt list (numbersFrom at n)
@@ -33,7 +35,7 @@ words-part list at (suc n) h =
     ap (take (suc n)) (drop-cons list at 0 (omega arith)) ∙ ap {B = List ℕ} (λ xs. getD list at 0 ∷ xs) (words-part list (suc at) n (omega arith))
 
 -- new lists are empty
-pub no-entries : (list : List ℕ) → 33792 ≤ length list → EmptyLists list (replicate 64 0)
+pub no-entries : (list : List ℕ) → listsSize ≤ length list → EmptyLists list (replicate 64 0)
 no-entries list h = record { places = h; records = refl; empty = λ t l. zeros-at 64 t }
 
 -- the words of the inputs are the vectors, spread
@@ -68,10 +70,10 @@ module _ {N : Netlist} {table places : List ℕ} {inputs netCount outputs : ℕ}
 
   -- a record's list and live outputs, by the numbers in its marks
   pub listed-edge : {list lens : List ℕ} → ListsTrue N tests e n list lens → (t len : ℕ) {outputBits edges : ℕ} → t < n → len ≡ getD lens t 0
-      → 528 * t + len ≤ length list → outputBits ≡ getD outs t 0 → ((j : ℕ) → j < N .inputs → bit edges j ≡ hasEdge (tests t) e j)
+      → listSize * t + len ≤ length list → outputBits ≡ getD outs t 0 → ((j : ℕ) → j < N .inputs → bit edges j ≡ hasEdge (tests t) e j)
       → ListedEdge N (tests t) e (entriesOf list len t) edges outputBits
   listed-edge {list} {lens} z t len h l room b f = record {
-    list = words-part list (528 * t) len room ∙ ap (λ k. wordsAt list (numbersFrom (528 * t) k)) l ∙ z .lists t h;
+    list = words-part list (listSize * t) len room ∙ ap (λ k. wordsAt list (numbersFrom (listSize * t) k)) l ∙ z .lists t h;
     makesEdge = f;
     outsAre = λ o m. ap (λ w. bit w o) b ∙ outs-true t h o m;
   }

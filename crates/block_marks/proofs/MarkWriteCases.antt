@@ -12,6 +12,7 @@ use Rattle.model.specs.Base.{bit}
 use Rattle.records.proofs.BitLaws.{rise-bit}
 use Rattle.block_marks.specs.EdgeMarks.{EdgeWritten}
 use Rattle.block_marks.proofs.OneMoreLaws.{one-more}
+use Rattle.block_marks.specs.Layout.{upOutsAt, upLengthsAt, marksSize}
 
 -- three places set
 module _ (ws : List ℕ) (a b c x y z : ℕ) where
@@ -44,32 +45,32 @@ module _ (vectors outs lens before : List ℕ) (n first : ℕ) where
     others = λ k o. refl;
   }
 
-  module _ {after : List ℕ} {t : ℕ} (x : EdgeWritten vectors t first outs lens before after) (room : length before ≡ 384) (low : first ≤ 64) (few : n ≤ 64) (l : t < n) where
+  module _ {after : List ℕ} {t : ℕ} (x : EdgeWritten vectors t first outs lens before after) (room : length before ≡ marksSize) (low : first ≤ 64) (few : n ≤ 64) (l : t < n) where
     abbrev written : List ℕ
-    written = thrice after (first + t) (128 + first + t) (256 + first + t)
+    written = thrice after (first + t) (upOutsAt + first + t) (upLengthsAt + first + t)
         (bitAnd (bitXor (getD vectors (first + t) 0) (getD vectors (64 - first + t) 0)) (getD vectors (64 - first + t) 0))
         (getD outs t 0) (getD lens t 0)
 
-    kept : (k : ℕ) → (k ≡ first + t → ⊥) → (k ≡ 128 + first + t → ⊥) → (k ≡ 256 + first + t → ⊥) → getD written k 0 ≡ getD after k 0
-    kept k p q r = elsewhere after (first + t) (128 + first + t) (256 + first + t) _ _ _ k p q r
+    kept : (k : ℕ) → (k ≡ first + t → ⊥) → (k ≡ upOutsAt + first + t → ⊥) → (k ≡ upLengthsAt + first + t → ⊥) → getD written k 0 ≡ getD after k 0
+    kept k p q r = elsewhere after (first + t) (upOutsAt + first + t) (upLengthsAt + first + t) _ _ _ k p q r
 
     pub write-step : EdgeWritten vectors (t + 1) first outs lens before written
     write-step =
         let long = x .sameLength in
         record {
-          sameLength = thrice-length after (first + t) (128 + first + t) (256 + first + t) _ _ _ ∙ long;
+          sameLength = thrice-length after (first + t) (upOutsAt + first + t) (upLengthsAt + first + t) _ _ _ ∙ long;
           edges = λ s j h.
               one-more (λ s. bit (getD written (first + s) 0) j ≡ (not (bit (getD vectors (first + s) 0) j) && bit (getD vectors (64 - first + s) 0) j)) t
               (λ s m. ap (λ w. bit w j) (kept (first + s) (λ e. omega arith) (λ e. omega arith) (λ e. omega arith)) ∙ x .edges s j m)
-              (ap (λ w. bit w j) (at-first after (first + t) (128 + first + t) (256 + first + t) _ _ _ (omega (arith, long)) (omega arith) (omega arith))
+              (ap (λ w. bit w j) (at-first after (first + t) (upOutsAt + first + t) (upLengthsAt + first + t) _ _ _ (omega (arith, long)) (omega arith) (omega arith))
               ∙ rise-bit (getD vectors (first + t) 0) (getD vectors (64 - first + t) 0) j)
               s h;
-          outsAt = one-more (λ s. getD written (128 + first + s) 0 ≡ getD outs s 0) t
-              (λ s m. kept (128 + first + s) (λ e. omega arith) (λ e. omega arith) (λ e. omega arith) ∙ x .outsAt s m)
-              (at-second after (first + t) (128 + first + t) (256 + first + t) _ _ _ (omega (arith, long)) (omega arith));
-          lensAt = one-more (λ s. getD written (256 + first + s) 0 ≡ getD lens s 0) t
-              (λ s m. kept (256 + first + s) (λ e. omega arith) (λ e. omega arith) (λ e. omega arith) ∙ x .lensAt s m)
-              (at-third after (first + t) (128 + first + t) (256 + first + t) _ _ _ (omega (arith, long)));
+          outsAt = one-more (λ s. getD written (upOutsAt + first + s) 0 ≡ getD outs s 0) t
+              (λ s m. kept (upOutsAt + first + s) (λ e. omega arith) (λ e. omega arith) (λ e. omega arith) ∙ x .outsAt s m)
+              (at-second after (first + t) (upOutsAt + first + t) (upLengthsAt + first + t) _ _ _ (omega (arith, long)) (omega arith));
+          lensAt = one-more (λ s. getD written (upLengthsAt + first + s) 0 ≡ getD lens s 0) t
+              (λ s m. kept (upLengthsAt + first + s) (λ e. omega arith) (λ e. omega arith) (λ e. omega arith) ∙ x .lensAt s m)
+              (at-third after (first + t) (upOutsAt + first + t) (upLengthsAt + first + t) _ _ _ (omega (arith, long)));
           others = λ k o.
               let d = o t (omega arith) in
               kept k (d .0) (d .1) (d .2) ∙ x .others k o;

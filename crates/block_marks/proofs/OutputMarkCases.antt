@@ -18,8 +18,9 @@ use Rattle.block.specs.Spread.{Flipped}
 use Rattle.block.specs.NetStates.{plane}
 use Rattle.block.proofs.WordBitLaws.{half-bit, first-bit}
 use Rattle.block.proofs.TruthLaws.{unequal-none, unequal-false}
-use Rattle.block_marks.specs.EdgeMarks.{outAt, OutsAre}
+use Rattle.block_marks.specs.EdgeMarks.{OutsAre}
 use Rattle.block.proofs.PlaneLaws.{plane-at}
+use Rattle.block_marks.specs.Layout.{outAt}
 
 -- a power of two has one bit
 power-bit : (o s : ℕ) → bit (2 ^ o) s ≡ eqb s o

@@ -15,6 +15,7 @@ use Rattle.netlist.proofs.OutputLaws.{output-here, output-long}
 use Rattle.block.specs.Words.{Filled}
 use Rattle.block_marks.specs.PlaceParts.{pathsTo, pinsAt, pinPaths, GateFits, PinsPlaced, GatesFit, GatesPlaced, netAt, outputPaths, OutputsFit, OutputsPlaced}
 use Rattle.block_marks.proofs.OneMoreLaws.{one-more, fill-more}
+use Rattle.block_marks.specs.Layout.{placeTableSize, outputOffsetsAt, outputNetsAt}
 
 paths-next : (f : ℕ → ℕ) (p : ℕ) → pathsTo f (p + 1) ≡ pathsTo f p + f p
 paths-next f p = ap (pathsTo f) (add-one p)
@@ -38,7 +39,7 @@ module _ {counts table : List ℕ} {net : ℕ} (f : GateFits counts table net) {
         let w : getD counts _ 0 ≡ pinPaths counts table net p = ap (λ i. getD counts i 0) e in
         omega (arith, w, d .sum, paths-next (pinPaths counts table net) p, f .fits (p + 1) (omega arith))
 
-    pub pins-more : length before ≡ 4224 → {at : ℕ} → at ≡ getD table (8 * net + p) 0
+    pub pins-more : length before ≡ placeTableSize → {at : ℕ} → at ≡ getD table (8 * net + p) 0
         → PinsDone counts table net pins before (set after (8 * net + p) offset) (offset + getD counts at 0) (p + 1)
     pins-more room e = record {
       pinsAre = ep;
@@ -116,37 +117,37 @@ module _ {part : List ℕ} {inputs outputs : ℕ} {counts : List ℕ} (f : Outpu
       pub output-fits : offset + paths < 2 ^ 64
       output-fits = omega (arith, paths-is, d .sum, paths-next (outputPaths part inputs counts) o, f .fits (o + 1) (omega arith))
 
-      pub outputs-more : length before ≡ 4224 → OutputsDone part inputs outputs counts before (set (set after (4096 + o) offset) (4160 + o) net) (offset + paths) (o + 1)
+      pub outputs-more : length before ≡ placeTableSize → OutputsDone part inputs outputs counts before (set (set after (outputOffsetsAt + o) offset) (outputNetsAt + o) net) (offset + paths) (o + 1)
       outputs-more room = record {
         within = omega arith;
         sum = ap₂ (λ x y. x + y) (d .sum) paths-is ∙ sym (paths-next (outputPaths part inputs counts) o);
         placed = record {
-          sameLength = length-set (set after (4096 + o) offset) (4160 + o) net ∙ length-set after (4096 + o) offset ∙ d .placed .sameLength;
+          sameLength = length-set (set after (outputOffsetsAt + o) offset) (outputNetsAt + o) net ∙ length-set after (outputOffsetsAt + o) offset ∙ d .placed .sameLength;
           same = λ i h. old i (λ q. omega arith) (λ q. omega arith) ∙ d .placed .same i h;
-          offsets = one-more (λ i. getD next (4096 + i) 0 ≡ pathsTo (outputPaths part inputs counts) i) o
-              (λ i h. old (4096 + i) (λ q. omega arith) (λ q. apart (4096 + i) (4160 + o) (omega (arith, few)) q) ∙ d .placed .offsets i h)
-              (getD-set-other (set after (4096 + o) offset) (4160 + o) (4096 + o) net 0 (λ q. omega arith)
-              ∙ getD-set-same after (4096 + o) offset 0 (omega (arith, long)) ∙ d .sum);
-          nets = one-more (λ i. getD next (4160 + i) 0 ≡ netAt part i) o
-              (λ i h. old (4160 + i) (λ q. omega (arith, few)) (λ q. omega arith) ∙ d .placed .nets i h)
-              (getD-set-same (set after (4096 + o) offset) (4160 + o) net 0 (omega (arith, length-set after (4096 + o) offset, long)) ∙ net-is);
+          offsets = one-more (λ i. getD next (outputOffsetsAt + i) 0 ≡ pathsTo (outputPaths part inputs counts) i) o
+              (λ i h. old (outputOffsetsAt + i) (λ q. omega arith) (λ q. apart (outputOffsetsAt + i) (outputNetsAt + o) (omega (arith, few)) q) ∙ d .placed .offsets i h)
+              (getD-set-other (set after (outputOffsetsAt + o) offset) (outputNetsAt + o) (outputOffsetsAt + o) net 0 (λ q. omega arith)
+              ∙ getD-set-same after (outputOffsetsAt + o) offset 0 (omega (arith, long)) ∙ d .sum);
+          nets = one-more (λ i. getD next (outputNetsAt + i) 0 ≡ netAt part i) o
+              (λ i h. old (outputNetsAt + i) (λ q. omega (arith, few)) (λ q. omega arith) ∙ d .placed .nets i h)
+              (getD-set-same (set after (outputOffsetsAt + o) offset) (outputNetsAt + o) net 0 (omega (arith, length-set after (outputOffsetsAt + o) offset, long)) ∙ net-is);
         };
       }
         where
           next : List ℕ
-          next = set (set after (4096 + o) offset) (4160 + o) net
+          next = set (set after (outputOffsetsAt + o) offset) (outputNetsAt + o) net
 
           few : o < 64
           few = omega (arith, f .few)
 
-          long : length after ≡ 4224
+          long : length after ≡ placeTableSize
           long = d .placed .sameLength ∙ room
 
           apart : (i j : ℕ) → i < j → i ≡ j → ⊥
           apart i j h e = omega arith
 
-          old : (i : ℕ) → (i ≡ 4096 + o → ⊥) → (i ≡ 4160 + o → ⊥) → getD next i 0 ≡ getD after i 0
-          old i a b = getD-set-other (set after (4096 + o) offset) (4160 + o) i net 0 b ∙ getD-set-other after (4096 + o) i offset 0 a
+          old : (i : ℕ) → (i ≡ outputOffsetsAt + o → ⊥) → (i ≡ outputNetsAt + o → ⊥) → getD next i 0 ≡ getD after i 0
+          old i a b = getD-set-other (set after (outputOffsetsAt + o) offset) (outputNetsAt + o) i net 0 b ∙ getD-set-other after (outputOffsetsAt + o) i offset 0 a
 
 pub ruleset pin-cases = (pin-net, pin-fits, pins-more, pins-all, needs)
 

@@ -19,6 +19,7 @@ use Rattle.netlist.proofs.TableLaws as tables
 use Rattle.block.specs.Table.{CircuitTable, GateRow}
 use Rattle.block_marks.specs.Marks.{PlaceTable}
 use Rattle.block_marks.specs.PlaceParts.{pathsTo, pinsAt, pinPaths, GateFits, GatesFit, GatesPlaced, outputPaths, OutputsFit, OutputsPlaced, PlacesOf, SomePlaces}
+use Rattle.block_marks.specs.Layout.{placeTableSize}
 
 -- places by a list of what each has
 module _ (f : ℕ → ℕ) (cs : List ℕ) (is : (p : ℕ) → p < length cs → f p ≡ getD cs p 0) where
@@ -125,7 +126,7 @@ module _ {file cs : List ℕ} {shape : Shape} {table : List ℕ} (s : SomePlaces
   some-outputs e = subst (λ (x : List ℕ). OutputsFit x (shape .inputs) (shape .outputs) cs) (sym e) (outputs-fit (s .known))
 
   pub placed-length : {part gated places : List ℕ} → GatesPlaced cs table (shape .inputs) (shape .nets) gated
-      → OutputsPlaced part (shape .inputs) (shape .outputs) cs gated places → length places ≡ 4224
+      → OutputsPlaced part (shape .inputs) (shape .outputs) cs gated places → length places ≡ placeTableSize
   placed-length g o = o .sameLength ∙ g .room
 
   pub placed-table : {part gated places : List ℕ} → GatesPlaced cs table (shape .inputs) (shape .nets) gated

@@ -22,6 +22,8 @@ use Rattle.block_marks.specs.EdgeMarks.{BatchTables, OutsAre, EdgeWritte
 use Rattle.block_marks.specs.declared.inner.Batch.{Batch}
 use Rattle.block.proofs.InputStateLaws.{inputs-stated}
 use Rattle.block_marks.proofs.EdgeListLaws.{input-bits, listed-edge}
+use Rattle.block.specs.Layout.{listSize, listsSize}
+use Rattle.block_marks.specs.Layout.{upOutsAt, upLengthsAt, downLengthsAt}
 
 -- the numbers of a block's netlist
 abbrev shapeOf : Batch → Shape
@@ -33,11 +35,11 @@ module _ {vectors upOuts upLens downOuts downLens marks₀ marks₁ marks : List
   edge-kept : getD marks t 0 ≡ getD marks₁ (0 + t) 0
   edge-kept = w₂ .others t (λ s l. (λ e. omega arith, λ e. omega arith, λ e. omega arith)) ∙ ap (λ k. getD marks₁ k 0) (sym (zero-add t))
 
-  up-outs : getD marks (128 + t) 0 ≡ getD upOuts t 0
-  up-outs = w₂ .others (128 + t) (λ s l. (λ e. omega arith, λ e. omega arith, λ e. omega arith)) ∙ w₁ .outsAt t h
+  up-outs : getD marks (upOutsAt + t) 0 ≡ getD upOuts t 0
+  up-outs = w₂ .others (upOutsAt + t) (λ s l. (λ e. omega arith, λ e. omega arith, λ e. omega arith)) ∙ w₁ .outsAt t h
 
-  up-lens : getD marks (256 + t) 0 ≡ getD upLens t 0
-  up-lens = w₂ .others (256 + t) (λ s l. (λ e. omega arith, λ e. omega arith, λ e. omega arith)) ∙ w₁ .lensAt t h
+  up-lens : getD marks (upLengthsAt + t) 0 ≡ getD upLens t 0
+  up-lens = w₂ .others (upLengthsAt + t) (λ s l. (λ e. omega arith, λ e. omega arith, λ e. omega arith)) ∙ w₁ .lensAt t h
 
   module _ {N : Netlist} {tests : ℕ → Test} (v : VectorsOf N tests n vectors) where
     first-at : (j : ℕ) → j < N .inputs → bit (getD vectors (0 + t) 0) j ≡ getD (tests t .v1) j false
@@ -56,7 +58,7 @@ module _ {vectors upOuts upLens downOuts downLens marks₀ marks₁ marks : List
 module _ {table places : List ℕ} {b : Batch} (s : BatchTables table places b) {vectors firsts lasts : List ℕ}
     (s₁ : SpreadIs vectors 0 (b .records) (b .inputs) firsts) (s₂ : SpreadIs vectors 64 (b .records) (b .inputs) lasts)
     {words₀ words₁ words ups₀ ups upLens downs₀ downs downLens : List ℕ} (i : InputWords firsts lasts (b .inputs) (b .records) words₀ words₁)
-    (g : GatesListed table (shapeOf b) (b .class) words₁ words ups₀ ups upLens downs₀ downs downLens) (r₁ : 33792 ≤ length ups₀) (r₂ : 33792 ≤ length downs₀)
+    (g : GatesListed table (shapeOf b) (b .class) words₁ words ups₀ ups upLens downs₀ downs downLens) (r₁ : listsSize ≤ length ups₀) (r₂ : listsSize ≤ length downs₀)
     {upOuts downOuts marks₀ marks₁ marks : List ℕ} (o₁ : OutsAre places (b .inputs) (b .outputs) (riseWords words) upOuts)
     (w₁ : EdgeWritten vectors (b .records) 0 upOuts upLens marks₀ marks₁) (o₂ : OutsAre places (b .inputs) (b .outputs) (fallWords words) downOuts)
     (w₂ : EdgeWritten vectors (b .records) 64 downOuts downLens marks₁ marks) where
@@ -70,14 +72,14 @@ module _ {table places : List ℕ} {b : Batch} (s : BatchTables table places b) 
       record {
         each = λ t h.
             let l : t < 64 = omega arith in
-            let up-room : 528 * t + getD marks (256 + t) 0 ≤ length ups = omega (arith, up-lens few w₁ w₂ t h, g .upCounts t l, g .upPlaces) in
-            let down-room : 528 * t + getD marks (320 + t) 0 ≤ length downs = omega (arith, w₂ .lensAt t h, g .downCounts t l, g .downPlaces) in
+            let up-room : listSize * t + getD marks (upLengthsAt + t) 0 ≤ length ups = omega (arith, up-lens few w₁ w₂ t h, g .upCounts t l, g .upPlaces) in
+            let down-room : listSize * t + getD marks (downLengthsAt + t) 0 ≤ length downs = omega (arith, w₂ .lensAt t h, g .downCounts t l, g .downPlaces) in
             record {
               upRoom = up-room;
               downRoom = down-room;
-              rises = listed-edge c p q few (nets .rises) o₁ (passed .1) t (getD marks (256 + t) 0) h (up-lens few w₁ w₂ t h) up-room (up-outs few w₁ w₂ t h)
+              rises = listed-edge c p q few (nets .rises) o₁ (passed .1) t (getD marks (upLengthsAt + t) 0) h (up-lens few w₁ w₂ t h) up-room (up-outs few w₁ w₂ t h)
                   (rise-bits few w₁ w₂ t h v);
-              falls = listed-edge c p q few (nets .falls) o₂ (passed .2) t (getD marks (320 + t) 0) h (w₂ .lensAt t h) down-room (w₂ .outsAt t h)
+              falls = listed-edge c p q few (nets .falls) o₂ (passed .2) t (getD marks (downLengthsAt + t) 0) h (w₂ .lensAt t h) down-room (w₂ .outsAt t h)
                   (fall-bits few w₁ w₂ t h v);
             };
       }

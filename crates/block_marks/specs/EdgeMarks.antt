@@ -10,10 +10,7 @@ use Rattle.model.specs.Base.{bit}
 use Rattle.model.specs.Calls.{workWords}
 use Rattle.block.specs.Table.{SomeTable}
 use Rattle.block_marks.specs.declared.inner.Batch.{Batch}
-
--- the net of output o, as the places have it
-abbrev pub outAt : List ℕ → ℕ → ℕ
-outAt places o = getD places (4160 + o) 0
+use Rattle.block_marks.specs.Layout.{upOutsAt, upLengthsAt, outAt}
 
 -- tables of some netlist, and a block of at most 64 records
 pub record BatchTables (table places : List ℕ) (b : Batch) : Type 0 where
@@ -26,13 +23,13 @@ pub record BatchTables (table places : List ℕ) (b : Batch) : Type 0 where
 pub record OutsAre (places : List ℕ) (inputs outputs : ℕ) (live outs : List ℕ) : Type 0 where
   pub bits : (t o : ℕ) → t < 64 → o < 64 → bit (getD outs t 0) o ≡ (ltb o outputs && (leb inputs (outAt places o) && bit (getD live (outAt places o) 0) t))
 
--- the marks of the first n records for an edge, those of record t at `first` + t, 128 + `first` + t and 256 + `first` + t; the other places are as before
+-- the marks of the first n records for an edge, those of record t `first` + t places after where those of the rising edge begin; the other places are as before
 pub record EdgeWritten (vectors : List ℕ) (n first : ℕ) (outs lens before after : List ℕ) : Type 0 where
   pub sameLength : length after ≡ length before
   pub edges : (t j : ℕ) → t < n → bit (getD after (first + t) 0) j ≡ (not (bit (getD vectors (first + t) 0) j) && bit (getD vectors (64 - first + t) 0) j)
-  pub outsAt : (t : ℕ) → t < n → getD after (128 + first + t) 0 ≡ getD outs t 0
-  pub lensAt : (t : ℕ) → t < n → getD after (256 + first + t) 0 ≡ getD lens t 0
-  pub others : (k : ℕ) → ((t : ℕ) → t < 64 → (k ≡ first + t → ⊥) × (k ≡ 128 + first + t → ⊥) × (k ≡ 256 + first + t → ⊥)) → getD after k 0 ≡ getD before k 0
+  pub outsAt : (t : ℕ) → t < n → getD after (upOutsAt + first + t) 0 ≡ getD outs t 0
+  pub lensAt : (t : ℕ) → t < n → getD after (upLengthsAt + first + t) 0 ≡ getD lens t 0
+  pub others : (k : ℕ) → ((t : ℕ) → t < 64 → (k ≡ first + t → ⊥) × (k ≡ upOutsAt + first + t → ⊥) × (k ≡ upLengthsAt + first + t → ⊥)) → getD after k 0 ≡ getD before k 0
 
 -- the working memory after a use that leaves what stands past it
 pub record WorkKept (before after : List ℕ) : Type 0 where

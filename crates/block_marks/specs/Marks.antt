@@ -19,13 +19,15 @@ use Rattle.test_records.specs.declared.inner.RecordAnswer.{RecordAnswer}
 use Rattle.test_records.specs.declared.inner.RecordAnswer.the-variants as record-answer
 use Rattle.block.specs.Block.{liveNet}
 use Rattle.block.specs.Lists.{liveEntries}
+use Rattle.block.specs.Layout.{listSize}
+use Rattle.block_marks.specs.Layout.{outputOffsetsAt, upOutsAt, downOutsAt, upLengthsAt, downLengthsAt, outAt}
 
 -- the places of a netlist's pins and outputs: the paths of the pins before pin p of the gate that drives net n at place 8 n + p, the paths of the outputs
--- before output o at place 4096 + o, and its net at place 4160 + o
+-- before output o, and its net
 pub record PlaceTable (N : Netlist) (places : List ℕ) : Type 0 where
   pub pinOffset : (net p : ℕ) → N .inputs ≤ net → net < nets N → p < length (pinsOf N net) → getD places (8 * net + p) 0 ≡ countsBefore p (pinCounts N net)
-  pub outOffset : (o : ℕ) → o < length (N .outputs) → getD places (4096 + o) 0 ≡ countsBefore o (outputCounts N)
-  pub outNet : (o : ℕ) → o < length (N .outputs) → getD places (4160 + o) 0 ≡ outputNet N o
+  pub outOffset : (o : ℕ) → o < length (N .outputs) → getD places (outputOffsetsAt + o) 0 ≡ countsBefore o (outputCounts N)
+  pub outNet : (o : ℕ) → o < length (N .outputs) → outAt places o ≡ outputNet N o
 
 -- output o is at a gate's net that is live
 abbrev pub liveOutput : Netlist → Test → Edge → ℕ → Bool
@@ -37,17 +39,17 @@ pub record ListedEdge (N : Netlist) (t : Test) (e : Edge) (entries : List ℕ) (
   pub makesEdge : (j : ℕ) → j < N .inputs → bit edges j ≡ hasEdge t e j
   pub outsAre : (o : ℕ) → o < 64 → bit outs o ≡ liveOutput N t e o
 
--- the list of a record: so many entries from place 528 t on
+-- the list of a record: so many entries
 abbrev pub entriesOf : List ℕ → ℕ → ℕ → List ℕ
-entriesOf list len t = take len (drop (528 * t) list)
+entriesOf list len t = take len (drop (listSize * t) list)
 
--- the words of a block's records: at t the inputs that rise, at 64 + t those that fall, at 128 + t and 192 + t the live outputs of the rising and of the
--- falling edge, at 256 + t and 320 + t the lengths of the lists
+-- the words of a block's records, each at its place t: the inputs that rise, those that fall, the live outputs of the rising and of the falling edge, the lengths
+-- of the lists
 pub record RecordMarks (N : Netlist) (test : Test) (ups downs marks : List ℕ) (t : ℕ) : Type 0 where
-  pub upRoom : 528 * t + getD marks (256 + t) 0 ≤ length ups
-  pub downRoom : 528 * t + getD marks (320 + t) 0 ≤ length downs
-  pub rises : ListedEdge N test rising (entriesOf ups (getD marks (256 + t) 0) t) (getD marks t 0) (getD marks (128 + t) 0)
-  pub falls : ListedEdge N test falling (entriesOf downs (getD marks (320 + t) 0) t) (getD marks (64 + t) 0) (getD marks (192 + t) 0)
+  pub upRoom : listSize * t + getD marks (upLengthsAt + t) 0 ≤ length ups
+  pub downRoom : listSize * t + getD marks (downLengthsAt + t) 0 ≤ length downs
+  pub rises : ListedEdge N test rising (entriesOf ups (getD marks (upLengthsAt + t) 0) t) (getD marks t 0) (getD marks (upOutsAt + t) 0)
+  pub falls : ListedEdge N test falling (entriesOf downs (getD marks (downLengthsAt + t) 0) t) (getD marks (64 + t) 0) (getD marks (downOutsAt + t) 0)
 
 -- for the first n records
 pub record MarksTrue (N : Netlist) (tests : ℕ → Test) (n : ℕ) (ups downs marks : List ℕ) : Type 0 where

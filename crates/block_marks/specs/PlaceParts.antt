@@ -9,6 +9,8 @@ use Rattle.netlist.specs.Tables.{CircuitTables, outputIn}
 use Rattle.netlist.specs.declared.inner.Shape.{Shape}
 use Rattle.block.specs.Table.{CircuitTable}
 use Rattle.block.specs.Words.{Filled}
+use Rattle.block.specs.Layout.{pinCountsAt}
+use Rattle.block_marks.specs.Layout.{placeTableSize, outputOffsetsAt, outputNetsAt}
 
 -- the paths before place p, where place q has f q
 abbrev pub pathsTo : (ℕ → ℕ) → ℕ → ℕ
@@ -17,7 +19,7 @@ pathsTo f (suc p) = pathsTo f p + f p
 
 -- the number of pins of the gate that drives a net, and the paths that pin p has
 abbrev pub pinsAt : List ℕ → ℕ → ℕ
-pinsAt table net = getD table (4608 + net) 0
+pinsAt table net = getD table (pinCountsAt + net) 0
 
 abbrev pub pinPaths : List ℕ → List ℕ → ℕ → ℕ → ℕ
 pinPaths counts table net p = getD counts (getD table (8 * net + p) 0) 0
@@ -39,7 +41,7 @@ pub record GatesFit (counts table : List ℕ) (low high : ℕ) : Type 0 where
   pub each : (net : ℕ) → low ≤ net → net < high → GateFits counts table net
 
 pub record GatesPlaced (counts table : List ℕ) (low high : ℕ) (places : List ℕ) : Type 0 where
-  pub room : length places ≡ 4224
+  pub room : length places ≡ placeTableSize
   pub each : (net p : ℕ) → low ≤ net → net < high → p < pinsAt table net → getD places (8 * net + p) 0 ≡ pathsTo (pinPaths counts table net) p
 
 -- the net of output o, and the paths that it has
@@ -59,9 +61,9 @@ pub record OutputsFit (part : List ℕ) (inputs outputs : ℕ) (counts : List �
 -- the places of the first outputs
 pub record OutputsPlaced (part : List ℕ) (inputs outputs : ℕ) (counts before after : List ℕ) : Type 0 where
   pub sameLength : length after ≡ length before
-  pub same : (i : ℕ) → i < 4096 → getD after i 0 ≡ getD before i 0
-  pub offsets : (o : ℕ) → o < outputs → getD after (4096 + o) 0 ≡ pathsTo (outputPaths part inputs counts) o
-  pub nets : (o : ℕ) → o < outputs → getD after (4160 + o) 0 ≡ netAt part o
+  pub same : (i : ℕ) → i < outputOffsetsAt → getD after i 0 ≡ getD before i 0
+  pub offsets : (o : ℕ) → o < outputs → getD after (outputOffsetsAt + o) 0 ≡ pathsTo (outputPaths part inputs counts) o
+  pub nets : (o : ℕ) → o < outputs → getD after (outputNetsAt + o) 0 ≡ netAt part o
 
 -- the tables of one netlist
 pub record PlacesOf (N : Netlist) (file counts : List ℕ) (shape : Shape) (table : List ℕ) : Type 0 where

@@ -1,4 +1,5 @@
 // The records of a block read, the places of a netlist's pins and outputs, and the marks of each record. Each caller proves what a function requires.
+pub mod layout;
 pub mod marks;
 pub mod places;
 pub mod reading;

@@ -17,8 +17,9 @@ use Rattle.runs.proofs.InsideSteps.{inside-member}
 use Rattle.run_union.proofs.AddRunLaws.{joined-one, joined-two}
 use Rattle.block_runs.specs.Spans.{firstOf, endOf}
 use Rattle.block_runs.specs.PinSpans.{bitRuns}
-use Rattle.block_runs.specs.LiveOutputs.{outNet, outShift, runsOfOutput, runsOfOutputs, OutputsReady}
+use Rattle.block_runs.specs.LiveOutputs.{outShift, runsOfOutput, runsOfOutputs, OutputsReady}
 use Rattle.block_runs.specs.Sections.{OutputsHeld}
+use Rattle.block_marks.specs.Layout.{outAt}
 
 -- each number of some runs has a property
 pub record AllIn (P : ℕ → Type 0) (s : List Run) : Type 0 where
@@ -93,7 +94,7 @@ outputs-numbers {places} {outs} {spans} {ws} {held} n so ready h =
     (all-bits (runsOfOutput places spans ws) outs 64
     (λ o l e.
     let r = ready .each o l e in
-    all-standing (outShift places spans o) ws (endOf spans (outNet places o) - firstOf spans (outNet places o)) (firstOf spans (outNet places o))
+    all-standing (outShift places spans o) ws (endOf spans (outAt places o) - firstOf spans (outAt places o)) (firstOf spans (outAt places o))
     (λ j p q x t. in-held (shiftRun (outShift places spans o) (runAt ws j)) x (h .each o l e .each j p (omega (arith, r .ordered))) t)))
   where
     whole : length held / 2 - 0 ≡ length held / 2

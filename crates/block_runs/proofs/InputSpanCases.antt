@@ -11,13 +11,14 @@ use Rattle.block_runs.specs.Spans.{firstOf, endOf, shiftOf, Ascending, I
 use Rattle.block_runs.specs.PinSpans.{withSpan, SameSpan}
 use Rattle.block_runs.proofs.SectionLaws.{ascending-same}
 use Rattle.block_runs.proofs.SpanCases.{span-length, span-others, span-past, span-first, span-end, span-shift}
+use Rattle.block_runs.specs.Layout.{spansSize, endsAt, shiftsAt, risingSections, fallingSections}
 
 pub record InputsSpanned (inputs : ℕ) (spans : List ℕ) (input : ℕ) : Type 0 where
   pub few : inputs ≤ 64
   pub within : input ≤ inputs
   pub spanned : InputSpans spans input
 
-pub spans-start : {inputs : ℕ} {spans : List ℕ} → inputs ≤ 64 → length spans ≡ 1668 → Ascending spans 1536 → Ascending spans 1602 → InputsSpanned inputs spans 0
+pub spans-start : {inputs : ℕ} {spans : List ℕ} → inputs ≤ 64 → length spans ≡ spansSize → Ascending spans risingSections → Ascending spans fallingSections → InputsSpanned inputs spans 0
 spans-start h room up down = record {
   few = h;
   within = omega arith;
@@ -29,13 +30,13 @@ module _ {inputs : ℕ} {spans : List ℕ} {input : ℕ} (x : InputsSpanned inpu
   spans-end h = let e : input ≡ inputs = omega (arith, x .within) in subst (λ n. InputSpans spans n) e (x .spanned)
 
   module _ (l : input < inputs) where
-    pub input-place : input < 1668
+    pub input-place : input < spansSize
     input-place = omega (arith, x .few)
 
-    pub input-end-place : 512 + input < 1668
+    pub input-end-place : endsAt + input < spansSize
     input-end-place = omega (arith, x .few)
 
-    pub input-shift-place : 1024 + input < 1668
+    pub input-shift-place : shiftsAt + input < spansSize
     input-shift-place = omega (arith, x .few)
 
     abbrev now : List ℕ

@@ -24,20 +24,22 @@ use Rattle.place_runs.proofs.AddedLaws.{as-adds}
 use Rattle.block.proofs.LowBitLaws.{low-in, low-there, less-left}
 use Rattle.block_runs.specs.Spans.{firstOf, endOf, standing}
 use Rattle.block_runs.specs.PinSpans.{bitRuns}
-use Rattle.block_runs.specs.LiveOutputs.{outNet, outShift, runsOfOutput, runsOfOutputs, OutputReady, OutputsReady}
+use Rattle.block_runs.specs.LiveOutputs.{outShift, runsOfOutput, runsOfOutputs, OutputReady, OutputsReady}
 use Rattle.block_runs.proofs.BitRunLaws.{and-within, no-bits, bits-low}
+use Rattle.block_marks.specs.Layout.{placeTableSize, outputOffsetsAt, outputNetsAt, outAt}
+use Rattle.block_runs.specs.Layout.{spansSize, endsAt, shiftsAt}
 
 -- places of the two arrays
-pub place-fits : (x : ℕ) → x < 4224 → Fits w64 x
+pub place-fits : (x : ℕ) → x < placeTableSize → Fits w64 x
 place-fits x h = record { fits = omega arith }
 
-pub place-bytes : (x : ℕ) → x < 4224 → Fits w64 (x * 8)
+pub place-bytes : (x : ℕ) → x < placeTableSize → Fits w64 (x * 8)
 place-bytes x h = record { fits = omega arith }
 
-pub span-fits : (x : ℕ) → x < 1668 → Fits w64 x
+pub span-fits : (x : ℕ) → x < spansSize → Fits w64 x
 span-fits x h = record { fits = omega arith }
 
-pub span-bytes : (x : ℕ) → x < 1668 → Fits w64 (x * 8)
+pub span-bytes : (x : ℕ) → x < spansSize → Fits w64 (x * 8)
 span-bytes x h = record { fits = omega arith }
 
 -- The loop: the runs of the outputs that are not left stand in the second quarter, joined
@@ -77,7 +79,7 @@ module _ {places : List ℕ} {outs : ℕ} {spans ws₀ : List ℕ} where
       output = trailingZeros 64 left
 
       abbrev net : ℕ
-      net = outNet places (trailingZeros 64 left)
+      net = outAt places (trailingZeros 64 left)
 
       pub output-in : trailingZeros 64 left < 64
       output-in = low-in (i .small) ne
@@ -89,28 +91,28 @@ module _ {places : List ℕ} {outs : ℕ} {spans ws₀ : List ℕ} where
       output-ready = i .ready .each output output-in (i .within output (low-there (i .small) ne))
 
       -- the places that are read
-      pub net-place : 4160 + trailingZeros 64 left < 4224
+      pub net-place : outputNetsAt + trailingZeros 64 left < placeTableSize
       net-place = omega (arith, output-in)
 
-      pub offset-place : 4096 + trailingZeros 64 left < 4224
+      pub offset-place : outputOffsetsAt + trailingZeros 64 left < placeTableSize
       offset-place = omega (arith, output-in)
 
-      pub first-place : outNet places (trailingZeros 64 left) < 1668
+      pub first-place : outAt places (trailingZeros 64 left) < spansSize
       first-place = omega (arith, output-ready .isNet)
 
-      pub end-place : 512 + outNet places (trailingZeros 64 left) < 1668
+      pub end-place : endsAt + outAt places (trailingZeros 64 left) < spansSize
       end-place = omega (arith, output-ready .isNet)
 
-      pub shift-place : 1024 + outNet places (trailingZeros 64 left) < 1668
+      pub shift-place : shiftsAt + outAt places (trailingZeros 64 left) < spansSize
       shift-place = omega (arith, output-ready .isNet)
 
       pub sum-fits : Fits w64 (outShift places spans (trailingZeros 64 left))
       sum-fits = record { fits = omega (arith, output-ready .small) }
 
-      pub output-ordered : firstOf spans (outNet places (trailingZeros 64 left)) ≤ endOf spans (outNet places (trailingZeros 64 left))
+      pub output-ordered : firstOf spans (outAt places (trailingZeros 64 left)) ≤ endOf spans (outAt places (trailingZeros 64 left))
       output-ordered = output-ready .ordered
 
-      pub output-before : endOf spans (outNet places (trailingZeros 64 left)) ≤ maxRuns
+      pub output-before : endOf spans (outAt places (trailingZeros 64 left)) ≤ maxRuns
       output-before = output-ready .before
 
       pub output-small : outShift places spans (trailingZeros 64 left) ≤ 2 ^ 62
@@ -122,14 +124,14 @@ module _ {places : List ℕ} {outs : ℕ} {spans ws₀ : List ℕ} where
           adding-runs ws₀ ws maxRuns maxRuns count (bitRuns (runsOfOutput places spans ws₀) left 64) (runsOfOutputs places outs spans ws₀) (firstOf spans net)
           (endOf spans net - firstOf spans net) (i .adding) (omega (arith, r .ordered, r .before))
 
-      pub output-sound : Sound (2 ^ 62) (standing spans ws (outNet places (trailingZeros 64 left)))
+      pub output-sound : Sound (2 ^ 62) (standing spans ws (outAt places (trailingZeros 64 left)))
       output-sound = subst⁻¹ (λ (s : List Run). Sound (2 ^ 62) s) stays (output-ready .sound)
 
       pub output-less : bitAnd left (left - 1) < left
       output-less = less-left (i .small) ne
 
       module _ {ws′ : List ℕ} {q : Added}
-          (d : Adds ws ws′ maxRuns maxRuns (withShifted ws (firstOf spans (outNet places (trailingZeros 64 left))) (endOf spans (outNet places (trailingZeros 64 left)))
+          (d : Adds ws ws′ maxRuns maxRuns (withShifted ws (firstOf spans (outAt places (trailingZeros 64 left))) (endOf spans (outAt places (trailingZeros 64 left)))
           maxRuns count (outShift places spans (trailingZeros 64 left))) q) where
         abbrev part : List Run
         part = runsOfOutput places spans ws₀ output

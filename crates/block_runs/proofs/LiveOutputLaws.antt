@@ -28,9 +28,10 @@ use Rattle.block.specs.Block.{liveNet}
 use Rattle.block_marks.specs.Marks.{PlaceTable, ListedEdge}
 use Rattle.block_runs.specs.Spans.{firstOf, endOf, shiftOf, standing, SpanIs}
 use Rattle.block_runs.specs.PinSpans.{bitRuns}
-use Rattle.block_runs.specs.LiveOutputs.{outNet, runsOfOutput, runsOfOutputs, OutputReady, EndsBefore, OutputsReady}
+use Rattle.block_runs.specs.LiveOutputs.{runsOfOutput, runsOfOutputs, OutputReady, EndsBefore, OutputsReady}
 use Rattle.block_runs.proofs.BitRunLaws.{shift-shift}
 use Rattle.block_runs.proofs.LiveRunLaws.{shift-most, dead-set, live-set, set-counted}
+use Rattle.block_marks.specs.Layout.{outAt}
 
 -- a part that the second test takes away is empty
 same-part : (a b : Bool) (xs ys : List Run) → (a ≡ true → b ≡ true → xs ≡ ys) → (b ≡ false → ys ≡ []) → onlyIf (a && b) xs ≡ onlyIf a ys
@@ -38,9 +39,9 @@ same-part true true xs ys f g = f refl refl
 same-part true false xs ys f g = sym (g refl)
 same-part false b xs ys f g = refl
 
-and-both : (a b : Bool) → (a && b) ≡ true → (a ≡ true) × (b ≡ true)
-and-both true b e = (refl, e)
-and-both false b e = absurd (mathlib.Core.Bool.false≢true e)
+and-parts : (a b : Bool) → (a && b) ≡ true → (a ≡ true) × (b ≡ true)
+and-parts true b e = (refl, e)
+and-parts false b e = absurd (mathlib.Core.Bool.false≢true e)
 
 -- no run of some that are shifted ends over the highest number
 shifted-most : (k n b : ℕ) (ws : List ℕ) (m i : ℕ) → Separated n b (shiftRuns k (runsInWords ws i m)) → (j : ℕ) → i ≤ j → j < i + m → getD ws (2 * j + 1) 0 + k ≤ n
@@ -128,8 +129,8 @@ module _ (K : Case) where
     is-live : (o : ℕ) → o < 64 → bit outs o ≡ true → (o < length (N .outputs)) × (N .inputs ≤ outputNet N o) × (live (outputNet N o) ≡ true)
     is-live o l t =
         let net = outputNet N o in
-        let first = and-both (ltb o (length (N .outputs))) (leb (N .inputs) net && live net) (sym (listed .outsAre o l) ∙ t) in
-        let second = and-both (leb (N .inputs) net) (live net) (first .1) in
+        let first = and-parts (ltb o (length (N .outputs))) (leb (N .inputs) net && live net) (sym (listed .outsAre o l) ∙ t) in
+        let second = and-parts (leb (N .inputs) net) (live net) (first .1) in
         (ltb-true o (length (N .outputs)) (first .0), leb-true (N .inputs) net (second .0), second .1)
 
     output-at : (o : ℕ) → o < 64 → bit outs o ≡ true → OutputReady places spans ws o
@@ -137,7 +138,7 @@ module _ (K : Case) where
         let net = outputNet N o in
         let there = is-live o l t in
         let h = there .0 in
-        let e : outNet places o ≡ net = placed .outNet o h in
+        let e : outAt places o ≡ net = placed .outNet o h in
         let at = subst⁻¹ (λ n. SpanIs K spans ws maxRuns n) e (spanned net (output-net N w o h) (there .2)) in
         let below = shift-counted (ap live e ∙ there .2) at in
         let sum = countsBefore-le (outputCounts N) o (omega (arith, many)) in
@@ -161,13 +162,13 @@ module _ (K : Case) where
         let h = is-live o (omega arith) t in
         let k = is-live q few u in
         let net = outputNet N o in
-        let e : outNet places o ≡ net = placed .outNet o (h .0) in
+        let e : outAt places o ≡ net = placed .outNet o (h .0) in
         let at = subst⁻¹ (λ n. SpanIs K spans ws maxRuns n) e (spanned net (output-net N w o (h .0)) (h .2)) in
-        let counted = subst⁻¹ (λ (s : List Run). Separated (getD (counts N) (outNet places o) 0) 1 s) (at .runs) (set-counted K (outNet places o)) in
+        let counted = subst⁻¹ (λ (s : List Run). Separated (getD (counts N) (outAt places o) 0) 1 s) (at .runs) (set-counted K (outAt places o)) in
         record {
           each = λ i a b.
-              let most = shifted-most (shiftOf spans (outNet places o)) (getD (counts N) (outNet places o) 0) 1 ws
-              (endOf spans (outNet places o) - firstOf spans (outNet places o)) (firstOf spans (outNet places o)) counted i a (omega (arith, at .ordered)) in
+              let most = shifted-most (shiftOf spans (outAt places o)) (getD (counts N) (outAt places o) 0) 1 ws
+              (endOf spans (outAt places o) - firstOf spans (outAt places o)) (firstOf spans (outAt places o)) counted i a (omega (arith, at .ordered)) in
               let gate = outputCounts-at N w o (h .0) (h .1) in
               let more = countsBefore-suc (outputCounts N) o (omega (arith, h .0, many)) in
               let mono = before-mono (suc o) p (omega arith) (omega (arith, k .0, many)) in

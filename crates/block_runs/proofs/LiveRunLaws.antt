@@ -35,6 +35,7 @@ use Rattle.block_runs.specs.Spans.{shiftOf, standing, SpanIs}
 use Rattle.block_runs.specs.PinSpans.{sourceAt, shiftAt, pinRuns, bitRuns, byteRuns, entryRuns, PinReady, ByteReady, EntryReady}
 use Rattle.block_runs.proofs.BitRunLaws.{bits-past, shift-shift}
 use Rattle.block_runs.proofs.EntryLaws.{pack-bit, pack-past, pack-some, pack-byte}
+use Rattle.block_runs.specs.Layout.{spansSize}
 
 -- no number of some shifted runs is below the shift
 pub shift-most : (o n b : ℕ) (s : List Run) → Separated n b (shiftRuns o s) → (s ≡ [] → ⊥) → o ≤ n
@@ -206,7 +207,7 @@ module _ {K : Case} {table places : List ℕ} {inputs : ℕ} {spans ws : List �
     pub entry-runs : entryRuns table places entry spans ws ≡ setRuns K net
     entry-runs = ap₂ (λ n b. byteRuns table places (8 * n) b spans ws) entry-net entry-byte ∙ set-bytes
 
-    pub entry-ready : length spans ≡ 1668 → made ≤ maxRuns → 2 * maxRuns ≤ length ws → EntryReady table places entry spans ws made
+    pub entry-ready : length spans ≡ spansSize → made ≤ maxRuns → 2 * maxRuns ≤ length ws → EntryReady table places entry spans ws made
     entry-ready spanRoom used room = record {
       isNet = omega (arith, entry-net, g .high, lim .fewNets);
       spanRoom = spanRoom;

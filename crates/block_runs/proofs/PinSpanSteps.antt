@@ -24,6 +24,7 @@ use Rattle.block.proofs.LowBitLaws.{low-there, less-left}
 use Rattle.block_runs.specs.Spans.{firstOf, endOf, standing}
 use Rattle.block_runs.specs.PinSpans.{sourceAt, shiftAt, pinRuns, bitRuns, byteRuns, PinReady, ByteReady}
 use Rattle.block_runs.proofs.BitRunLaws.{set-within, and-within, no-bits, bits-low}
+use Rattle.block.specs.Layout.{kindsAt}
 
 -- the runs of a net that stands before the list are as they were
 pub standing-kept : (spans ws ws′ : List ℕ) (made net : ℕ) → ((f k : ℕ) → f + k ≤ made → runsInWords ws′ f k ≡ runsInWords ws f k)
@@ -79,7 +80,7 @@ module _ {table places : List ℕ} {first byte : ℕ} {spans ws₀ : List ℕ} {
       pub pin-in : trailingZeros 64 left < 8
       pin-in = set-within 8 left (trailingZeros 64 left) (x .small) there
 
-      pub pin-place : first + trailingZeros 64 left < 4096
+      pub pin-place : first + trailingZeros 64 left < kindsAt
       pin-place = omega (arith, pin-in, x .ready .inside)
 
       pub pin-fits : Fits w64 (trailingZeros 64 left)

@@ -27,6 +27,7 @@ use Rattle.block_runs.specs.LiveOutputs.{OutputReady, OutputsReady}
 use Rattle.block_runs.specs.Sections.{SectionIn, SpanHeld, OutputHeld, OutputsHeld, Asked}
 use Rattle.block_runs.proofs.BitRunLaws.{and-within}
 use Rattle.block_runs.proofs.WholeOutputLaws.{no-answer, whole-held}
+use Rattle.block_runs.specs.Layout.{fallingSections}
 
 -- ---- one run, at the place that was found
 
@@ -96,7 +97,7 @@ pub held-not : {places : List ℕ} {outs : ℕ} {spans ws held : List ℕ} → f
 held-not = no-answer
 
 pub record HeldSoFar (places : List ℕ) (outs : ℕ) (spans : List ℕ) (base : ℕ) (ws held : List ℕ) (left : ℕ) : Type 0 where
-  pub few : base ≤ 1602
+  pub few : base ≤ fallingSections
   pub ready : OutputsReady places outs spans ws
   pub ascending : Ascending spans base
   pub last : getD spans (base + 64) 0 ≤ length held / 2
@@ -105,7 +106,7 @@ pub record HeldSoFar (places : List ℕ) (outs : ℕ) (spans : List ℕ) (base :
   pub done : (o : ℕ) → o < 64 → bit outs o ≡ true → bit left o ≡ false → OutputHeld places spans ws held o
 
 module _ {places : List ℕ} {outs : ℕ} {spans : List ℕ} {base : ℕ} {ws held : List ℕ} where
-  pub held-begin : base ≤ 1602 → OutputsReady places outs spans ws → Ascending spans base → getD spans (base + 64) 0 ≤ length held / 2
+  pub held-begin : base ≤ fallingSections → OutputsReady places outs spans ws → Ascending spans base → getD spans (base + 64) 0 ≤ length held / 2
       → {left : ℕ} → Asked places outs held left → HeldSoFar places outs spans base ws held left
   held-begin b r a l q = record {
     few = b;
@@ -128,7 +129,7 @@ module _ {places : List ℕ} {outs : ℕ} {spans : List ℕ} {base : ℕ} {ws he
       pub held-fits : Fits w64 (trailingZeros 64 left)
       held-fits = record { fits = omega (arith, held-in) }
 
-      pub held-few : base ≤ 1602
+      pub held-few : base ≤ fallingSections
       held-few = x .few
 
       pub held-room : 4 * maxRuns ≤ length ws

@@ -12,6 +12,7 @@ use Rattle.model.proofs.BoolLaws.{equal-or-not}
 use mir.Val.{Fits}
 use mir.Syntax.{w64}
 use Rattle.block_runs.specs.Spans.{Ascending, InputSpans}
+use Rattle.block_runs.specs.Layout.{spansSize, sectionsSize, endsAt, shiftsAt, risingSections, fallingSections}
 
 pub ascending-same : {base : ℕ} {spans spans′ : List ℕ} → ((k : ℕ) → base ≤ k → k ≤ base + 64 → getD spans′ k 0 ≡ getD spans k 0)
     → Ascending spans base → Ascending spans′ base
@@ -27,47 +28,47 @@ ascending-same {base} same a =
 -- ---- sections that are all 0
 
 pub record Cleared (spans : List ℕ) (o : ℕ) : Type 0 where
-  pub room : length spans ≡ 1668
+  pub room : length spans ≡ spansSize
   pub within : o ≤ 132
-  pub zeros : (k : ℕ) → k < o → getD spans (1536 + k) 0 ≡ 0
+  pub zeros : (k : ℕ) → k < o → getD spans (risingSections + k) 0 ≡ 0
 
-pub cleared-none : {spans : List ℕ} → length spans ≡ 1668 → Cleared spans 0
+pub cleared-none : {spans : List ℕ} → length spans ≡ spansSize → Cleared spans 0
 cleared-none l = record { room = l; within = omega arith; zeros = λ k h. absurd (omega arith) }
 
 module _ {spans : List ℕ} {o : ℕ} (x : Cleared spans o) where
-  pub cleared-more : o < 132 → Cleared (set spans (1536 + o) 0) (o + 1)
+  pub cleared-more : o < sectionsSize → Cleared (set spans (risingSections + o) 0) (o + 1)
   cleared-more h = record {
-    room = length-set spans (1536 + o) 0 ∙ x .room;
+    room = length-set spans (risingSections + o) 0 ∙ x .room;
     within = omega arith;
     zeros = λ k p.
         ⊎-elim
-        (λ (e : k ≡ o). ap (λ j. getD (set spans (1536 + o) 0) (1536 + j) 0) e ∙ getD-set-same spans (1536 + o) 0 0 (omega (arith, x .room)))
-        (λ (d : k ≡ o → ⊥). getD-set-other spans (1536 + o) (1536 + k) 0 0 (λ e. d (minus o k e)) ∙ x .zeros k (omega (arith, d)))
+        (λ (e : k ≡ o). ap (λ j. getD (set spans (risingSections + o) 0) (risingSections + j) 0) e ∙ getD-set-same spans (risingSections + o) 0 0 (omega (arith, x .room)))
+        (λ (d : k ≡ o → ⊥). getD-set-other spans (risingSections + o) (risingSections + k) 0 0 (λ e. d (minus o k e)) ∙ x .zeros k (omega (arith, d)))
         (equal-or-not k o);
   }
     where
-      minus : (a b : ℕ) → 1536 + b ≡ 1536 + a → b ≡ a
+      minus : (a b : ℕ) → risingSections + b ≡ risingSections + a → b ≡ a
       minus a b e = omega arith
 
   module _ (h : 132 ≤ o) where
-    zero-at : (k : ℕ) → 1536 ≤ k → k < 1668 → getD spans k 0 ≡ 0
+    zero-at : (k : ℕ) → risingSections ≤ k → k < spansSize → getD spans k 0 ≡ 0
     zero-at k l m =
-        let e : 1536 + (k - 1536) ≡ k = omega arith in
-        ap (λ j. getD spans j 0) (sym e) ∙ x .zeros (k - 1536) (omega arith)
+        let e : risingSections + (k - risingSections) ≡ k = omega arith in
+        ap (λ j. getD spans j 0) (sym e) ∙ x .zeros (k - risingSections) (omega arith)
 
-    cleared-all : (base : ℕ) → 1536 ≤ base → base ≤ 1602 → Ascending spans base
+    cleared-all : (base : ℕ) → risingSections ≤ base → base ≤ fallingSections → Ascending spans base
     cleared-all base l m = record {
       next = λ k p. (let here = zero-at (base + k) (omega arith) (omega arith) in omega (arith, here));
       most = λ k p. (let here = zero-at (base + k) (omega arith) (omega arith) in omega (arith, here));
     }
 
-    pub cleared-rising : Ascending spans 1536
-    cleared-rising = cleared-all 1536 (omega arith) (omega arith)
+    pub cleared-rising : Ascending spans risingSections
+    cleared-rising = cleared-all risingSections (omega arith) (omega arith)
 
-    pub cleared-falling : Ascending spans 1602
-    cleared-falling = cleared-all 1602 (omega arith) (omega arith)
+    pub cleared-falling : Ascending spans fallingSections
+    cleared-falling = cleared-all fallingSections (omega arith) (omega arith)
 
-  pub cleared-room : length spans ≡ 1668
+  pub cleared-room : length spans ≡ spansSize
   cleared-room = x .room
 
 pub ruleset clear-cases = (cleared-none, cleared-more, cleared-rising, cleared-falling, cleared-room, needs)
@@ -76,14 +77,14 @@ pub ruleset clear-cases = (cleared-none, cleared-more, cleared-rising, cleared-f
 
 -- those before `output` are found, the last of them begins at run `at` at the latest; nothing else of the spans has changed
 pub record Found (spans₀ : List ℕ) (base : ℕ) (spans : List ℕ) (at output : ℕ) : Type 0 where
-  pub base-is : (base ≡ 1536) ⊎ (base ≡ 1602)
-  pub room : length spans ≡ 1668
+  pub base-is : (base ≡ risingSections) ⊎ (base ≡ fallingSections)
+  pub room : length spans ≡ spansSize
   pub last : (k : ℕ) → k < output → getD spans (base + k) 0 ≤ at
   pub next : (k : ℕ) → k + 1 < output → getD spans (base + k) 0 ≤ getD spans (base + k + 1) 0
   pub below : (k : ℕ) → k < base → getD spans k 0 ≡ getD spans₀ k 0
   pub above : (k : ℕ) → base + 64 < k → getD spans k 0 ≡ getD spans₀ k 0
 
-base-most : {base : ℕ} → (base ≡ 1536) ⊎ (base ≡ 1602) → base ≤ 1602
+base-most : {base : ℕ} → (base ≡ risingSections) ⊎ (base ≡ fallingSections) → base ≤ fallingSections
 base-most b = ⊎-elim (λ e. omega arith) (λ e. omega arith) b
 
 found-more : {spans₀ : List ℕ} {base : ℕ} {spans : List ℕ} {at output : ℕ} → Found spans₀ base spans at output → {new : ℕ} → at ≤ new → output ≤ 64
@@ -125,34 +126,34 @@ pub record Finding (spans₀ : List ℕ) (base count : ℕ) (spans : List ℕ) (
   pub found : Found spans₀ base spans at output
 
 -- the word after the sections of an edge, written first
-pub first-written : (spans : List ℕ) (base new : ℕ) → (base ≡ 1536) ⊎ (base ≡ 1602) → (inputs : ℕ) → inputs ≤ 64 → InputSpans spans inputs
+pub first-written : (spans : List ℕ) (base new : ℕ) → (base ≡ risingSections) ⊎ (base ≡ fallingSections) → (inputs : ℕ) → inputs ≤ 64 → InputSpans spans inputs
     → InputSpans (set spans (base + 65) new) inputs
 first-written spans base new b inputs few i = record {
   room = length-set spans (base + 65) new ∙ i .room;
   rising = ascending-same (λ k p q. there k (apart k p q)) (i .rising);
   falling = ascending-same (λ k p q. there k (beyond k p q)) (i .falling);
   firsts = λ j h. there j (low j (omega arith)) ∙ i .firsts j h;
-  ends = λ j h. there (512 + j) (low (512 + j) (omega arith)) ∙ i .ends j h;
-  shifts = λ j h. there (1024 + j) (low (1024 + j) (omega arith)) ∙ i .shifts j h;
+  ends = λ j h. there (endsAt + j) (low (endsAt + j) (omega arith)) ∙ i .ends j h;
+  shifts = λ j h. there (shiftsAt + j) (low (shiftsAt + j) (omega arith)) ∙ i .shifts j h;
 }
   where
     there : (k : ℕ) → (k ≡ base + 65 → ⊥) → getD (set spans (base + 65) new) k 0 ≡ getD spans k 0
     there k d = getD-set-other spans (base + 65) k new 0 d
 
-    low : (k : ℕ) → k < 1536 → k ≡ base + 65 → ⊥
-    low k l e = ⊎-elim (λ (z : base ≡ 1536). omega arith) (λ (z : base ≡ 1602). omega arith) b
+    low : (k : ℕ) → k < risingSections → k ≡ base + 65 → ⊥
+    low k l e = ⊎-elim (λ (z : base ≡ risingSections). omega arith) (λ (z : base ≡ fallingSections). omega arith) b
 
-    apart : (k : ℕ) → 1536 ≤ k → k ≤ 1536 + 64 → k ≡ base + 65 → ⊥
-    apart k l m e = ⊎-elim (λ (z : base ≡ 1536). omega arith) (λ (z : base ≡ 1602). omega arith) b
+    apart : (k : ℕ) → risingSections ≤ k → k ≤ risingSections + 64 → k ≡ base + 65 → ⊥
+    apart k l m e = ⊎-elim (λ (z : base ≡ risingSections). omega arith) (λ (z : base ≡ fallingSections). omega arith) b
 
-    beyond : (k : ℕ) → 1602 ≤ k → k ≤ 1602 + 64 → k ≡ base + 65 → ⊥
-    beyond k l m e = ⊎-elim (λ (z : base ≡ 1536). omega arith) (λ (z : base ≡ 1602). omega arith) b
+    beyond : (k : ℕ) → fallingSections ≤ k → k ≤ fallingSections + 64 → k ≡ base + 65 → ⊥
+    beyond k l m e = ⊎-elim (λ (z : base ≡ risingSections). omega arith) (λ (z : base ≡ fallingSections). omega arith) b
 
-pub first-room : (spans : List ℕ) (base new : ℕ) → length spans ≡ 1668 → length (set spans (base + 65) new) ≡ 1668
+pub first-room : (spans : List ℕ) (base new : ℕ) → length spans ≡ spansSize → length (set spans (base + 65) new) ≡ spansSize
 first-room spans base new l = length-set spans (base + 65) new ∙ l
 
-module _ {base : ℕ} (b : (base ≡ 1536) ⊎ (base ≡ 1602)) where
-  pub first-place : base + 65 < 1668
+module _ {base : ℕ} (b : (base ≡ risingSections) ⊎ (base ≡ fallingSections)) where
+  pub first-place : base + 65 < spansSize
   first-place = omega (arith, base-most b)
 
   pub first-fits : Fits w64 (base + 65)
@@ -162,7 +163,7 @@ module _ {base : ℕ} (b : (base ≡ 1536) ⊎ (base ≡ 1602)) where
   first-bytes = record { fits = omega (arith, base-most b) }
 
 module _ {spans₀ : List ℕ} {base count : ℕ} where
-  pub finding-none : length spans₀ ≡ 1668 → (base ≡ 1536) ⊎ (base ≡ 1602) → Finding spans₀ base count spans₀ 0 0
+  pub finding-none : length spans₀ ≡ spansSize → (base ≡ risingSections) ⊎ (base ≡ fallingSections) → Finding spans₀ base count spans₀ 0 0
   finding-none l b = record {
     within = omega arith;
     most = omega arith;
@@ -180,10 +181,10 @@ module _ {spans₀ : List ℕ} {base count : ℕ} where
     pub finding-most : at ≤ count
     finding-most = x .most
 
-    pub finding-base : base ≤ 1602
+    pub finding-base : base ≤ fallingSections
     finding-base = base-most (x .found .base-is)
 
-    pub finding-place : (k : ℕ) → k ≤ 64 → base + k < 1668
+    pub finding-place : (k : ℕ) → k ≤ 64 → base + k < spansSize
     finding-place k h = omega (arith, finding-base)
 
     pub finding-fits : (k : ℕ) → k ≤ 64 → Fits w64 (base + k)
@@ -202,8 +203,8 @@ module _ {spans₀ : List ℕ} {base count : ℕ} where
           let y : Found spans₀ base (set spans (base + output) count) count (output + 1) = found-more (x .found) (x .most) (x .within) in
           subst (λ n. Found spans₀ base (set spans (base + n) count) count (n + 1)) e y
 
-      same-below : (k : ℕ) → k < 1536 → getD (set spans (base + 64) count) k 0 ≡ getD spans₀ k 0
-      same-below k p = done .below k (⊎-elim (λ (e : base ≡ 1536). omega arith) (λ (e : base ≡ 1602). omega arith) (done .base-is))
+      same-below : (k : ℕ) → k < risingSections → getD (set spans (base + 64) count) k 0 ≡ getD spans₀ k 0
+      same-below k p = done .below k (⊎-elim (λ (e : base ≡ risingSections). omega arith) (λ (e : base ≡ fallingSections). omega arith) (done .base-is))
 
       these : Ascending (set spans (base + 64) count) base
       these = record {
@@ -212,23 +213,23 @@ module _ {spans₀ : List ℕ} {base count : ℕ} where
             omega (arith, last, done .last o (omega arith)));
       }
 
-      pub finding-room : length (set spans (base + 64) count) ≡ 1668
+      pub finding-room : length (set spans (base + 64) count) ≡ spansSize
       finding-room = done .room
 
       pub finding-done : (inputs : ℕ) → inputs ≤ 64 → InputSpans spans₀ inputs → InputSpans (set spans (base + 64) count) inputs
       finding-done inputs few i = record {
         room = done .room;
         rising = ⊎-elim
-            (λ (e : base ≡ 1536). subst (λ b. Ascending (set spans (base + 64) count) b) e these)
-            (λ (e : base ≡ 1602). ascending-same (λ k p q. done .below k (omega arith)) (i .rising))
+            (λ (e : base ≡ risingSections). subst (λ b. Ascending (set spans (base + 64) count) b) e these)
+            (λ (e : base ≡ fallingSections). ascending-same (λ k p q. done .below k (omega arith)) (i .rising))
             (done .base-is);
         falling = ⊎-elim
-            (λ (e : base ≡ 1536). ascending-same (λ k p q. done .above k (omega arith)) (i .falling))
-            (λ (e : base ≡ 1602). subst (λ b. Ascending (set spans (base + 64) count) b) e these)
+            (λ (e : base ≡ risingSections). ascending-same (λ k p q. done .above k (omega arith)) (i .falling))
+            (λ (e : base ≡ fallingSections). subst (λ b. Ascending (set spans (base + 64) count) b) e these)
             (done .base-is);
         firsts = λ j h. same-below j (omega arith) ∙ i .firsts j h;
-        ends = λ j h. same-below (512 + j) (omega arith) ∙ i .ends j h;
-        shifts = λ j h. same-below (1024 + j) (omega arith) ∙ i .shifts j h;
+        ends = λ j h. same-below (endsAt + j) (omega arith) ∙ i .ends j h;
+        shifts = λ j h. same-below (shiftsAt + j) (omega arith) ∙ i .shifts j h;
       }
 
 pub finding-all : (spans₁ : List ℕ) (new : ℕ) {base count : ℕ} {spans : List ℕ} {at output : ℕ} → Finding (set spans₁ (base + 65) new) base count spans at output → 64 ≤ output

@@ -30,13 +30,15 @@ use Rattle.block_runs.specs.PinSpans.{sourceAt, shiftAt, pinRuns, bitRun
 use Rattle.block_runs.specs.declared.nets.Grown.{Grown}
 use Rattle.block_runs.specs.declared.nets.Grown.the-variants.{Made, Over}
 use Rattle.block_runs.proofs.BitRunLaws.{set-within, no-bits, bits-low, adds-alone, shift-none}
+use Rattle.block.specs.Layout.{kindsAt}
+use Rattle.block_runs.specs.Layout.{spansSize, endsAt, shiftsAt, risingSections}
 
 -- ---- a span written
 
 module _ (spans : List ℕ) (net first end shift : ℕ) where
   pub span-length : length (withSpan spans net first end shift) ≡ length spans
   span-length =
-      length-set (set (set spans net first) (512 + net) end) (1024 + net) shift ∙ length-set (set spans net first) (512 + net) end ∙ length-set spans net first
+      length-set (set (set spans net first) (endsAt + net) end) (shiftsAt + net) shift ∙ length-set (set spans net first) (endsAt + net) end ∙ length-set spans net first
 
   apart : (i j : ℕ) → i < j → i ≡ j → ⊥
   apart i j h e = omega arith
@@ -47,43 +49,43 @@ module _ (spans : List ℕ) (net first end shift : ℕ) where
   -- a place that is none of the net's three
   elsewhere : (i : ℕ) → (i ≡ net → ⊥) → (i ≡ 512 + net → ⊥) → (i ≡ 1024 + net → ⊥) → getD (withSpan spans net first end shift) i 0 ≡ getD spans i 0
   elsewhere i a b d =
-      getD-set-other (set (set spans net first) (512 + net) end) (1024 + net) i shift 0 d
-      ∙ getD-set-other (set spans net first) (512 + net) i end 0 b ∙ getD-set-other spans net i first 0 a
+      getD-set-other (set (set spans net first) (endsAt + net) end) (shiftsAt + net) i shift 0 d
+      ∙ getD-set-other (set spans net first) (endsAt + net) i end 0 b ∙ getD-set-other spans net i first 0 a
 
   module _ (few : net < 512) where
     pub span-others : (q : ℕ) → q < 512 → (q ≡ net → ⊥) → SameSpan spans (withSpan spans net first end shift) q
     span-others q h d = record {
-      firsts = elsewhere q d (λ e. apart q (512 + net) (omega arith) e) (λ e. apart q (1024 + net) (omega arith) e);
-      ends = elsewhere (512 + q) (λ e. far (512 + q) net (omega arith) e) (λ e. d (minus 512 q net e)) (λ e. apart (512 + q) (1024 + net) (omega arith) e);
-      shifts = elsewhere (1024 + q) (λ e. far (1024 + q) net (omega arith) e) (λ e. far (1024 + q) (512 + net) (omega arith) e) (λ e. d (minus 1024 q net e));
+      firsts = elsewhere q d (λ e. apart q (endsAt + net) (omega arith) e) (λ e. apart q (shiftsAt + net) (omega arith) e);
+      ends = elsewhere (endsAt + q) (λ e. far (endsAt + q) net (omega arith) e) (λ e. d (minus endsAt q net e)) (λ e. apart (endsAt + q) (shiftsAt + net) (omega arith) e);
+      shifts = elsewhere (shiftsAt + q) (λ e. far (shiftsAt + q) net (omega arith) e) (λ e. far (shiftsAt + q) (endsAt + net) (omega arith) e) (λ e. d (minus shiftsAt q net e));
     }
       where
         minus : (k a b : ℕ) → k + a ≡ k + b → a ≡ b
         minus k a b e = omega arith
 
-    pub span-past : (k : ℕ) → 1536 ≤ k → getD (withSpan spans net first end shift) k 0 ≡ getD spans k 0
-    span-past k h = elsewhere k (λ e. far k net (omega arith) e) (λ e. far k (512 + net) (omega arith) e) (λ e. far k (1024 + net) (omega arith) e)
+    pub span-past : (k : ℕ) → risingSections ≤ k → getD (withSpan spans net first end shift) k 0 ≡ getD spans k 0
+    span-past k h = elsewhere k (λ e. far k net (omega arith) e) (λ e. far k (endsAt + net) (omega arith) e) (λ e. far k (shiftsAt + net) (omega arith) e)
 
-    module _ (room : length spans ≡ 1668) where
-      long : length (set spans net first) ≡ 1668
+    module _ (room : length spans ≡ spansSize) where
+      long : length (set spans net first) ≡ spansSize
       long = length-set spans net first ∙ room
 
-      longer : length (set (set spans net first) (512 + net) end) ≡ 1668
-      longer = length-set (set spans net first) (512 + net) end ∙ long
+      longer : length (set (set spans net first) (endsAt + net) end) ≡ spansSize
+      longer = length-set (set spans net first) (endsAt + net) end ∙ long
 
       pub span-first : firstOf (withSpan spans net first end shift) net ≡ first
       span-first =
-          getD-set-other (set (set spans net first) (512 + net) end) (1024 + net) net shift 0 (λ e. apart net (1024 + net) (omega arith) e)
-          ∙ getD-set-other (set spans net first) (512 + net) net end 0 (λ e. apart net (512 + net) (omega arith) e)
+          getD-set-other (set (set spans net first) (endsAt + net) end) (shiftsAt + net) net shift 0 (λ e. apart net (shiftsAt + net) (omega arith) e)
+          ∙ getD-set-other (set spans net first) (endsAt + net) net end 0 (λ e. apart net (endsAt + net) (omega arith) e)
           ∙ getD-set-same spans net first 0 (omega arith)
 
       pub span-end : endOf (withSpan spans net first end shift) net ≡ end
       span-end =
-          getD-set-other (set (set spans net first) (512 + net) end) (1024 + net) (512 + net) shift 0 (λ e. apart (512 + net) (1024 + net) (omega arith) e)
-          ∙ getD-set-same (set spans net first) (512 + net) end 0 (omega (arith, long))
+          getD-set-other (set (set spans net first) (endsAt + net) end) (shiftsAt + net) (endsAt + net) shift 0 (λ e. apart (endsAt + net) (shiftsAt + net) (omega arith) e)
+          ∙ getD-set-same (set spans net first) (endsAt + net) end 0 (omega (arith, long))
 
       pub span-shift : shiftOf (withSpan spans net first end shift) net ≡ shift
-      span-shift = getD-set-same (set (set spans net first) (512 + net) end) (1024 + net) shift 0 (omega (arith, longer))
+      span-shift = getD-set-same (set (set spans net first) (endsAt + net) end) (shiftsAt + net) shift 0 (omega (arith, longer))
 
 -- ---- answers
 
@@ -133,7 +135,7 @@ module _ {table places : List ℕ} {entry : ℕ} {spans ws : List ℕ} {made : �
   pub low-sum : Fits w64 (8 * (entry / 256) + trailingZeros 64 (entry % 256))
   low-sum = record { fits = omega (arith, low-few, r .isNet) }
 
-  pub low-place : 8 * (entry / 256) + trailingZeros 64 (entry % 256) < 4096
+  pub low-place : 8 * (entry / 256) + trailingZeros 64 (entry % 256) < kindsAt
   low-place = omega (arith, low-few, r .isNet)
 
   pub low-ready : PinReady table places spans ws made (8 * (entry / 256) + trailingZeros 64 (entry % 256))

@@ -19,9 +19,10 @@ use Rattle.block.proofs.LowBitLaws.{low-there}
 use Rattle.block.proofs.WordBitLaws.{not-bit}
 use Rattle.block_vectors.proofs.WordShiftLaws.{right-bit}
 use Rattle.block_runs.specs.Spans.{firstOf, endOf}
-use Rattle.block_runs.specs.LiveOutputs.{outNet, OutputsReady}
+use Rattle.block_runs.specs.LiveOutputs.{OutputsReady}
 use Rattle.block_runs.specs.Sections.{OutputHeld, FirstHolds, Asked}
 use Rattle.block_runs.proofs.BitRunLaws.{set-within, and-within}
+use Rattle.block_marks.specs.Layout.{outputOffsetsAt, outAt}
 
 pub no-answer : {A : Type 0} → false ≡ true → A
 no-answer e = absurd (mathlib.Core.Bool.false≢true e)
@@ -48,7 +49,7 @@ pub asked-all : {places : List ℕ} {outs : ℕ} {held : List ℕ} → outs < 2 
 asked-all s = record { small = s; within = λ o e. e; others = λ o h t f. no-answer (sym f ∙ t) }
 
 pub asked-rest : {places : List ℕ} {outs : ℕ} {held : List ℕ} (whole first : ℕ) → outs < 2 ^ 64 → whole < 2 ^ 64 → whole / 2 ^ first ≡ 0 → (outs / 2 ^ first ≡ 0 → ⊥)
-    → 2 ≤ length held → getD held 0 0 ≤ 1 → getD places (4096 + first) 0 ≤ getD held 1 0 → Asked places outs held (bitAnd outs ((2 ^ 64 - 1) - whole))
+    → 2 ≤ length held → getD held 0 0 ≤ 1 → getD places (outputOffsetsAt + first) 0 ≤ getD held 1 0 → Asked places outs held (bitAnd outs ((2 ^ 64 - 1) - whole))
 asked-rest {outs = outs} whole first s u below ne some low high = record {
   small = lt-of-le-of-lt (and-le-l outs ((2 ^ 64 - 1) - whole)) s;
   within = λ o e. and-within outs ((2 ^ 64 - 1) - whole) o e;
@@ -74,7 +75,7 @@ pub whole-held : {places : List ℕ} {outs : ℕ} {spans ws held : List ℕ} →
     → FirstHolds places outs held o → OutputHeld places spans ws held o
 whole-held {places} {spans = spans} {ws = ws} {held = held} r {o} h t f = record {
   each = λ i a b.
-      let within = sound-at _ ws (firstOf spans (outNet places o)) (endOf spans (outNet places o)) i (r .each o h t .sound) a b in
+      let within = sound-at _ ws (firstOf spans (outAt places o)) (endOf spans (outAt places o)) i (r .each o h t .sound) a b in
       let ends = r .inOrder o (f .next) (f .last) (f .after) (f .upTo) (f .few) t (f .live) .each i a b in
       record { place = 0; begun = omega arith; ended = f .some; notBelow = omega (arith, f .low, within .least); notAbove = omega (arith, ends, f .high) };
 }

@@ -1,3 +1,4 @@
+pub mod Layout
 pub mod Spans
 pub mod PinSpans
 pub mod LiveOutputs

@@ -16,16 +16,14 @@ use Rattle.intervals.specs.Edges.{Case, detected, working}
 use Rattle.intervals.specs.Nets.{Kept}
 use Rattle.block_runs.specs.Spans.{firstOf, endOf, shiftOf, standing}
 use Rattle.block_runs.specs.PinSpans.{bitRuns}
+use Rattle.block_marks.specs.Layout.{outputOffsetsAt, outAt}
 
--- of an output: its net, by how much its runs are higher than those that stand for the net, and its runs
-abbrev pub outNet : List ℕ → ℕ → ℕ
-outNet places o = getD places (4160 + o) 0
-
+-- of an output: by how much its runs are higher than those that stand for its net, and its runs
 abbrev pub outShift : List ℕ → List ℕ → ℕ → ℕ
-outShift places spans o = shiftOf spans (outNet places o) + getD places (4096 + o) 0
+outShift places spans o = shiftOf spans (outAt places o) + getD places (outputOffsetsAt + o) 0
 
 abbrev pub runsOfOutput : List ℕ → List ℕ → List ℕ → ℕ → List Run
-runsOfOutput places spans ws o = shiftRuns (outShift places spans o) (standing spans ws (outNet places o))
+runsOfOutput places spans ws o = shiftRuns (outShift places spans o) (standing spans ws (outAt places o))
 
 -- the runs of the outputs of a word, joined
 abbrev pub runsOfOutputs : List ℕ → ℕ → List ℕ → List ℕ → List Run
@@ -33,15 +31,15 @@ runsOfOutputs places outs spans ws = addRuns [] (bitRuns (runsOfOutput places sp
 
 -- the runs of an output's net stand in the first quarter of the words
 pub record OutputReady (places spans ws : List ℕ) (o : ℕ) : Type 0 where
-  pub isNet : outNet places o < 512
-  pub ordered : firstOf spans (outNet places o) ≤ endOf spans (outNet places o)
-  pub before : endOf spans (outNet places o) ≤ maxRuns
+  pub isNet : outAt places o < 512
+  pub ordered : firstOf spans (outAt places o) ≤ endOf spans (outAt places o)
+  pub before : endOf spans (outAt places o) ≤ maxRuns
   pub small : outShift places spans o ≤ 2 ^ 62
-  pub sound : Sound (2 ^ 62) (standing spans ws (outNet places o))
+  pub sound : Sound (2 ^ 62) (standing spans ws (outAt places o))
 
 -- the runs of an output, shifted, end no later than the paths before output p do
 pub record EndsBefore (places spans ws : List ℕ) (o p : ℕ) : Type 0 where
-  pub each : (i : ℕ) → firstOf spans (outNet places o) ≤ i → i < endOf spans (outNet places o) → getD ws (2 * i + 1) 0 + outShift places spans o ≤ getD places (4096 + p) 0
+  pub each : (i : ℕ) → firstOf spans (outAt places o) ≤ i → i < endOf spans (outAt places o) → getD ws (2 * i + 1) 0 + outShift places spans o ≤ getD places (outputOffsetsAt + p) 0
 
 -- those of each output of a word, each before the outputs after it up to another of the word; and there is room in the second quarter
 pub record OutputsReady (places : List ℕ) (outs : ℕ) (spans ws : List ℕ) : Type 0 where

@@ -14,6 +14,8 @@ use Rattle.intervals.specs.Nets.{Kept}
 use Rattle.block_runs.specs.Spans.{firstOf, endOf, shiftOf, standing, ListedAt}
 use Rattle.block_runs.specs.declared.nets.Grown.{Grown}
 use Rattle.block_runs.specs.declared.nets.Grown.the-variants.{Made, Over}
+use Rattle.block.specs.Layout.{kindsAt}
+use Rattle.block_runs.specs.Layout.{spansSize, endsAt, shiftsAt, risingSections}
 
 -- the net at a pin's place in the table, and by how much the runs that stand for it are higher at the pin
 abbrev pub sourceAt : List ℕ → ℕ → ℕ
@@ -45,7 +47,7 @@ pub record PinReady (table places spans ws : List ℕ) (made at : ℕ) : Type 0 
 
 -- the active pins of a gate whose pins are at the places from `first` on
 pub record ByteReady (table places spans ws : List ℕ) (made first byte : ℕ) : Type 0 where
-  pub inside : first + 8 ≤ 4096
+  pub inside : first + 8 ≤ kindsAt
   pub some : 0 < byte
   pub small : byte < 256
   pub used : made ≤ maxRuns
@@ -55,7 +57,7 @@ pub record ByteReady (table places spans ws : List ℕ) (made first byte : ℕ) 
 -- a list's entry: 256 net + byte of active pins
 pub record EntryReady (table places : List ℕ) (entry : ℕ) (spans ws : List ℕ) (made : ℕ) : Type 0 where
   pub isNet : entry / 256 < 512
-  pub spanRoom : length spans ≡ 1668
+  pub spanRoom : length spans ≡ spansSize
   pub byte : ByteReady table places spans ws made (8 * (entry / 256)) (entry % 256)
 
 abbrev pub entryRuns : List ℕ → List ℕ → ℕ → List ℕ → List ℕ → List Run
@@ -63,7 +65,7 @@ entryRuns table places entry spans ws = byteRuns table places (8 * (entry / 256)
 
 -- the spans with that of a net written
 abbrev pub withSpan : List ℕ → ℕ → ℕ → ℕ → ℕ → List ℕ
-withSpan spans net first end shift = set (set (set spans net first) (512 + net) end) (1024 + net) shift
+withSpan spans net first end shift = set (set (set spans net first) (endsAt + net) end) (shiftsAt + net) shift
 
 pub record SameSpan (spans spans′ : List ℕ) (net : ℕ) : Type 0 where
   pub firsts : firstOf spans′ net ≡ firstOf spans net
@@ -89,7 +91,7 @@ pub record NetSpanned (made net : ℕ) (s : List Run) (spans ws spans′ ws′ :
   pub below : (f k : ℕ) → f + k ≤ made → runsInWords ws′ f k ≡ runsInWords ws f k
   pub sameRoom : length spans′ ≡ length spans
   pub others : (q : ℕ) → q < 512 → (q ≡ net → ⊥) → SameSpan spans spans′ q
-  pub sections : (k : ℕ) → 1536 ≤ k → getD spans′ k 0 ≡ getD spans k 0
+  pub sections : (k : ℕ) → risingSections ≤ k → getD spans′ k 0 ≡ getD spans k 0
   pub over : r ≡ Over → maxRuns < made + length s
   pub spanned : (count after : ℕ) → r ≡ Made count after → SpanMade made net s spans′ ws′ count after
 

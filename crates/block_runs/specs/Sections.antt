@@ -9,7 +9,8 @@ use Rattle.model.specs.Base.{bit}
 use Rattle.runs.specs.RunLists.{shiftRun, runAt}
 use Rattle.runs.specs.Answers.{RunInside}
 use Rattle.block_runs.specs.Spans.{firstOf, endOf}
-use Rattle.block_runs.specs.LiveOutputs.{outNet, outShift}
+use Rattle.block_runs.specs.LiveOutputs.{outShift}
+use Rattle.block_marks.specs.Layout.{outputOffsetsAt, outAt}
 
 -- a section that begins at the number at place `at` and ends at the next: within `count` runs
 pub record SectionIn (spans : List ℕ) (at count : ℕ) : Type 0 where
@@ -22,7 +23,7 @@ pub record SpanHeld (ws : List ℕ) (from to shift : ℕ) (held : List ℕ) : Ty
 
 -- the runs of an output
 abbrev pub OutputHeld : List ℕ → List ℕ → List ℕ → List ℕ → ℕ → Type 0
-OutputHeld places spans ws held o = SpanHeld ws (firstOf spans (outNet places o)) (endOf spans (outNet places o)) (outShift places spans o) held
+OutputHeld places spans ws held o = SpanHeld ws (firstOf spans (outAt places o)) (endOf spans (outAt places o)) (outShift places spans o) held
 
 -- those of each output of a word
 pub record OutputsHeld (places : List ℕ) (outs : ℕ) (spans ws held : List ℕ) : Type 0 where
@@ -38,7 +39,7 @@ pub record FirstHolds (places : List ℕ) (outs : ℕ) (held : List ℕ) (o : �
   pub live : bit outs last ≡ true
   pub some : 0 < length held / 2
   pub low : getD held 0 0 ≤ 1
-  pub high : getD places (4096 + next) 0 ≤ getD held 1 0
+  pub high : getD places (outputOffsetsAt + next) 0 ≤ getD held 1 0
 
 -- the outputs of a word that are left to ask: for the others the first held run holds all that they can have
 pub record Asked (places : List ℕ) (outs : ℕ) (held : List ℕ) (left : ℕ) : Type 0 where

@@ -16,16 +16,17 @@ use Rattle.intervals.specs.Nets.{setRuns, runsBefore, Kept}
 use Rattle.block.specs.Block.{liveNet}
 use Rattle.block.specs.Table.{CircuitTable}
 use Rattle.block_marks.specs.Marks.{PlaceTable, ListedEdge}
+use Rattle.block_runs.specs.Layout.{spansSize, endsAt, shiftsAt, risingSections, fallingSections}
 
 -- of a net: the run place of its first run, the place after its last, and by how much its runs are higher than those that stand there
 abbrev pub firstOf : List ℕ → ℕ → ℕ
 firstOf spans net = getD spans net 0
 
 abbrev pub endOf : List ℕ → ℕ → ℕ
-endOf spans net = getD spans (512 + net) 0
+endOf spans net = getD spans (endsAt + net) 0
 
 abbrev pub shiftOf : List ℕ → ℕ → ℕ
-shiftOf spans net = getD spans (1024 + net) 0
+shiftOf spans net = getD spans (shiftsAt + net) 0
 
 abbrev pub standing : List ℕ → List ℕ → ℕ → List Run
 standing spans ws net = runsInWords ws (firstOf spans net) (endOf spans net - firstOf spans net)
@@ -46,9 +47,9 @@ pub record Ascending (spans : List ℕ) (base : ℕ) : Type 0 where
 
 -- every input has the run at run place 0, which is 1 to 1 where it makes the edge; after the spans stand the sections of the rising and of the falling edge
 pub record InputSpans (spans : List ℕ) (inputs : ℕ) : Type 0 where
-  pub room : length spans ≡ 1668
-  pub rising : Ascending spans 1536
-  pub falling : Ascending spans 1602
+  pub room : length spans ≡ spansSize
+  pub rising : Ascending spans risingSections
+  pub falling : Ascending spans fallingSections
   pub firsts : (j : ℕ) → j < inputs → firstOf spans j ≡ 0
   pub ends : (j : ℕ) → j < inputs → endOf spans j ≡ 1
   pub shifts : (j : ℕ) → j < inputs → shiftOf spans j ≡ 0

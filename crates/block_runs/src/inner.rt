@@ -5,34 +5,40 @@ ghost use lib.ListN.{length};
 ghost use Rattle.intervals.specs.Edges.{Case};
 ghost use Rattle.block_runs.specs.Spans.{InputSpans, ListedAt, SomeListedAt};
 ghost use Rattle.block_runs.specs.LiveOutputs.{SpansListed};
+ghost use Rattle.block_runs.specs.Layout.{spansSize};
+use crate::layout::ENDS_AT;
+use crate::layout::SHIFTS_AT;
+use crate::layout::SPANS_SIZE;
 use crate::nets::net_spans;
 use crate::nets::over_working;
 use crate::sections::clear_sections;
+use block::inner::layout::GATE_TABLE_SIZE;
+use block_marks::inner::layout::PLACE_TABLE_SIZE;
 use runs::inner::Added;
 
 // The spans of the inputs, the same for every record and edge: each has the run at run place 0. The sections of both edges are empty until they are found.
-pub fn input_spans(spans: &mut [u64; 1668], inputs: usize)
-    requires { ⌜ (inputs ≤ 64) × (length (now spans) ≡ 1668) ⌝ }
+pub fn input_spans(spans: &mut [u64; SPANS_SIZE], inputs: usize)
+    requires { ⌜ (inputs ≤ 64) × (length (now spans) ≡ spansSize) ⌝ }
     ensures { λ _. ⌜ InputSpans (now (spans .exit)) inputs ⌝ }
 {
     clear_sections(spans);
     let mut input = 0;
     while input < inputs {
         spans[input] = 0;
-        spans[512 + input] = 1;
-        spans[1024 + input] = 0;
+        spans[ENDS_AT + input] = 1;
+        spans[SHIFTS_AT + input] = 0;
         input += 1;
     }
 }
 
 // Makes the runs of a record's listed nets in the first quarter of the words, or answers Full where the working runs are over 1,024.
 pub fn listed_spans(
-    table: &[u16; 5120],
-    places: &[u64; 4224],
+    table: &[u16; GATE_TABLE_SIZE],
+    places: &[u64; PLACE_TABLE_SIZE],
     entries: &[u32],
     edges: u64,
     inputs: usize,
-    spans: &mut [u64; 1668],
+    spans: &mut [u64; SPANS_SIZE],
     words: &mut [u64],
 ) -> Added
     requires { ⌜ SomeListedAt (now table) (now places) (now entries) edges inputs (now spans) (now words) ⌝ }

@@ -10,6 +10,12 @@ ghost use Rattle.intervals.specs.Edges.{Case};
 ghost use Rattle.intervals.specs.Nets.{inputRuns, runsBefore};
 ghost use Rattle.block_runs.specs.Spans.{firstOf, endOf, SpansMade};
 ghost use Rattle.block_runs.specs.PinSpans.{sourceAt, shiftAt, pinRuns, byteRuns, entryRuns, withSpan, PinReady, ByteReady, EntryReady, NetSpanned, NetsListed, SomeNetsListed};
+ghost use Rattle.block.specs.Layout.{kindsAt};
+use crate::layout::ENDS_AT;
+use crate::layout::SHIFTS_AT;
+use crate::layout::SPANS_SIZE;
+use block::inner::layout::GATE_TABLE_SIZE;
+use block_marks::inner::layout::PLACE_TABLE_SIZE;
 use model::MAX_RUNS;
 use run_union::inner::append_shifted;
 use runs::inner::Added;
@@ -21,24 +27,24 @@ pub(crate) enum Grown {
 }
 
 // Writes where the runs of a net stand.
-fn put_span(spans: &mut [u64; 1668], net: usize, first: usize, end: usize, shift: u64)
+fn put_span(spans: &mut [u64; SPANS_SIZE], net: usize, first: usize, end: usize, shift: u64)
     requires { ⌜ net < 512 ⌝ }
     ensures { λ _. ⌜ now (spans .exit) ≡ withSpan (now (spans .entry)) net first end shift ⌝ }
 {
     spans[net] = first as u64;
-    spans[512 + net] = end as u64;
-    spans[1024 + net] = shift;
+    spans[ENDS_AT + net] = end as u64;
+    spans[SHIFTS_AT + net] = shift;
 }
 
 // A net with one active pin: its runs are those of the pin's net, shifted, and are not copied. Answers how many they are.
 fn one_pin(
-    table: &[u16; 5120],
-    places: &[u64; 4224],
+    table: &[u16; GATE_TABLE_SIZE],
+    places: &[u64; PLACE_TABLE_SIZE],
     at: usize,
     net: usize,
-    spans: &mut [u64; 1668],
+    spans: &mut [u64; SPANS_SIZE],
 ) -> usize
-    requires { ⌜ (net < 512) × (at < 4096) × (sourceAt (now table) at < 512) × (shiftAt (now table) (now places) (now spans) at ≤ 2 ^ 62) ⌝ }
+    requires { ⌜ (net < 512) × (at < kindsAt) × (sourceAt (now table) at < 512) × (shiftAt (now table) (now places) (now spans) at ≤ 2 ^ 62) ⌝ }
     requires { ⌜ (firstOf (now spans) (sourceAt (now table) at) ≤ endOf (now spans) (sourceAt (now table) at)) × (endOf (now spans) (sourceAt (now table) at) ≤ maxRuns) ⌝ }
     ensures { λ r. ⌜
         (now (spans .exit) ≡ withSpan (now (spans .entry)) net (firstOf (now (spans .entry)) (sourceAt (now (table .entry)) at))
@@ -48,23 +54,23 @@ fn one_pin(
 {
     let source = table[at] as usize;
     let first = spans[source] as usize;
-    let end = spans[512 + source] as usize;
-    let shift = spans[1024 + source] + places[at];
+    let end = spans[ENDS_AT + source] as usize;
+    let shift = spans[SHIFTS_AT + source] + places[at];
     put_span(spans, net, first, end, shift);
     end - first
 }
 
 // Adds the runs of the net at a pin, shifted.
 fn add_pin(
-    table: &[u16; 5120],
-    places: &[u64; 4224],
+    table: &[u16; GATE_TABLE_SIZE],
+    places: &[u64; PLACE_TABLE_SIZE],
     at: usize,
-    spans: &[u64; 1668],
+    spans: &[u64; SPANS_SIZE],
     words: &mut [u64],
     made: usize,
     count: usize,
 ) -> Added
-    requires { ⌜ (at < 4096) × (made ≤ maxRuns) ⌝ }
+    requires { ⌜ (at < kindsAt) × (made ≤ maxRuns) ⌝ }
     requires { ⌜ Room (now words) made count (maxRuns - made) ⌝ }
     requires { ⌜ PinReady (now table) (now places) (now spans) (now words) made at ⌝ }
     ensures { λ r. ⌜
@@ -76,21 +82,21 @@ fn add_pin(
     append_shifted(
         words,
         spans[source] as usize,
-        spans[512 + source] as usize,
+        spans[ENDS_AT + source] as usize,
         made,
         count,
         MAX_RUNS - made,
-        spans[1024 + source] + places[at],
+        spans[SHIFTS_AT + source] + places[at],
     )
 }
 
 // A net with more active pins: the runs of the pins' nets, shifted, one after the other, from run place `made` on.
 fn more_pins(
-    table: &[u16; 5120],
-    places: &[u64; 4224],
+    table: &[u16; GATE_TABLE_SIZE],
+    places: &[u64; PLACE_TABLE_SIZE],
     first: usize,
     byte: u64,
-    spans: &[u64; 1668],
+    spans: &[u64; SPANS_SIZE],
     words: &mut [u64],
     made: usize,
 ) -> Added
@@ -119,10 +125,10 @@ fn more_pins(
 
 // The span of one listed net, by its entry: 256 net + byte of its active pins. Nearly every net has one active pin.
 fn net_span(
-    table: &[u16; 5120],
-    places: &[u64; 4224],
+    table: &[u16; GATE_TABLE_SIZE],
+    places: &[u64; PLACE_TABLE_SIZE],
     entry: u32,
-    spans: &mut [u64; 1668],
+    spans: &mut [u64; SPANS_SIZE],
     words: &mut [u64],
     made: usize,
 ) -> Grown
@@ -152,10 +158,10 @@ fn net_span(
 
 // The runs of all listed nets: those of a net with one active pin by reference. Answers how many they are, or Full where those that stand find no room.
 pub(crate) fn net_spans(
-    table: &[u16; 5120],
-    places: &[u64; 4224],
+    table: &[u16; GATE_TABLE_SIZE],
+    places: &[u64; PLACE_TABLE_SIZE],
     entries: &[u32],
-    spans: &mut [u64; 1668],
+    spans: &mut [u64; SPANS_SIZE],
     words: &mut [u64],
 ) -> Added
     requires { ⌜ SomeNetsListed (now table) (now places) (now entries) (now spans) (now words) ⌝ }

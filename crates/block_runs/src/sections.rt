@@ -11,22 +11,25 @@ ghost use Rattle.runs.specs.Answers.{RunInside};
 ghost use Rattle.block_runs.specs.Spans.{Ascending, InputSpans};
 ghost use Rattle.block_runs.specs.LiveOutputs.{OutputReady, OutputsReady};
 ghost use Rattle.block_runs.specs.Sections.{SpanHeld, OutputHeld, OutputsHeld, SectionIn, Asked};
+ghost use Rattle.block_runs.specs.Layout.{spansSize, risingSections, fallingSections};
+use crate::layout::ENDS_AT;
+use crate::layout::RISING_SECTIONS;
+use crate::layout::SECTIONS_SIZE;
+use crate::layout::SHIFTS_AT;
+use crate::layout::SPANS_SIZE;
+use block_marks::inner::layout::OUTPUT_NETS_AT;
+use block_marks::inner::layout::OUTPUT_OFFSETS_AT;
+use block_marks::inner::layout::PLACE_TABLE_SIZE;
 use runs::inner::first_reaching;
 
-// The places among the spans where the sections of each edge stand: output o's begins at place o, and the last ends at place 64. At place 65 a bit for each of the
-// first outputs whose path numbers all lie in the first held run.
-pub const RISING_SECTIONS: usize = 1536;
-
-pub const FALLING_SECTIONS: usize = 1602;
-
 // The sections of both edges, empty.
-pub(crate) fn clear_sections(spans: &mut [u64; 1668])
-    requires { ⌜ length (now spans) ≡ 1668 ⌝ }
-    ensures { λ _. ⌜ (length (now (spans .exit)) ≡ 1668) × Ascending (now (spans .exit)) 1536 × Ascending (now (spans .exit)) 1602 ⌝ }
+pub(crate) fn clear_sections(spans: &mut [u64; SPANS_SIZE])
+    requires { ⌜ length (now spans) ≡ spansSize ⌝ }
+    ensures { λ _. ⌜ (length (now (spans .exit)) ≡ spansSize) × Ascending (now (spans .exit)) risingSections × Ascending (now (spans .exit)) fallingSections ⌝ }
 {
     let mut o = 0;
-    while o < 132 {
-        spans[1536 + o] = 0;
+    while o < SECTIONS_SIZE {
+        spans[RISING_SECTIONS + o] = 0;
         o += 1;
     }
 }
@@ -34,7 +37,7 @@ pub(crate) fn clear_sections(spans: &mut [u64; 1668])
 // Where an output's section begins: at the first held run that reaches the number before the output's first, but not before the section before it. One step after
 // the other: all sections of an edge together pass each run once.
 fn section_begin(
-    places: &[u64; 4224],
+    places: &[u64; PLACE_TABLE_SIZE],
     outputs: usize,
     output: usize,
     held: &[u64],
@@ -47,7 +50,7 @@ fn section_begin(
     if outputs <= output {
         return count;
     }
-    let low = places[4096 + output];
+    let low = places[OUTPUT_OFFSETS_AT + output];
     let mut at = before;
     while at < count && held[2 * at + 1] < low {
         at += 1;
@@ -57,14 +60,14 @@ fn section_begin(
 
 // A bit for each of the first outputs that the first held run may hold wholly: those whose numbers end before an output that begins in it. What is found is
 // asked again where it is used.
-fn whole_outputs(places: &[u64; 4224], outputs: usize, held: &[u64]) -> u64 {
+fn whole_outputs(places: &[u64; PLACE_TABLE_SIZE], outputs: usize, held: &[u64]) -> u64 {
     if held.len() < 2 {
         return 0;
     }
     let high = held[1];
     let mut whole: u64 = 0;
     let mut output = 1;
-    while output < 64 && places[4096 + output] <= high {
+    while output < 64 && places[OUTPUT_OFFSETS_AT + output] <= high {
         if outputs <= output {
             return whole;
         }
@@ -76,14 +79,14 @@ fn whole_outputs(places: &[u64; 4224], outputs: usize, held: &[u64]) -> u64 {
 
 // Finds the sections of the runs that an edge holds. What it finds is only where a search begins and ends.
 pub fn find_sections(
-    places: &[u64; 4224],
+    places: &[u64; PLACE_TABLE_SIZE],
     outputs: usize,
     held: &[u64],
-    spans: &mut [u64; 1668],
+    spans: &mut [u64; SPANS_SIZE],
     base: usize,
 )
-    requires { ⌜ (length (now spans) ≡ 1668) × ((base ≡ 1536) ⊎ (base ≡ 1602)) ⌝ }
-    ensures { λ _. ⌜ (length (now (spans .exit)) ≡ 1668)
+    requires { ⌜ (length (now spans) ≡ spansSize) × ((base ≡ risingSections) ⊎ (base ≡ fallingSections)) ⌝ }
+    ensures { λ _. ⌜ (length (now (spans .exit)) ≡ spansSize)
         × ((inputs : ℕ) → inputs ≤ 64 → InputSpans (now (spans .entry)) inputs → InputSpans (now (spans .exit)) inputs) ⌝ }
 {
     spans[base + 65] = whole_outputs(places, outputs, held);
@@ -144,25 +147,25 @@ fn span_inside(
 
 // The same of the runs of one output, in its section.
 fn output_inside(
-    places: &[u64; 4224],
+    places: &[u64; PLACE_TABLE_SIZE],
     output: usize,
-    spans: &[u64; 1668],
+    spans: &[u64; SPANS_SIZE],
     base: usize,
     words: &[u64],
     held: &[u64],
 ) -> bool
-    requires { ⌜ (output < 64) × (base ≤ 1602) × SectionIn (now spans) (base + output) (length (now held) / 2) ⌝ }
+    requires { ⌜ (output < 64) × (base ≤ fallingSections) × SectionIn (now spans) (base + output) (length (now held) / 2) ⌝ }
     requires { ⌜ OutputReady (now places) (now spans) (now words) output × (4 * maxRuns ≤ length (now words)) ⌝ }
     ensures { λ r. ⌜ (r ≡ true → OutputHeld (now (places .entry)) (now (spans .entry)) (now (words .entry)) (now (held .entry)) output) ⌝ }
 {
-    let net = places[4160 + output] as usize;
+    let net = places[OUTPUT_NETS_AT + output] as usize;
     let begin = spans[base + output] as usize;
     let end = spans[base + output + 1] as usize;
     span_inside(
         words,
         spans[net] as usize,
-        spans[512 + net] as usize,
-        spans[1024 + net] + places[4096 + output],
+        spans[ENDS_AT + net] as usize,
+        spans[SHIFTS_AT + net] + places[OUTPUT_OFFSETS_AT + output],
         held,
         begin,
         end,
@@ -171,7 +174,7 @@ fn output_inside(
 
 // The live outputs that are left to ask. Those of `whole` are not asked where they come before an output that begins in the first held run, and this begins with
 // number 1: their runs end before that output's. On long files these are most outputs, and none of their runs is looked at.
-fn past_whole(places: &[u64; 4224], outs: u64, whole: u64, held: &[u64]) -> u64
+fn past_whole(places: &[u64; PLACE_TABLE_SIZE], outs: u64, whole: u64, held: &[u64]) -> u64
     ensures { λ r. ⌜ Asked (now (places .entry)) outs (now (held .entry)) r ⌝ }
 {
     let first = u64::trailing_zeros(!whole);
@@ -190,7 +193,7 @@ fn past_whole(places: &[u64; 4224], outs: u64, whole: u64, held: &[u64]) -> u64
     if 1 < held[0] {
         return outs;
     }
-    if held[1] < places[4096 + first as usize] {
+    if held[1] < places[OUTPUT_OFFSETS_AT + first as usize] {
         return outs;
     }
     outs & !whole
@@ -198,14 +201,14 @@ fn past_whole(places: &[u64; 4224], outs: u64, whole: u64, held: &[u64]) -> u64
 
 // Whether every run of the live outputs lies in a held run; the answer false promises nothing.
 pub fn outputs_inside(
-    places: &[u64; 4224],
+    places: &[u64; PLACE_TABLE_SIZE],
     outs: u64,
-    spans: &[u64; 1668],
+    spans: &[u64; SPANS_SIZE],
     base: usize,
     words: &[u64],
     held: &[u64],
 ) -> bool
-    requires { ⌜ (base ≤ 1602) × OutputsReady (now places) outs (now spans) (now words) × Ascending (now spans) base ⌝ }
+    requires { ⌜ (base ≤ fallingSections) × OutputsReady (now places) outs (now spans) (now words) × Ascending (now spans) base ⌝ }
     ensures { λ r. ⌜ (r ≡ true → OutputsHeld (now (places .entry)) outs (now (spans .entry)) (now (words .entry)) (now (held .entry))) ⌝ }
 {
     if ((held.len() / 2) as u64) < spans[base + 64] {

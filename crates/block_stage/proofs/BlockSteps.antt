@@ -28,6 +28,8 @@ use Rattle.block_runs.specs.Spans.{InputSpans}
 use Rattle.block_stage.specs.Listed.{edgesAt, ListedBoth, SomeListedBoth}
 use Rattle.block_stage.specs.BlockStage.{workAll, oneMoreTest, workTaken, BlockAt, BlockReady, BlockTaken, MemoryKept}
 use Rattle.block_stage.specs.declared.listed.RecordEdges.{RecordEdges}
+use Rattle.block.specs.Layout.{listSize}
+use Rattle.block_marks.specs.Layout.{upLengthsAt, downLengthsAt}
 
 -- a block by the numbers that the loop holds, and the store and the words that it is handed
 pub record BlockIn (N : Netlist) (tests : ℕ → Test) (table places ups downs marks : List ℕ) (inputs records : ℕ) (ws work : List ℕ) : Type 0 where
@@ -55,7 +57,7 @@ block-in b m = record {
 
 -- one record of a block: its lists lie in the block's, and with spans and memory at hand they are what its place Work is handed
 abbrev pub listOf : List ℕ → List ℕ → ℕ → ℕ → List ℕ
-listOf entries marks lengths t = take (528 * t + getD marks (lengths + t) 0 - 528 * t) (drop (528 * t) entries)
+listOf entries marks lengths t = take (listSize * t + getD marks (lengths + t) 0 - listSize * t) (drop (listSize * t) entries)
 
 module _ {N : Netlist} {tests : ℕ → Test} {table places ups downs marks : List ℕ} {inputs records : ℕ} {ws₀ work₀ : List ℕ}
     (b : BlockIn N tests table places ups downs marks inputs records ws₀ work₀) where
@@ -63,18 +65,20 @@ module _ {N : Netlist} {tests : ℕ → Test} {table places ups downs marks : Li
   block-inputs = omega (arith, b .circuit .inputsAre, limits (b .circuit .file) N (b .circuit .legal) .fewInputs)
 
   module _ {t : ℕ} (h : t < records) where
-    pub up-inside : 528 * t + getD marks (256 + t) 0 ≤ length ups
+    pub up-inside : listSize * t + getD marks (upLengthsAt + t) 0 ≤ length ups
     up-inside = b .marked .each t h .upRoom
 
-    pub down-inside : 528 * t + getD marks (320 + t) 0 ≤ length downs
+    pub down-inside : listSize * t + getD marks (downLengthsAt + t) 0 ≤ length downs
     down-inside = b .marked .each t h .downRoom
 
     pub listed-here : {edges : RecordEdges} {outputs : ℕ} → edges ≡ edgesAt marks t inputs outputs → {ws spans work : List ℕ} → InputSpans spans inputs → MemoryReady N ws work
-        → ListedBoth N (tests t) table places (listOf ups marks 256 t) (listOf downs marks 320 t) edges ws spans work
+        → ListedBoth N (tests t) table places (listOf ups marks upLengthsAt t) (listOf downs marks downLengthsAt t) edges ws spans work
     listed-here {outputs = outputs} ee {ws = ws} {spans = spans} {work = work} i m =
         let r = b .marked .each t h in
-        let part : (n : ℕ) → n ≡ 528 * t + n - 528 * t = λ n. omega arith in
-        let both : ListedBoth N (tests t) table places (entriesOf ups (getD marks (256 + t) 0) t) (entriesOf downs (getD marks (320 + t) 0) t) (edgesAt marks t inputs outputs) ws spans work =
+        let part : (n : ℕ) → n ≡ listSize * t + n - listSize * t = λ n. omega arith in
+        let up = getD marks (upLengthsAt + t) 0 in
+        let down = getD marks (downLengthsAt + t) 0 in
+        let both : ListedBoth N (tests t) table places (entriesOf ups up t) (entriesOf downs down t) (edgesAt marks t inputs outputs) ws spans work =
         record {
           circuit = b .circuit;
           placed = b .placed;
@@ -83,11 +87,11 @@ module _ {N : Netlist} {tests : ℕ → Test} {table places ups downs marks : Li
           inputSpans = i;
           memory = m;
         } in
-        subst (λ (e : RecordEdges). ListedBoth N (tests t) table places (listOf ups marks 256 t) (listOf downs marks 320 t) e ws spans work) (sym ee)
-        (subst (λ (n : ℕ). ListedBoth N (tests t) table places (listOf ups marks 256 t) (take n (drop (528 * t) downs)) (edgesAt marks t inputs outputs) ws spans work)
-        (part (getD marks (320 + t) 0))
-        (subst (λ (n : ℕ). ListedBoth N (tests t) table places (take n (drop (528 * t) ups)) (entriesOf downs (getD marks (320 + t) 0) t) (edgesAt marks t inputs outputs) ws spans work)
-        (part (getD marks (256 + t) 0)) both))
+        subst (λ (e : RecordEdges). ListedBoth N (tests t) table places (listOf ups marks upLengthsAt t) (listOf downs marks downLengthsAt t) e ws spans work) (sym ee)
+        (subst (λ (n : ℕ). ListedBoth N (tests t) table places (listOf ups marks upLengthsAt t) (take n (drop (listSize * t) downs)) (edgesAt marks t inputs outputs) ws spans work)
+        (part down)
+        (subst (λ (n : ℕ). ListedBoth N (tests t) table places (take n (drop (listSize * t) ups)) (entriesOf downs down t) (edgesAt marks t inputs outputs) ws spans work)
+        (part up) both))
 
 -- one test more of those that are left
 module _ (N : Netlist) (tests : ℕ → Test) (t records : ℕ) (h : t < records) (ws : List ℕ) where
@@ -144,11 +148,11 @@ module _ {table places ups downs marks ws₀ work₀ : List ℕ} {inputs records
 
     module _ (h : t < records) where
       module _ {edges : RecordEdges} {outputs : ℕ} (ee : edges ≡ edgesAt marks t inputs outputs) where
-        pub some-listed : SomeListedBoth table places (listOf ups marks 256 t) (listOf downs marks 320 t) edges ws spans work
+        pub some-listed : SomeListedBoth table places (listOf ups marks upLengthsAt t) (listOf downs marks downLengthsAt t) edges ws spans work
         some-listed = record { circuit = g .circuit; test = g .tests t; listed = listed-here (g .block) h ee (g .inputSpans) (here .memory) }
 
         module _ {ws′ work′ : List ℕ} {r : StageAnswer}
-            (a : (N : Netlist) (test : Test) → ListedBoth N test table places (listOf ups marks 256 t) (listOf downs marks 320 t) edges ws spans work
+            (a : (N : Netlist) (test : Test) → ListedBoth N test table places (listOf ups marks upLengthsAt t) (listOf downs marks downLengthsAt t) edges ws spans work
             → StageIs (workStage N test ws) ws ws′ work work′ r) where
           now-is : (N : Netlist) (tests : ℕ → Test) → BlockIn N tests table places ups downs marks inputs records ws₀ work₀ → StageIs (workStage N (tests t) ws) ws ws′ work work′ r
           now-is N tests b = a N (tests t) (listed-here b h ee (g .inputSpans) (g .soFar N tests b .memory))

@@ -37,6 +37,7 @@ use Rattle.block_runs.proofs.ListedLaws.{listed-none, spans-over, spans-detect}
 use Rattle.block_runs.proofs.HeldLaws.{AllIn, all-none, outputs-numbers}
 use Rattle.block_stage.specs.Covering.{EdgeReady, SomeEdgeReady}
 use Rattle.block_stage.specs.declared.covering.EdgeMarks.{EdgeMarks}
+use Rattle.block_runs.specs.Layout.{risingSections, fallingSections}
 
 -- ---- nothing new
 
@@ -133,12 +134,12 @@ module _ {table places entries : List ℕ} {marks : EdgeMarks} {held spans ws : 
     pub some-spans : SomeListedAt table places entries (marks .edges) (marks .inputs) spans ws
     some-spans = record { case = s .case; outs = marks .outs; at-list = s .ready .listed }
 
-    pub some-base : marks .base ≤ 1602
-    some-base = ⊎-elim (λ (e : marks .base ≡ 1536). omega arith) (λ (e : marks .base ≡ 1602). omega arith) (s .ready .sections)
+    pub some-base : marks .base ≤ fallingSections
+    some-base = ⊎-elim (λ (e : marks .base ≡ risingSections). omega arith) (λ (e : marks .base ≡ fallingSections). omega arith) (s .ready .sections)
 
     pub some-ascending : {spans₁ : List ℕ} → InputSpans spans₁ (marks .inputs) → Ascending spans₁ (marks .base)
     some-ascending {spans₁} i =
         ⊎-elim
-        (λ (e : marks .base ≡ 1536). subst (λ b. Ascending spans₁ b) (sym e) (i .rising))
-        (λ (e : marks .base ≡ 1602). subst (λ b. Ascending spans₁ b) (sym e) (i .falling))
+        (λ (e : marks .base ≡ risingSections). subst (λ b. Ascending spans₁ b) (sym e) (i .rising))
+        (λ (e : marks .base ≡ fallingSections). subst (λ b. Ascending spans₁ b) (sym e) (i .falling))
         (s .ready .sections)

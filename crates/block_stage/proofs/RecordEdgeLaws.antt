@@ -32,19 +32,20 @@ use Rattle.block_stage.specs.Covering.{EdgeReady, SomeEdgeReady}
 use Rattle.block_stage.specs.declared.covering.EdgeMarks.{EdgeMarks}
 use Rattle.block_stage.specs.Listed.{ListedBoth, SomeListedBoth}
 use Rattle.block_stage.specs.declared.listed.RecordEdges.{RecordEdges}
+use Rattle.block_runs.specs.Layout.{risingSections, fallingSections}
 
 -- the marks of each edge of a record
 abbrev pub upMarks : RecordEdges → EdgeMarks
-upMarks edges = record { edges = edges .rises; outs = edges .«up_outs»; inputs = edges .inputs; base = 1536; target = 2048 }
+upMarks edges = record { edges = edges .rises; outs = edges .«up_outs»; inputs = edges .inputs; base = risingSections; target = 2048 }
 
 abbrev pub downMarks : RecordEdges → EdgeMarks
-downMarks edges = record { edges = edges .falls; outs = edges .«down_outs»; inputs = edges .inputs; base = 1602; target = 3072 }
+downMarks edges = record { edges = edges .falls; outs = edges .«down_outs»; inputs = edges .inputs; base = fallingSections; target = 3072 }
 
 module _ {table places ups downs : List ℕ} {edges : RecordEdges} {ws spans work : List ℕ} where
   -- the runs of an edge, and what is handed over to cover them: the falling ones after the rising ones are covered
   module _ {N : Netlist} {t : Test} (h : ListedBoth N t table places ups downs edges ws spans work) where
     edge-ready : (e : Edge) {entries : List ℕ} {marks : EdgeMarks} → ListedEdge N t e entries (marks .edges) (marks .outs) → marks .inputs ≡ edges .inputs
-        → (marks .base ≡ 1536) ⊎ (marks .base ≡ 1602) → 2 * maxRuns ≤ marks .target → marks .target + maxRuns ≤ 4 * maxRuns → {held : List ℕ} → held ≡ edgeWords ws e
+        → (marks .base ≡ risingSections) ⊎ (marks .base ≡ fallingSections) → 2 * maxRuns ≤ marks .target → marks .target + maxRuns ≤ 4 * maxRuns → {held : List ℕ} → held ≡ edgeWords ws e
         → {spans₁ work₁ : List ℕ} → InputSpans spans₁ (edges .inputs) → length work₁ ≡ length work → EdgeReady (caseOf N t e) table places entries marks held spans₁ work₁
     edge-ready e {marks = marks} listed same base low high is {spans₁ = spans₁} i l =
         let runs = held-are e (memory-few (h .memory)) is in

@@ -4,15 +4,12 @@ use mathlib.Core.Path.{_≡_}
 use mathlib.Core.List.{List}
 use Prim.Native.Nat.{ℕ, zero, suc, _+_, _≤_}
 use lib.ListN.{length, drop}
-use Rattle.model.specs.Base.{Answer, refused, value, _>>=_}
+use Rattle.model.specs.Base.{Answer, refused, value, _>>=_, _>>_}
 use Rattle.model.specs.Netlist.{Netlist}
 use Rattle.model.specs.Detect.{Test}
-use Rattle.model.specs.Refusals.{refusalNumber}
 use Rattle.model.specs.Store.{storeWords}
 use Rattle.model.specs.Calls.{Tested, storeLeft, workWords}
-use Rattle.coverage.specs.Stage.{MemoryReady, workStage}
-use Rattle.coverage.specs.declared.inner.StageAnswer.{StageAnswer}
-use Rattle.coverage.specs.declared.inner.StageAnswer.the-variants as stage
+use Rattle.coverage.specs.Stage.{MemoryReady, stageOf, workStage}
 use Rattle.block.specs.Table.{CircuitTable}
 use Rattle.block_marks.specs.Marks.{PlaceTable, MarksTrue}
 use Rattle.block_marks.specs.declared.inner.Batch.{Batch}
@@ -33,11 +30,6 @@ unfoldable pub workTaken : Netlist → (ℕ → Test) → ℕ → ℕ → List �
 workTaken N tests t zero ws = 0
 workTaken N tests t (suc n) ws = oneMoreTest (workStage N (tests t) ws) (λ d. workTaken N tests (suc t) n (storeLeft d))
 
--- the number of a refusal, or the store that is left
-abbrev pub appliedOf : StageAnswer → List ℕ → Answer (List ℕ)
-appliedOf stage.Taken left = value left
-appliedOf (stage.Refused w) left = refused (refusalNumber w)
-
 -- a block of a netlist: its tables, and what is marked of each record
 pub record BlockAt (N : Netlist) (tests : ℕ → Test) (table places ups downs marks : List ℕ) (batch : Batch) : Type 0 where
   pub few : batch .records ≤ 64
@@ -53,7 +45,7 @@ pub record BlockReady (table places ups downs marks : List ℕ) (batch : Batch) 
 
 -- the answer with the store that is left, how many were taken, and what holds of the lent memory
 pub record BlockTaken (r : Applied) (N : Netlist) (tests : ℕ → Test) (n : ℕ) (ws ws′ : List ℕ) : Type 0 where
-  pub answer : appliedOf (r .answer) ws′ ≡ workAll N tests 0 n ws
+  pub answer : (stageOf (r .answer) >> value ws′) ≡ workAll N tests 0 n ws
   pub taken : r .taken ≡ workTaken N tests 0 n ws
 
 pub record MemoryKept (ws′ work work′ : List ℕ) : Type 0 where

@@ -11,14 +11,15 @@ use Rattle.block.specs.Table.{CircuitTable}
 use Rattle.block_marks.specs.Marks.{PlaceTable, ListedEdge}
 use Rattle.block_runs.specs.Spans.{InputSpans}
 use Rattle.block_stage.specs.declared.listed.RecordEdges.{RecordEdges}
+use Rattle.block_marks.specs.Layout.{upOutsAt, downOutsAt}
 
 -- record t of a block, from the words of its marks
 abbrev pub edgesAt : List ℕ → ℕ → ℕ → ℕ → RecordEdges
 edgesAt marks t n outputs = record {
   rises = getD marks t 0;
   falls = getD marks (64 + t) 0;
-  «up_outs» = getD marks (128 + t) 0;
-  «down_outs» = getD marks (192 + t) 0;
+  «up_outs» = getD marks (upOutsAt + t) 0;
+  «down_outs» = getD marks (downOutsAt + t) 0;
   inputs = n;
   outputs = outputs;
 }

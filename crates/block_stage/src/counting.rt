@@ -13,7 +13,14 @@ use crate::listed::cover_listed;
 use crate::listed::edges_at;
 use crate::spans::begin_spans;
 use crate::spans::renew_sections;
+use block::inner::layout::GATE_TABLE_SIZE;
+use block::inner::layout::LIST_SIZE;
 use block_marks::inner::Batch;
+use block_marks::inner::layout::DOWN_LENGTHS_AT;
+use block_marks::inner::layout::MARKS_SIZE;
+use block_marks::inner::layout::PLACE_TABLE_SIZE;
+use block_marks::inner::layout::UP_LENGTHS_AT;
+use block_runs::layout::SPANS_SIZE;
 use coverage::TestAnswer;
 use coverage::edges::BothAnswer;
 use coverage::inner::StageAnswer;
@@ -133,11 +140,11 @@ fn put_answer(answers: &mut [u64; 192], t: usize, words: AnswerWords)
 // The place Work with the records of a block in order, each on the store that the one before it left: the answers of all. A refused one leaves the store
 // as it was. The store is counted once, and again after a record that changed it.
 pub fn count_block(
-    table: &[u16; 5120],
-    places: &[u64; 4224],
+    table: &[u16; GATE_TABLE_SIZE],
+    places: &[u64; PLACE_TABLE_SIZE],
     ups: &[u32],
     downs: &[u32],
-    marks: &[u64; 384],
+    marks: &[u64; MARKS_SIZE],
     batch: Batch,
     store: &mut [u64],
     work: &mut [u64],
@@ -154,15 +161,15 @@ pub fn count_block(
     let inputs = batch.inputs;
     let outputs = batch.outputs;
     let records = batch.records;
-    let mut spans = [0u64; 1668];
+    let mut spans = [0u64; SPANS_SIZE];
     begin_spans(places, inputs, outputs, store, &mut spans);
     let mut answers = [0u64; 192];
     let mut held = totals_of(store);
     let mut t = 0;
     while t < records {
-        let at = 528 * t;
-        let up = &ups[at..at + marks[256 + t] as usize];
-        let down = &downs[at..at + marks[320 + t] as usize];
+        let at = LIST_SIZE * t;
+        let up = &ups[at..at + marks[UP_LENGTHS_AT + t] as usize];
+        let down = &downs[at..at + marks[DOWN_LENGTHS_AT + t] as usize];
         let edges = edges_at(marks, t, inputs, outputs);
         let made = cover_listed(table, places, up, down, edges, store, &mut spans, work);
         let answer = count_both(held, made, store, work);

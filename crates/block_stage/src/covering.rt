@@ -3,7 +3,10 @@ ghost use Rattle.intervals.specs.Edges.{Case};
 ghost use Rattle.coverage.specs.Covers.{heldRuns, Covers};
 ghost use Rattle.block_runs.specs.Spans.{InputSpans};
 ghost use Rattle.block_stage.specs.Covering.{EdgeReady, SomeEdgeReady};
+use block::inner::layout::GATE_TABLE_SIZE;
+use block_marks::inner::layout::PLACE_TABLE_SIZE;
 use block_runs::inner::listed_spans;
+use block_runs::layout::SPANS_SIZE;
 use block_runs::outputs::out_runs;
 use block_runs::sections::outputs_inside;
 use coverage::edges::EdgeAnswer;
@@ -23,12 +26,12 @@ pub struct EdgeMarks {
 
 // Covers the runs that an edge holds with what the record detects. Where all of that is held already no run is copied.
 pub(crate) fn cover_edge(
-    table: &[u16; 5120],
-    places: &[u64; 4224],
+    table: &[u16; GATE_TABLE_SIZE],
+    places: &[u64; PLACE_TABLE_SIZE],
     entries: &[u32],
     marks: EdgeMarks,
     held: &[u64],
-    spans: &mut [u64; 1668],
+    spans: &mut [u64; SPANS_SIZE],
     words: &mut [u64],
 ) -> EdgeAnswer
     requires { ⌜ SomeEdgeReady (now table) (now places) (now entries) marks (now held) (now spans) (now words) ⌝ }

@@ -7,7 +7,14 @@ ghost use Rattle.block_stage.specs.BlockStage.{BlockAt, BlockReady, Bloc
 use crate::listed::apply_listed;
 use crate::listed::edges_at;
 use crate::spans::begin_spans;
+use block::inner::layout::GATE_TABLE_SIZE;
+use block::inner::layout::LIST_SIZE;
 use block_marks::inner::Batch;
+use block_marks::inner::layout::DOWN_LENGTHS_AT;
+use block_marks::inner::layout::MARKS_SIZE;
+use block_marks::inner::layout::PLACE_TABLE_SIZE;
+use block_marks::inner::layout::UP_LENGTHS_AT;
+use block_runs::layout::SPANS_SIZE;
 use coverage::inner::StageAnswer;
 
 // The number of records taken before the first that was refused, all of them if none was, and what they answer.
@@ -18,11 +25,11 @@ pub struct Applied {
 
 // The place Work with the records of a block in order, each on the store that the one before it left.
 pub fn apply_block(
-    table: &[u16; 5120],
-    places: &[u64; 4224],
+    table: &[u16; GATE_TABLE_SIZE],
+    places: &[u64; PLACE_TABLE_SIZE],
     ups: &[u32],
     downs: &[u32],
-    marks: &[u64; 384],
+    marks: &[u64; MARKS_SIZE],
     batch: Batch,
     store: &mut [u64],
     work: &mut [u64],
@@ -39,13 +46,13 @@ pub fn apply_block(
     let inputs = batch.inputs;
     let outputs = batch.outputs;
     let records = batch.records;
-    let mut spans = [0u64; 1668];
+    let mut spans = [0u64; SPANS_SIZE];
     begin_spans(places, inputs, outputs, store, &mut spans);
     let mut t = 0;
     while t < records {
-        let at = 528 * t;
-        let up = &ups[at..at + marks[256 + t] as usize];
-        let down = &downs[at..at + marks[320 + t] as usize];
+        let at = LIST_SIZE * t;
+        let up = &ups[at..at + marks[UP_LENGTHS_AT + t] as usize];
+        let down = &downs[at..at + marks[DOWN_LENGTHS_AT + t] as usize];
         let edges = edges_at(marks, t, inputs, outputs);
         let stage = apply_listed(table, places, up, down, edges, store, &mut spans, work);
         match stage {

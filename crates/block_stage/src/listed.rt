@@ -10,8 +10,14 @@ ghost use Rattle.block_stage.specs.Listed.{edgesAt, ListedBoth, SomeList
 use crate::covering::EdgeMarks;
 use crate::covering::cover_edge;
 use crate::spans::renew_sections;
-use block_runs::sections::FALLING_SECTIONS;
-use block_runs::sections::RISING_SECTIONS;
+use block::inner::layout::GATE_TABLE_SIZE;
+use block_marks::inner::layout::DOWN_OUTS_AT;
+use block_marks::inner::layout::MARKS_SIZE;
+use block_marks::inner::layout::PLACE_TABLE_SIZE;
+use block_marks::inner::layout::UP_OUTS_AT;
+use block_runs::layout::FALLING_SECTIONS;
+use block_runs::layout::RISING_SECTIONS;
+use block_runs::layout::SPANS_SIZE;
 use coverage::edges::BothAnswer;
 use coverage::edges::FALLING_UNION;
 use coverage::edges::RISING_UNION;
@@ -33,15 +39,20 @@ pub struct RecordEdges {
 }
 
 // The marks of record t of a block.
-pub(crate) fn edges_at(marks: &[u64; 384], t: usize, inputs: usize, outputs: usize) -> RecordEdges
+pub(crate) fn edges_at(
+    marks: &[u64; MARKS_SIZE],
+    t: usize,
+    inputs: usize,
+    outputs: usize,
+) -> RecordEdges
     requires { ⌜ t < 64 ⌝ }
     ensures { λ r. ⌜ r ≡ edgesAt (now (marks .entry)) t inputs outputs ⌝ }
 {
     RecordEdges {
         rises: marks[t],
         falls: marks[64 + t],
-        up_outs: marks[128 + t],
-        down_outs: marks[192 + t],
+        up_outs: marks[UP_OUTS_AT + t],
+        down_outs: marks[DOWN_OUTS_AT + t],
         inputs,
         outputs,
     }
@@ -49,13 +60,13 @@ pub(crate) fn edges_at(marks: &[u64; 384], t: usize, inputs: usize, outputs: usi
 
 // Covers both edges of a store with what a record detects: the rising runs are made in the third quarter of the words, the falling ones in the last.
 pub(crate) fn cover_listed(
-    table: &[u16; 5120],
-    places: &[u64; 4224],
+    table: &[u16; GATE_TABLE_SIZE],
+    places: &[u64; PLACE_TABLE_SIZE],
     ups: &[u32],
     downs: &[u32],
     edges: RecordEdges,
     store: &[u64],
-    spans: &mut [u64; 1668],
+    spans: &mut [u64; SPANS_SIZE],
     words: &mut [u64],
 ) -> BothAnswer
     requires { ⌜ SomeListedBoth (now table) (now places) (now ups) (now downs) edges (now store) (now spans) (now words) ⌝ }
@@ -103,13 +114,13 @@ pub(crate) fn cover_listed(
 
 // The place Work of one record on a sound store.
 pub(crate) fn apply_listed(
-    table: &[u16; 5120],
-    places: &[u64; 4224],
+    table: &[u16; GATE_TABLE_SIZE],
+    places: &[u64; PLACE_TABLE_SIZE],
     ups: &[u32],
     downs: &[u32],
     edges: RecordEdges,
     store: &mut [u64],
-    spans: &mut [u64; 1668],
+    spans: &mut [u64; SPANS_SIZE],
     work: &mut [u64],
 ) -> StageAnswer
     requires { ⌜ SomeListedBoth (now table) (now places) (now ups) (now downs) edges (now store) (now spans) (now work) ⌝ }

@@ -6,9 +6,12 @@ ghost use Prim.Native.Nat.{ℕ, _≤_};
 ghost use lib.ListN.{length};
 ghost use Rattle.store_words.specs.Sound.{FewRuns};
 ghost use Rattle.block_runs.specs.Spans.{InputSpans};
+ghost use Rattle.block_runs.specs.Layout.{spansSize, risingSections, fallingSections};
+use block_marks::inner::layout::PLACE_TABLE_SIZE;
 use block_runs::inner::input_spans;
-use block_runs::sections::FALLING_SECTIONS;
-use block_runs::sections::RISING_SECTIONS;
+use block_runs::layout::FALLING_SECTIONS;
+use block_runs::layout::RISING_SECTIONS;
+use block_runs::layout::SPANS_SIZE;
 use block_runs::sections::find_sections;
 use coverage::edges::BothAnswer;
 use faults::Edge;
@@ -17,13 +20,13 @@ use store_writing::inner::Change;
 
 // The spans of the inputs and the sections of both edges.
 pub(crate) fn begin_spans(
-    places: &[u64; 4224],
+    places: &[u64; PLACE_TABLE_SIZE],
     inputs: usize,
     outputs: usize,
     store: &[u64],
-    spans: &mut [u64; 1668],
+    spans: &mut [u64; SPANS_SIZE],
 )
-    requires { ⌜ (inputs ≤ 64) × FewRuns (now store) × (length (now spans) ≡ 1668) ⌝ }
+    requires { ⌜ (inputs ≤ 64) × FewRuns (now store) × (length (now spans) ≡ spansSize) ⌝ }
     ensures { λ _. ⌜ InputSpans (now (spans .exit)) inputs ⌝ }
 {
     input_spans(spans, inputs);
@@ -45,15 +48,15 @@ pub(crate) fn begin_spans(
 
 // The sections of one edge, where its runs were made anew.
 fn renew_edge(
-    places: &[u64; 4224],
+    places: &[u64; PLACE_TABLE_SIZE],
     outputs: usize,
     change: Change,
     held: &[u64],
-    spans: &mut [u64; 1668],
+    spans: &mut [u64; SPANS_SIZE],
     base: usize,
 )
-    requires { ⌜ (length (now spans) ≡ 1668) × ((base ≡ 1536) ⊎ (base ≡ 1602)) ⌝ }
-    ensures { λ _. ⌜ (length (now (spans .exit)) ≡ 1668)
+    requires { ⌜ (length (now spans) ≡ spansSize) × ((base ≡ risingSections) ⊎ (base ≡ fallingSections)) ⌝ }
+    ensures { λ _. ⌜ (length (now (spans .exit)) ≡ spansSize)
         × ((inputs : ℕ) → inputs ≤ 64 → InputSpans (now (spans .entry)) inputs → InputSpans (now (spans .exit)) inputs) ⌝ }
 {
     if let Change::Kept = change {
@@ -64,13 +67,13 @@ fn renew_edge(
 
 // The sections of both edges, after what was made of them is written.
 pub(crate) fn renew_sections(
-    places: &[u64; 4224],
+    places: &[u64; PLACE_TABLE_SIZE],
     outputs: usize,
     answer: BothAnswer,
     store: &[u64],
-    spans: &mut [u64; 1668],
+    spans: &mut [u64; SPANS_SIZE],
 )
-    requires { ⌜ FewRuns (now store) × (length (now spans) ≡ 1668) ⌝ }
+    requires { ⌜ FewRuns (now store) × (length (now spans) ≡ spansSize) ⌝ }
     ensures { λ _. ⌜ ((inputs : ℕ) → inputs ≤ 64 → InputSpans (now (spans .entry)) inputs → InputSpans (now (spans .exit)) inputs) ⌝ }
 {
     match answer {

@@ -21,7 +21,7 @@ use Rattle.coverage.specs.Stage.{MemoryReady, workStage}
 use Rattle.coverage.proofs.StageLaws.{stage-work, stage-refused}
 use Rattle.block_marks.specs.Marks.{recordAt, testAt}
 use Rattle.block_stage.specs.BlockStage.{workAll, oneMoreTest, workTaken}
-use Rattle.file_block.specs.RecordsTaken.{oneMore, takenOf}
+use Rattle.file_block.specs.RecordsTaken.{takenOf}
 use Rattle.file_block.proofs.MemoryLaws.{all-memory}
 
 -- ---- the records of a file
@@ -86,10 +86,10 @@ same-bind {x} {y} e f g h = go x h ∙ ap (λ (a : Answer Tested). a >>= g) e
     go (refused n) h = refl
     go (value d) h = h d refl
 
-same-more : {x y : Answer Tested} → x ≡ y → (f g : Tested → ℕ) → ((d : Tested) → x ≡ value d → f d ≡ g d) → oneMore x f ≡ oneMoreTest y g
+same-more : {x y : Answer Tested} → x ≡ y → (f g : Tested → ℕ) → ((d : Tested) → x ≡ value d → f d ≡ g d) → oneMoreTest x f ≡ oneMoreTest y g
 same-more {x} {y} e f g h = go x h ∙ ap (λ (a : Answer Tested). oneMoreTest a g) e
   where
-    go : (x : Answer Tested) → ((d : Tested) → x ≡ value d → f d ≡ g d) → oneMore x f ≡ oneMoreTest x g
+    go : (x : Answer Tested) → ((d : Tested) → x ≡ value d → f d ≡ g d) → oneMoreTest x f ≡ oneMoreTest x g
     go (refused n) h = refl
     go (value d) h = ap (λ k. 1 + k) (h d refl)
 

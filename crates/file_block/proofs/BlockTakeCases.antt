@@ -8,7 +8,7 @@ use native.Mathlib.Nat.{le-trans, mul-le-mul-left, mul-one}
 use native.Mathlib.Omega.{arith}
 use borrow.Author.Needs.{needs}
 use lib.ListN.{length, getD, drop}
-use Rattle.model.specs.Base.{refused, value, _>>=_}
+use Rattle.model.specs.Base.{refused, value, _>>=_, _>>_}
 use Rattle.model.specs.Netlist.{Netlist}
 use Rattle.model.specs.Detect.{Class, Test}
 use Rattle.model.specs.Read.{classOf, recordLength}
@@ -21,7 +21,7 @@ use Rattle.model.proofs.PieceLaws.{testAll-append}
 use Rattle.model.proofs.ReadLaws.{legal, limits}
 use Rattle.test_records.specs.declared.inner.RecordAnswer.{RecordAnswer}
 use Rattle.test_records.specs.declared.inner.RecordAnswer.the-variants as record-answer
-use Rattle.coverage.specs.Stage.{MemoryReady}
+use Rattle.coverage.specs.Stage.{MemoryReady, stageOf}
 use Rattle.coverage.proofs.StageLaws.{in-class}
 use Rattle.coverage.specs.declared.inner.StageAnswer.{StageAnswer}
 use Rattle.coverage.specs.declared.inner.StageAnswer.the-variants as stage
@@ -29,7 +29,7 @@ use Rattle.block.specs.Block.{BlockOf}
 use Rattle.block.specs.Table.{CircuitTable}
 use Rattle.block_marks.specs.Marks.{PlaceTable, MarksTrue, VectorsOf, testAt, BlockRead}
 use Rattle.block_marks.specs.declared.inner.Batch.{Batch}
-use Rattle.block_stage.specs.BlockStage.{BlockAt, BlockReady, BlockTaken, MemoryKept, appliedOf}
+use Rattle.block_stage.specs.BlockStage.{BlockAt, BlockReady, BlockTaken, MemoryKept}
 use Rattle.block_stage.specs.declared.inner.Applied.{Applied}
 use Rattle.block_marks.specs.EdgeMarks.{BatchTables, WorkKept}
 use Rattle.file_block.specs.RecordsTaken.{fileOf, takenOf}
@@ -39,6 +39,7 @@ use Rattle.file_block.specs.declared.inner.FileNumbers.{FileNumbers}
 use Rattle.file_block.proofs.MemoryLaws.{all-memory}
 use Rattle.file_block.proofs.TakenRecordLaws.{takenThen, taken-append, taken-most, taken-all}
 use Rattle.file_block.proofs.BlockFileLaws.{blockRecords, length-block, file-block, block-all, block-taken, rest-refused, rest-untaken}
+use Rattle.block_marks.specs.Layout.{outAt}
 
 -- a netlist's numbers
 module _ {N : Netlist} {table places : List ℕ} {file : FileNumbers} (t : BlockTables N table places file) where
@@ -51,7 +52,7 @@ module _ {N : Netlist} {table places : List ℕ} {file : FileNumbers} (t : Block
   few-outputs : file .outputs ≤ 64
   few-outputs = omega (arith, t .outputsAre, limits (t .circuit .file) N (t .circuit .legal) .fewOutputs)
 
-  out-net : (o : ℕ) → o < file .outputs → getD places (4160 + o) 0 < 512
+  out-net : (o : ℕ) → o < file .outputs → outAt places o < 512
   out-net o h =
       let l : o < length (N .outputs) = omega (arith, t .outputsAre) in
       omega (arith, t .placed .outNet o l, output-net N (legal (t .circuit .file) N (t .circuit .legal)) o l, limits (t .circuit .file) N (t .circuit .legal) .fewNets)
@@ -116,7 +117,7 @@ module _ {table places : List ℕ} {file : FileNumbers} {ups downs ws work : Lis
           abbrev rest : List (List ℕ)
           rest = fileRecords N (drop (recordLength N * n) part)
 
-          answers : testAll N c block ws ≡ appliedOf (r .answer) ws′
+          answers : testAll N c block ws ≡ (stageOf (r .answer) >> value ws′)
           answers = block-all N c part work n m (b .legal) ∙ sym (applied N (testAt N c part) (block-at N t) (still-ready N m) .answer)
 
           count : r .taken ≡ takenOf N c block ws
@@ -142,12 +143,12 @@ module _ {table places : List ℕ} {file : FileNumbers} {ups downs ws work : Lis
 
           true-refused : (w : Refusal) → r .answer ≡ stage.Refused w → BlockTrue (record { taken = r .taken; answer = stage.Refused w }) N c part ws ws′ work′
           true-refused w e =
-              let q : testAll N c block ws ≡ refused (refusalNumber w) = answers ∙ ap (λ (a : StageAnswer). appliedOf a ws′) e in
+              let q : testAll N c block ws ≡ refused (refusalNumber w) = answers ∙ ap (λ (a : StageAnswer). stageOf a >> value ws′) e in
               refused-at taken-few (all-of ∙ rw q refl) (count ∙ sym (counted ∙ rw q refl))
 
           module _ (e : r .answer ≡ stage.Taken) where
             made : testAll N c block ws ≡ value ws′
-            made = answers ∙ ap (λ (a : StageAnswer). appliedOf a ws′) e
+            made = answers ∙ ap (λ (a : StageAnswer). stageOf a >> value ws′) e
 
             all-taken : takenOf N c block ws ≡ n
             all-taken = taken-all N c block ws ws′ made ∙ length-block N part 0 n

@@ -12,7 +12,8 @@ use Rattle.model.specs.Detect.{Class}
 use Rattle.model.specs.Calls.{Tested, testStage, storeLeft}
 use Rattle.model.specs.Report.{testAll}
 use Rattle.model.proofs.AnswerLaws.{steps}
-use Rattle.file_block.specs.RecordsTaken.{oneMore, takenOf}
+use Rattle.block_stage.specs.BlockStage.{oneMoreTest}
+use Rattle.file_block.specs.RecordsTaken.{takenOf}
 
 -- the records `qs` after those that answered `x`
 abbrev pub takenThen : Netlist → Class → List (List ℕ) → Answer (List ℕ) → ℕ → ℕ
@@ -26,7 +27,7 @@ then-more N c qs (value left) j k = omega arith
 -- one record, then the others
 taken-one : (N : Netlist) (c : Class) (qs : List (List ℕ)) (x : Answer Tested) (f g : List ℕ → ℕ) (h : List ℕ → Answer (List ℕ))
     → ((ws : List ℕ) → f ws ≡ takenThen N c qs (h ws) (g ws))
-    → oneMore x (λ d. f (storeLeft d)) ≡ takenThen N c qs (x >>= λ d. h (storeLeft d)) (oneMore x (λ d. g (storeLeft d)))
+    → oneMoreTest x (λ d. f (storeLeft d)) ≡ takenThen N c qs (x >>= λ d. h (storeLeft d)) (oneMoreTest x (λ d. g (storeLeft d)))
 taken-one N c qs (refused n) f g h q = refl
 taken-one N c qs (value d) f g h q =
     let ws : List ℕ = storeLeft d in
@@ -45,7 +46,7 @@ unfolding takenOf
 taken-most N c [] ws = omega arith
 taken-most N c (r ∷ rs) ws = go (testStage N c r ws) (λ v. taken-most N c rs v)
   where
-    go : (x : Answer Tested) → ((v : List ℕ) → takenOf N c rs v ≤ length rs) → oneMore x (λ d. takenOf N c rs (storeLeft d)) ≤ suc (length rs)
+    go : (x : Answer Tested) → ((v : List ℕ) → takenOf N c rs v ≤ length rs) → oneMoreTest x (λ d. takenOf N c rs (storeLeft d)) ≤ suc (length rs)
     go (refused n) h = omega arith
     go (value d) h = omega (arith, h (storeLeft d))
 

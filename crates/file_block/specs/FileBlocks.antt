@@ -19,6 +19,7 @@ use Rattle.block_marks.specs.Marks.{PlaceTable}
 use Rattle.file_block.specs.declared.inner.TakenRecords.{TakenRecords}
 use Rattle.file_block.specs.declared.inner.FileNumbers.{FileNumbers}
 use Rattle.file_block.specs.RecordsTaken.{takenOf}
+use Rattle.block.specs.Layout.{listsSize}
 
 -- the tables of a netlist
 pub record BlockTables (N : Netlist) (table places : List ℕ) (file : FileNumbers) : Type 0 where
@@ -31,8 +32,8 @@ pub record BlocksReady (table places : List ℕ) (file : FileNumbers) (ups downs
   pub netlist : Netlist
   pub tables : BlockTables netlist table places file
   pub memory : MemoryReady netlist ws work
-  pub upRoom : 33792 ≤ length ups
-  pub downRoom : 33792 ≤ length downs
+  pub upRoom : listsSize ≤ length ups
+  pub downRoom : listsSize ≤ length downs
 
 -- after a block that is taken, what is left of the part, from the store so far, gives the whole
 pub record BlockOnward (N : Netlist) (c : Class) (part ws ws′ work′ : List ℕ) (taken : ℕ) : Type 0 where

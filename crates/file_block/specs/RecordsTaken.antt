@@ -2,16 +2,17 @@
 -- Assumes nothing.
 use mathlib.Core.Path.{_≡_}
 use mathlib.Core.List.{List, [], _∷_}
-use Prim.Native.Nat.{ℕ, _+_}
+use Prim.Native.Nat.{ℕ}
 use Rattle.model.specs.Base.{Answer, refused, value}
 use Rattle.model.specs.Netlist.{Netlist}
 use Rattle.model.specs.Detect.{Class}
 use Rattle.model.specs.Refusals.{refusalNumber}
 use Rattle.model.specs.Store.{emptyStore}
-use Rattle.model.specs.Calls.{Tested, storeLeft, testStage}
+use Rattle.model.specs.Calls.{storeLeft, testStage}
 use Rattle.model.specs.Report.{fileRecords, testAll}
 use Rattle.coverage.specs.declared.inner.StageAnswer.{StageAnswer}
 use Rattle.coverage.specs.declared.inner.StageAnswer.the-variants as stage
+use Rattle.block_stage.specs.BlockStage.{oneMoreTest}
 use Rattle.file_block.specs.declared.inner.TakenRecords.{TakenRecords}
 
 -- the test calls with a file's records: the number of a refusal, or the store that they leave
@@ -24,15 +25,10 @@ unfoldable pub leftStore : Answer (List ℕ) → List ℕ
 leftStore (refused n) = emptyStore
 leftStore (value left) = left
 
--- one record more if a test call is taken, and none once it is refused
-abbrev pub oneMore : Answer Tested → (Tested → ℕ) → ℕ
-oneMore (refused n) others = 0
-oneMore (value d) others = 1 + others d
-
 -- how many of the records the test calls take, made in order in one class, before the first that is refused; all if none is
 unfoldable pub takenOf : Netlist → Class → List (List ℕ) → List ℕ → ℕ
 takenOf N c [] ws = 0
-takenOf N c (r ∷ rs) ws = oneMore (testStage N c r ws) (λ d. takenOf N c rs (storeLeft d))
+takenOf N c (r ∷ rs) ws = oneMoreTest (testStage N c r ws) (λ d. takenOf N c rs (storeLeft d))
 
 -- the test calls with the records of a file, made in file order: their answer, the store afterwards, and how many were taken
 pub record FileTrue (r : TakenRecords) (N : Netlist) (c : Class) (testFile ws ws′ : List ℕ) : Type 0 where

@@ -1,6 +1,9 @@
 // The test stage with up to 64 records of a test file at a time, with the lists of a block in lent memory. Each caller proves what it requires.
 ghost use Rattle.file_block.specs.FileBlocks.{BlocksReady, BlockDone};
+use block::inner::layout::GATE_TABLE_SIZE;
 use block_marks::inner::Batch;
+use block_marks::inner::layout::MARKS_SIZE;
+use block_marks::inner::layout::PLACE_TABLE_SIZE;
 use block_marks::inner::marks::fill_block;
 use block_marks::inner::reading::read_block;
 use block_stage::inner::apply_block;
@@ -23,8 +26,8 @@ pub struct FileNumbers {
 
 // The test stage with the records of a block, with which a part of the file begins: up to 64 of them, or to the first that is refused.
 pub fn take_block(
-    table: &[u16; 5120],
-    places: &[u64; 4224],
+    table: &[u16; GATE_TABLE_SIZE],
+    places: &[u64; PLACE_TABLE_SIZE],
     file: FileNumbers,
     part: &[u8],
     ups: &mut [u32],
@@ -37,7 +40,7 @@ pub fn take_block(
         (now (downs .entry)) (now (downs .exit)) (now (store .entry)) (now (store .exit)) (now (work .entry)) (now (work .exit)) ⌝ }
 {
     let mut vectors = [0u64; 128];
-    let mut marks = [0u64; 384];
+    let mut marks = [0u64; MARKS_SIZE];
     let read = read_block(part, file.inputs, &mut vectors);
     let batch = Batch {
         inputs: file.inputs,

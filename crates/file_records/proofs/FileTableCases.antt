@@ -18,6 +18,7 @@ use Rattle.file_block.specs.FileBlocks.{BlockTables, BlocksReady}
 use Rattle.file_records.specs.FileRecords.{BlocksTaken}
 use Rattle.file_block.specs.declared.inner.TakenRecords.{TakenRecords}
 use Rattle.file_block.specs.declared.inner.FileNumbers.{FileNumbers}
+use Rattle.block.specs.Layout.{listsSize}
 
 module _ {netlist positions netCounts : List ℕ} {shape : Shape} {ws work : List ℕ} (s : StageReady netlist positions netCounts shape ws work) where
   pub stage-circuit : SomeCircuit netlist positions shape
@@ -39,7 +40,7 @@ module _ {netlist positions netCounts : List ℕ} {shape : Shape} {ws work : Lis
         outputsAre = sym (t .outputsAre);
       }
 
-      pub stage-blocks : {ups downs : List ℕ} → length ups ≡ 33792 → length downs ≡ 33792 → BlocksReady table places numbers ups downs ws work
+      pub stage-blocks : {ups downs : List ℕ} → length ups ≡ listsSize → length downs ≡ listsSize → BlocksReady table places numbers ups downs ws work
       stage-blocks u d = record { netlist = s .circuit; tables = tables-of (s .circuit) (s .tables); memory = s .memory; upRoom = omega (arith, u); downRoom = omega (arith, d) }
 
       pub stage-file : {r : TakenRecords} {testFile ws′ work′ : List ℕ} → BlocksTaken r table places numbers testFile ws ws′ work work′

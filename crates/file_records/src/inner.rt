@@ -2,7 +2,10 @@
 ghost use Rattle.coverage.specs.Stage.{StageReady};
 ghost use Rattle.file_block.specs.FileBlocks.{BlocksReady};
 ghost use Rattle.file_records.specs.FileRecords.{BlocksTaken, FileTaken};
+use block::inner::layout::GATE_TABLE_SIZE;
+use block::inner::layout::LISTS_SIZE;
 use block::inner::table::fill_table;
+use block_marks::inner::layout::PLACE_TABLE_SIZE;
 use block_marks::inner::places::fill_places;
 use coverage::inner::StageAnswer;
 use file_block::inner::FileNumbers;
@@ -14,8 +17,8 @@ use test_records::inner::record_length;
 
 // The test stage with all records of a file, block after block. A refused record ends them and empties the store.
 fn apply_blocks(
-    table: &[u16; 5120],
-    places: &[u64; 4224],
+    table: &[u16; GATE_TABLE_SIZE],
+    places: &[u64; PLACE_TABLE_SIZE],
     file: FileNumbers,
     tests: &[u8],
     ups: &mut [u32],
@@ -67,9 +70,9 @@ pub fn apply_records(
     ensures { λ r. ⌜ FileTaken r (now (netlist .entry)) (now (positions .entry)) (now (counts .entry)) shape class (now (tests .entry))
         (now (store .entry)) (now (store .exit)) (now (work .entry)) (now (work .exit)) ⌝ }
 {
-    let mut table = [0u16; 5120];
+    let mut table = [0u16; GATE_TABLE_SIZE];
     fill_table(netlist, positions, shape, &mut table);
-    let mut places = [0u64; 4224];
+    let mut places = [0u64; PLACE_TABLE_SIZE];
     fill_places(netlist, counts, shape, &table, &mut places);
     let file = FileNumbers {
         inputs: shape.inputs,
@@ -77,8 +80,8 @@ pub fn apply_records(
         outputs: shape.outputs,
         class,
     };
-    let mut ups = [0u32; 33792];
-    let mut downs = [0u32; 33792];
+    let mut ups = [0u32; LISTS_SIZE];
+    let mut downs = [0u32; LISTS_SIZE];
     apply_blocks(
         &table,
         &places,

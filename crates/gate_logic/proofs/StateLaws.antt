@@ -126,7 +126,7 @@ others-both f g (x ∷ xs) zero = allOf-both f g xs
 others-both f g (x ∷ xs) (suc p) = and-cross (f x) (others f xs p) (g x) (others g xs p) ∙ ap (λ b. (f x && g x) && b) (others-both f g xs p)
 
 -- the other pins of a robustly open pin, by two tests
-sides-rule : (v : Bool) (ns : List Evaluation) (p : ℕ)
+pub sides-rule : (v : Bool) (ns : List Evaluation) (p : ℕ)
     → (others (λ e. Bool·beq v (e .underV2)) ns p && (Bool·beq v (getD ns p noEvaluation .underV2) || others (λ e. e .steady) ns p)) ≡ robustSides v ns p
 sides-rule v ns p = go (Bool·beq v (getD ns p noEvaluation .underV2))
   where

@@ -29,6 +29,7 @@ use Rattle.listing_blocks.specs.Answers.{blockBytes, TablesOf, ListedTo,
 use Rattle.listing_blocks.specs.BlockLines.{PartTrue, PartDone, ListBlocksReady, BlocksListed}
 use Rattle.listing_blocks.specs.declared.inner.Listed.{Listed}
 use Rattle.listing_blocks.specs.declared.blocks.PartAnswers.{PartAnswers}
+use Rattle.block.specs.Layout.{listsSize}
 
 abbrev classIn : FileNumbers → Class
 classIn n = classOf (n .class)
@@ -46,8 +47,8 @@ module _ (table places : List ℕ) (numbers : FileNumbers) (from : Listed) (piec
   -- the records before byte `used` are listed; where none is yet, no line is put
   pub record Listing (ups downs ws work out : List ℕ) (place used bytes : ℕ) : Type 0 where
     pub ready : ListBlocksReady table places numbers from piece ws₀ work₀ out₀
-    pub upRoom : length ups ≡ 33792
-    pub downRoom : length downs ≡ 33792
+    pub upRoom : length ups ≡ listsSize
+    pub downRoom : length downs ≡ listsSize
     pub within : used ≤ length piece
     pub begun : from .used ≤ used
     pub none : used ≡ from .used → bytes ≡ from .bytes
@@ -62,7 +63,7 @@ module _ (table places : List ℕ) (numbers : FileNumbers) (from : Listed) (piec
         → ListedTo N (classIn numbers) from (here place used bytes) piece ws₀ ws work out₀ out
 
 module _ {table places : List ℕ} {numbers : FileNumbers} {from : Listed} {piece ws₀ work₀ out₀ : List ℕ} where
-  pub listing-start : ListBlocksReady table places numbers from piece ws₀ work₀ out₀ → {ups downs : List ℕ} → length ups ≡ 33792 → length downs ≡ 33792
+  pub listing-start : ListBlocksReady table places numbers from piece ws₀ work₀ out₀ → {ups downs : List ℕ} → length ups ≡ listsSize → length downs ≡ listsSize
       → Listing table places numbers from piece ws₀ work₀ out₀ ups downs ws₀ work₀ out₀ (from .place) (from .used) (from .bytes)
   listing-start r u d = record {
     ready = r;

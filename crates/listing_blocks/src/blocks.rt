@@ -5,7 +5,11 @@ ghost use Rattle.listing_blocks.specs.BlockLines.{NextIs, PartDone, List
 use crate::inner::BLOCK_BYTES;
 use crate::inner::Listed;
 use crate::inner::record_end;
+use block::inner::layout::GATE_TABLE_SIZE;
+use block::inner::layout::LISTS_SIZE;
 use block_marks::inner::Batch;
+use block_marks::inner::layout::MARKS_SIZE;
+use block_marks::inner::layout::PLACE_TABLE_SIZE;
 use block_marks::inner::marks::fill_block;
 use block_marks::inner::reading::read_block;
 use block_stage::counting::count_block;
@@ -43,8 +47,8 @@ fn next_answer(after: RecordAnswer, records: usize, used: usize, length: usize) 
 
 // The test stage with the records of a block, with which a part of a piece begins, and with the one after them where that is refused.
 pub(crate) fn count_part(
-    table: &[u16; 5120],
-    places: &[u64; 4224],
+    table: &[u16; GATE_TABLE_SIZE],
+    places: &[u64; PLACE_TABLE_SIZE],
     numbers: FileNumbers,
     part: &[u8],
     ups: &mut [u32],
@@ -58,7 +62,7 @@ pub(crate) fn count_part(
 {
     let inputs = numbers.inputs;
     let mut vectors = [0u64; 128];
-    let mut marks = [0u64; 384];
+    let mut marks = [0u64; MARKS_SIZE];
     let read = read_block(part, inputs, &mut vectors);
     let records = read.records;
     let batch = Batch {
@@ -98,8 +102,8 @@ pub(crate) fn count_part(
 
 // The lines of a piece's records from where it is listed to, block after block while the buffer has room for the lines of another.
 pub(crate) fn list_blocks(
-    table: &[u16; 5120],
-    places: &[u64; 4224],
+    table: &[u16; GATE_TABLE_SIZE],
+    places: &[u64; PLACE_TABLE_SIZE],
     numbers: FileNumbers,
     from: Listed,
     piece: &[u8],
@@ -111,8 +115,8 @@ pub(crate) fn list_blocks(
     ensures { λ r. ⌜ BlocksListed from r (now (table .entry)) (now (places .entry)) numbers (now (piece .entry)) (now (store .entry)) (now (store .exit))
         (now (work .entry)) (now (work .exit)) (now (out .entry)) (now (out .exit)) ⌝ }
 {
-    let mut ups = [0u32; 33792];
-    let mut downs = [0u32; 33792];
+    let mut ups = [0u32; LISTS_SIZE];
+    let mut downs = [0u32; LISTS_SIZE];
     let mut place = from.place;
     let mut used = from.used;
     let mut bytes = from.bytes;

@@ -3,7 +3,9 @@ ghost use mathlib.Core.Path.{_≡_};
 ghost use Prim.Native.Nat.{_+_, _≤_, min};
 ghost use Rattle.listing_blocks.specs.Answers.{PieceReady, PieceLines};
 use crate::blocks::list_blocks;
+use block::inner::layout::GATE_TABLE_SIZE;
 use block::inner::table::fill_table;
+use block_marks::inner::layout::PLACE_TABLE_SIZE;
 use block_marks::inner::places::fill_places;
 use file_block::inner::FileNumbers;
 use netlist::inner::Loaded;
@@ -48,9 +50,9 @@ pub fn list_piece(
     let positions = tables.positions;
     let counts = tables.counts;
     let shape = tables.shape;
-    let mut table = [0u16; 5120];
+    let mut table = [0u16; GATE_TABLE_SIZE];
     fill_table(netlist, &positions, shape, &mut table);
-    let mut places = [0u64; 4224];
+    let mut places = [0u64; PLACE_TABLE_SIZE];
     fill_places(netlist, &counts, shape, &table, &mut places);
     let numbers = FileNumbers {
         inputs: shape.inputs,

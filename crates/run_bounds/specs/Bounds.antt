@@ -2,14 +2,14 @@
 -- Assumes nothing.
 use mathlib.Core.Path.{_≡_}
 use mathlib.Core.List.{List, []}
-use Prim.Native.Nat.{ℕ, _+_, _-_, _≤_}
+use Prim.Native.Nat.{ℕ, _+_, _-_, _*_, _≤_}
 use lib.ListN.{length}
 use Rattle.model.specs.Base.{refused, value}
 use Rattle.model.specs.Netlist.{Netlist, pathTotal}
 use Rattle.model.specs.Path.{Edge}
 use Rattle.model.specs.Detect.{Test}
 use Rattle.model.specs.Read.{readNetlist}
-use Rattle.model.specs.Store.{emptyStore, storeRuns}
+use Rattle.model.specs.Store.{maxRuns, emptyStore, storeRuns}
 use Rattle.model.specs.Calls.{testAnswer}
 use Rattle.model.specs.Report.{auditAnswer}
 use Rattle.model.specs.Demand3.{CountOf, Detected, Call, start, afterCalls}
@@ -25,9 +25,9 @@ use Rattle.pieces.specs.Calls.{PieceTrue}
 use Rattle.pieces.specs.declared.PieceAnswer.{PieceAnswer}
 use Rattle.pieces.specs.declared.PieceAnswer.the-variants as piece
 
--- the most paths of a netlist on which no test is refused with 51
+-- the most paths of a netlist on which no test is refused with 51: each run but the last has a number after it that is in no run
 abbrev pub smallTotal : ℕ
-smallTotal = 2048
+smallTotal = 2 * maxRuns
 
 -- The runs of an edge in a store's words are at most the faults of that edge that the tests detect, each counted once, and at most T minus these
 -- plus 1

@@ -3,9 +3,10 @@
 ghost use mathlib.Core.Path.{_≡_};
 ghost use lib.Dec.{leb};
 ghost use Rattle.run_bounds.specs.Bounds.{smallTotal};
+use model::MAX_RUNS;
 
 // The most paths of a netlist on which no test is refused with 51.
-pub const SMALL_TOTAL: u64 = 2048;
+pub const SMALL_TOTAL: u64 = 2 * (MAX_RUNS as u64);
 
 // Whether a netlist of so many paths can't fill a store; a crate's theorems are checked only where it has a function.
 pub fn store_cannot_fill(paths: u64) -> bool

@@ -6,6 +6,10 @@ ghost use lib.ListN.{length};
 ghost use Rattle.model.specs.Read.{kindOf};
 ghost use Rattle.block.specs.Words.{flipWord, GateIs, PinsIn, AloneIs, ValueIs, OpenIs};
 ghost use Rattle.block.specs.NetStates.{SeesOne, LooksAre};
+ghost use Rattle.block.specs.Layout.{netsSize};
+use crate::inner::layout::GATE_TABLE_SIZE;
+use crate::inner::layout::KINDS_AT;
+use crate::inner::layout::PIN_COUNTS_AT;
 use records::inner;
 
 // A gate of the table: its kind, its number of pins, the place of its first pin, and what turns values into controlling ones.
@@ -35,12 +39,12 @@ fn flip_of(kind: u16) -> u64
 }
 
 // The gate that drives a net.
-pub fn gate_at(table: &[u16; 5120], net: usize) -> Gate
+pub fn gate_at(table: &[u16; GATE_TABLE_SIZE], net: usize) -> Gate
     requires { ⌜ net < 512 ⌝ }
     ensures { λ r. ⌜ GateIs (now (table .entry)) net r ⌝ }
 {
-    let kind = table[4096 + net];
-    let pins = inner::wide_word(table[4608 + net]);
+    let kind = table[KINDS_AT + net];
+    let pins = inner::wide_word(table[PIN_COUNTS_AT + net]);
     let flip = flip_of(kind);
     Gate {
         kind,
@@ -71,8 +75,8 @@ pub struct Looks {
 }
 
 // The pins of a gate, the last one first.
-pub fn look(table: &[u16; 5120], gate: Gate, words: &[u64]) -> Looks
-    requires { ⌜ PinsIn (now table) gate × (4096 ≤ length (now words)) ⌝ }
+pub fn look(table: &[u16; GATE_TABLE_SIZE], gate: Gate, words: &[u64]) -> Looks
+    requires { ⌜ PinsIn (now table) gate × (netsSize ≤ length (now words)) ⌝ }
     ensures { λ r. ⌜ LooksAre (now (table .entry)) gate (now (words .entry)) r ⌝ }
 {
     let nothing = Seen {

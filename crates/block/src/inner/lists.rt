@@ -1,11 +1,11 @@
-// The lists of live gates, one for each record of a block: that of record t begins at place 528 t. An entry is 256 net + the byte of its active
-// pins. 528 and not 512 places, so that the lists do not fall on the same cache lines.
+// The lists of live gates, one for each record of a block. An entry is 256 net + the byte of its active pins.
 ghost use mathlib.Core.Path.{_≡_};
 ghost use mathlib.Core.List.{[], _∷_};
 ghost use Prim.Native.Nat.{_+_, _*_, _≤_, _<_};
 ghost use Rattle.model.specs.Base.{bit};
 ghost use Rattle.block.specs.Words.{bitsAt, firstWords};
 ghost use Rattle.block.specs.Lists.{packBits, ListRoom, entryOf, Pushed};
+use crate::inner::layout::LIST_SIZE;
 use records::inner;
 
 // One bit of a word.
@@ -50,7 +50,7 @@ pub fn push(
         let t = u64::trailing_zeros(left);
         let byte = byte_of(rows, pins, t as u64);
         let len = inner::wide_word(lens[t as usize]);
-        list[528 * (t as usize) + len] = 256 * (net as u32) + byte;
+        list[LIST_SIZE * (t as usize) + len] = 256 * (net as u32) + byte;
         lens[t as usize] = (len + 1) as u16;
         left = left & (left - 1);
     }

@@ -7,10 +7,12 @@ ghost use Rattle.block.specs.Words.{flipWord, PinsIn};
 ghost use Rattle.model.specs.Read.{classOf};
 ghost use Rattle.block.specs.Robust.{SteadyIs, RobustIs};
 ghost use Rattle.block.specs.NetStates.{PinOpenIs, ActiveBoth};
+ghost use Rattle.block.specs.Layout.{netsSize};
 use crate::inner::gates;
 use crate::inner::gates::Gate;
 use crate::inner::gates::Looks;
 use crate::inner::gates::Seen;
+use crate::inner::layout::GATE_TABLE_SIZE;
 use records::inner;
 
 // The steadiness word of a gate: no pin is loose, or one is held.
@@ -66,7 +68,7 @@ pub struct Live {
 // A pin is active for an edge where it is open and its net is live. The active words of the pins are the first of `ups` and of `downs`, which the caller lends: fresh
 // arrays would be cleared and copied for each gate.
 pub fn active_words(
-    table: &[u16; 5120],
+    table: &[u16; GATE_TABLE_SIZE],
     class: u32,
     gate: Gate,
     looks: Looks,
@@ -74,7 +76,7 @@ pub fn active_words(
     ups: &mut [u64; 8],
     downs: &mut [u64; 8],
 ) -> Live
-    requires { ⌜ PinsIn (now table) gate × (gate .flip ≡ flipWord (kindOf (gate .kind))) × (gate .kind ≤ 8) × (4096 ≤ length (now words))
+    requires { ⌜ PinsIn (now table) gate × (gate .flip ≡ flipWord (kindOf (gate .kind))) × (gate .kind ≤ 8) × (netsSize ≤ length (now words))
         × (length (now ups) ≡ 8) × (length (now downs) ≡ 8) ⌝ }
     ensures { λ r. ⌜ ActiveBoth (classOf class) (now (table .entry)) gate looks (now (words .entry)) (now (ups .exit)) (now (downs .exit)) r ⌝ }
 {

@@ -6,9 +6,11 @@ ghost use lib.ListN.{length};
 ghost use Rattle.block.specs.Table.{SomeTable};
 ghost use Rattle.block.specs.Lists.{EmptyLists};
 ghost use Rattle.block.specs.NetStates.{NetPut, InputWords, StateIs, GatesListed};
+ghost use Rattle.block.specs.Layout.{netsSize};
 use crate::inner::gates;
 use crate::inner::gates::Gate;
 use crate::inner::gates::Looks;
+use crate::inner::layout::GATE_TABLE_SIZE;
 use crate::inner::lists;
 use crate::inner::robust;
 use crate::inner::robust::Live;
@@ -31,7 +33,7 @@ pub struct NetState {
 
 // Writes the words of a net.
 fn put_net(words: &mut [u64], net: usize, state: NetState)
-    requires { ⌜ (net < 512) × (4096 ≤ length (now words)) ⌝ }
+    requires { ⌜ (net < 512) × (netsSize ≤ length (now words)) ⌝ }
     ensures { λ _. ⌜ NetPut net state (now (words .entry)) (now (words .exit)) ⌝ }
 {
     let at = 8 * net;
@@ -50,7 +52,7 @@ pub fn input_words(
     n: usize,
     words: &mut [u64],
 )
-    requires { ⌜ (inputs ≤ 64) × (n ≤ 64) × (4096 ≤ length (now words)) ⌝ }
+    requires { ⌜ (inputs ≤ 64) × (n ≤ 64) × (netsSize ≤ length (now words)) ⌝ }
     ensures { λ _. ⌜ InputWords (now (firsts .entry)) (now (lasts .entry)) inputs n (now (words .entry)) (now (words .exit)) ⌝ }
 {
     let within = spread::first_records(n);
@@ -91,7 +93,7 @@ fn net_state(gate: Gate, looks: Looks, live: Live) -> NetState
 
 // The words of every net, and for each edge and record the list of its live gates. The inputs' words are there already, the lists are empty.
 pub fn gate_lists(
-    table: &[u16; 5120],
+    table: &[u16; GATE_TABLE_SIZE],
     shape: Shape,
     class: u32,
     words: &mut [u64],
@@ -100,7 +102,7 @@ pub fn gate_lists(
     up_lens: &mut [u16; 64],
     down_lens: &mut [u16; 64],
 )
-    requires { ⌜ SomeTable (now table) (shape .inputs) (shape .nets) × (4096 ≤ length (now words)) × EmptyLists (now ups) (now «up_lens») × EmptyLists (now downs) (now «down_lens») ⌝ }
+    requires { ⌜ SomeTable (now table) (shape .inputs) (shape .nets) × (netsSize ≤ length (now words)) × EmptyLists (now ups) (now «up_lens») × EmptyLists (now downs) (now «down_lens») ⌝ }
     ensures { λ _. ⌜
         GatesListed (now (table .entry)) shape class (now (words .entry)) (now (words .exit)) (now (ups .entry)) (now (ups .exit)) (now («up_lens» .exit))
         (now (downs .entry)) (now (downs .exit)) (now («down_lens» .exit))

@@ -13,8 +13,16 @@ ghost use Rattle.block.specs.Block.{BlockOf};
 ghost use Rattle.block.specs.NetStates.{plane};
 ghost use Rattle.block.specs.Table.{CircuitTable};
 ghost use Rattle.block_marks.specs.Marks.{PlaceTable, MarksTrue, VectorsOf};
-ghost use Rattle.block_marks.specs.EdgeMarks.{outAt, BatchTables, OutsAre, EdgeWritten, WorkKept};
+ghost use Rattle.block_marks.specs.EdgeMarks.{BatchTables, OutsAre, EdgeWritten, WorkKept};
+ghost use Rattle.block.specs.Layout.{netsSize, listsSize};
+ghost use Rattle.block_marks.specs.Layout.{marksSize, outAt};
 use crate::inner::Batch;
+use crate::inner::layout::MARKS_SIZE;
+use crate::inner::layout::OUTPUT_NETS_AT;
+use crate::inner::layout::PLACE_TABLE_SIZE;
+use crate::inner::layout::UP_LENGTHS_AT;
+use crate::inner::layout::UP_OUTS_AT;
+use block::inner::layout::GATE_TABLE_SIZE;
 use block::inner::spread::flip;
 use block::inner::words;
 use block::inner::words::FALLS;
@@ -24,7 +32,7 @@ use netlist::inner::Shape;
 
 // The live word of a net that a gate drives; 0 for an input.
 fn gate_word(words: &[u64], inputs: usize, net: usize, edge: usize) -> u64
-    requires { ⌜ (net < 512) × (edge ≤ 7) × (4096 ≤ length (now words)) ⌝ }
+    requires { ⌜ (net < 512) × (edge ≤ 7) × (netsSize ≤ length (now words)) ⌝ }
     ensures { λ r. ⌜ ((t : ℕ) → bit r t ≡ (leb inputs net && bit (getD (plane edge (now (words .entry))) net 0) t)) ⌝ }
 {
     if net < inputs {
@@ -35,19 +43,19 @@ fn gate_word(words: &[u64], inputs: usize, net: usize, edge: usize) -> u64
 
 // The live outputs of each record, for the edge whose live word is the one at place `edge` of a net's words.
 fn live_outputs(
-    places: &[u64; 4224],
+    places: &[u64; PLACE_TABLE_SIZE],
     inputs: usize,
     outputs: usize,
     words: &[u64],
     edge: usize,
 ) -> [u64; 64]
-    requires { ⌜ (outputs ≤ 64) × ((o : ℕ) → o < outputs → outAt (now places) o < 512) × (edge ≤ 7) × (4096 ≤ length (now words)) ⌝ }
+    requires { ⌜ (outputs ≤ 64) × ((o : ℕ) → o < outputs → outAt (now places) o < 512) × (edge ≤ 7) × (netsSize ≤ length (now words)) ⌝ }
     ensures { λ r. ⌜ OutsAre (now (places .entry)) inputs outputs (plane edge (now (words .entry))) r ⌝ }
 {
     let mut outs = [0u64; 64];
     let mut o = 0;
     while o < outputs {
-        let word = gate_word(words, inputs, places[4160 + o] as usize, edge);
+        let word = gate_word(words, inputs, places[OUTPUT_NETS_AT + o] as usize, edge);
         flip(&mut outs, word, 1u64 << (o as u64));
         o += 1;
     }
@@ -61,17 +69,17 @@ fn write_marks(
     first: usize,
     lens: &[u16; 64],
     outs: &[u64; 64],
-    marks: &mut [u64; 384],
+    marks: &mut [u64; MARKS_SIZE],
 )
-    requires { ⌜ (records ≤ 64) × (first ≤ 64) × (length (now marks) ≡ 384) × ((t : ℕ) → t < 64 → getD (now lens) t 0 ≤ 512) ⌝ }
+    requires { ⌜ (records ≤ 64) × (first ≤ 64) × (length (now marks) ≡ marksSize) × ((t : ℕ) → t < 64 → getD (now lens) t 0 ≤ 512) ⌝ }
     ensures { λ _. ⌜ EdgeWritten (now (vectors .entry)) records first (now (outs .entry)) (now (lens .entry)) (now (marks .entry)) (now (marks .exit)) ⌝ }
 {
     let mut t = 0;
     while t < records {
         let to = vectors[64 - first + t];
         marks[first + t] = (vectors[first + t] ^ to) & to;
-        marks[128 + first + t] = outs[t];
-        marks[256 + first + t] = lens[t] as u64;
+        marks[UP_OUTS_AT + first + t] = outs[t];
+        marks[UP_LENGTHS_AT + first + t] = lens[t] as u64;
         t += 1;
     }
 }
@@ -79,19 +87,19 @@ fn write_marks(
 // The marks of a block's records, and their lists of live gates, from their vectors. The words of the nets are made in the working memory, which is
 // free until the first record is applied: 32 KB that need not be cleared for each block.
 pub fn fill_block(
-    table: &[u16; 5120],
-    places: &[u64; 4224],
+    table: &[u16; GATE_TABLE_SIZE],
+    places: &[u64; PLACE_TABLE_SIZE],
     batch: Batch,
     vectors: &[u64; 128],
     ups: &mut [u32],
     downs: &mut [u32],
-    marks: &mut [u64; 384],
+    marks: &mut [u64; MARKS_SIZE],
     work: &mut [u64],
 )
-    requires { ⌜ BatchTables (now table) (now places) batch × (33792 ≤ length (now ups)) × (33792 ≤ length (now downs)) × (length (now marks) ≡ 384)
+    requires { ⌜ BatchTables (now table) (now places) batch × (listsSize ≤ length (now ups)) × (listsSize ≤ length (now downs)) × (length (now marks) ≡ marksSize)
         × (workWords ≤ length (now work)) ⌝ }
     ensures { λ _. ⌜
-        (length (now (ups .exit)) ≡ length (now (ups .entry))) × (length (now (downs .exit)) ≡ length (now (downs .entry))) × (length (now (marks .exit)) ≡ 384)
+        (length (now (ups .exit)) ≡ length (now (ups .entry))) × (length (now (downs .exit)) ≡ length (now (downs .entry))) × (length (now (marks .exit)) ≡ marksSize)
         × ((N : Netlist) (tests : ℕ → Test) → CircuitTable N (now (table .entry)) (batch .inputs) (batch .nets) → PlaceTable N (now (places .entry))
         → length (N .outputs) ≡ batch .outputs → BlockOf tests (classOf (batch .class)) (batch .records) → VectorsOf N tests (batch .records) (now (vectors .entry))
         → MarksTrue N tests (batch .records) (now (ups .exit)) (now (downs .exit)) (now (marks .exit)))
