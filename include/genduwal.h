@@ -1,5 +1,5 @@
 /* Genduwal for C and C++: netlists, also from .bench text, path numbers, tests, stores of tested faults, coverage by length, reports and their
- * audit.
+ * audit, interval 2-3 trees of path numbers.
  *
  * Link target/staticlib/libexports.a (rt staticlib exports), on Linux x86-64; it needs memcpy and memset of the C library alone.
  *
@@ -21,6 +21,7 @@
  *   1  store not 4,099 words                     2  working memory under 8,192 words
  *   3  path buffer under 513 words               4  report buffer under 32,802 bytes, netlist buffer under 10,484 bytes
  *   4  buffer of a load under 2,304 bytes       11  inputs of a load not 1 to 64
+ *  87  tree under 32,768 words                  88  words that are no tree in its layout
  *  10  netlist: header cut off or its mark      11  inputs, gates, nets or outputs out of range
  *  12  gate cut off or its mark                 13  kind of gate
  *  14  pin count for the kind                   15  pin not from a lower net
@@ -32,11 +33,12 @@
  *  30  test record's length                     31  test record's mark
  *  32  spare bit set                            85  a pair without a changed input
  *  40  store: a number of runs over 1,024, tests taken over 4,294,967,295
- *  41  a run out of range or not after the one before, or runs and no tests taken
+ *  41  a run out of range or not after the one before, or runs and no tests taken; a run handed to a tree's call out of range
  *  42  word past the last run not zero          86  a test on a store with 4,294,967,295 tests taken
  *  84  coverage by length: a path to an output has more than 63 gates
- *  50  over 1,024 working runs of an edge       51  the store would have over 1,024 runs of an edge
- *  60  no such path or fault number             61  words are not a path of the netlist
+ *  50  over 1,024 working runs of an edge       51  the store would have over 1,024 runs of an edge, the tree over 1,024 runs
+ *  60  no such path or fault number, no such    61  words are not a path of the netlist
+ *      run in the tree
  *  70  report under 34 bytes or its mark        71  report's length
  *  72  another byte of the report differs
  *  80  .bench text: a line of another form      81  unknown or twice defined name or output
@@ -73,6 +75,9 @@ extern "C" {
 
 /* Least bytes of a buffer for one vector's records of a load. */
 #define GENDUWAL_LOAD_BYTES 2304
+
+/* Least words of a tree. */
+#define GENDUWAL_TREE_WORDS 32768
 
 /* The classes of tests: a test detects a fault non-robustly, or robustly (so that no other delay hides the fault; by the rule of Lin and
  * Reddy). Every robust fault of a test is also one of its non-robust faults. */
@@ -179,6 +184,56 @@ uint32_t genduwal_bench_to_netlist(const uint8_t *text, size_t text_len, uint8_t
  * those past the records stay as they were, and all of them where the call is refused.
  * Refusals: 4, 11. */
 uint32_t genduwal_load(uint32_t state, uint32_t inputs, uint8_t *records, size_t records_len, uint64_t answer[2]);
+
+/* An interval 2-3 tree holds up to 1,024 runs of path numbers, 1 to 2^62, of one edge, in 32,768 words or more; words past these are neither
+ * read nor written. A caller makes a tree of any words by genduwal_tree_empty and changes it by insert and delete alone; what stands in the
+ * words is said here so that 88 has a meaning.
+ *
+ * Words 0 to 2 are levels, root and free; word 3 may hold anything. An empty tree has zeros in words 0 to 2 and anything in the others. Else
+ * root is the word where the root stands, and free the first word that no node uses; all nodes stand in the half of the root, the words 4 to
+ * 16,383 or the words 16,384 to 32,767, before free. A leaf is 3 words: low and high of a run, and how many numbers it has. An inner node is 8
+ * words: the least number below it, the greatest, how many numbers the runs below it have, the least number below its second child and below
+ * its third (0 if it has two children), then the words where its children stand (0 for a third that it has not). There are 1 to 11 levels, all
+ * leaves are on the last, and their runs ascend, with at least one number between two of them. Words that no node uses may hold anything.
+ *
+ * A change writes new nodes from free on and leaves the others as they are. Where fewer than 1,100 words are left to it, it first copies the
+ * tree into the other half: so words freed by a deletion serve again, and a change is refused for its runs alone.
+ *
+ * Every call but emptying first checks all words of the tree (88), which costs more than the answer: a caller with many questions asks them
+ * together by genduwal_tree_holds_each.
+ *
+ * Empties a tree, of any words: words 0 to 2 become zero, no other is written.
+ * Refusals: 87. */
+uint32_t genduwal_tree_empty(uint64_t *tree, size_t tree_len);
+
+/* Inserts the run low..high, merged with all runs that overlap it or are adjacent. A refused call leaves the words as they were.
+ * Refusals: 87, 88, 41 (low 0, low over high, high over 2^62), 51. */
+uint32_t genduwal_tree_insert(uint64_t *tree, size_t tree_len, uint64_t low, uint64_t high);
+
+/* Deletes the run low..high, which must be stored with these two ends. A refused call leaves the words as they were.
+ * Refusals: 87, 88, 41 (low 0, low over high, high over 2^62), 60. */
+uint32_t genduwal_tree_delete(uint64_t *tree, size_t tree_len, uint64_t low, uint64_t high);
+
+/* Searches the least run that overlaps low..high; if there is none, the adjacent one with the least low. answer: 1, its low and its high; zeros
+ * if there is neither.
+ * Refusals: 87, 88, 41 (low 0, low over high, high over 2^62). */
+uint32_t genduwal_tree_search(const uint64_t *tree, size_t tree_len, uint64_t low, uint64_t high, uint64_t answer[3]);
+
+/* How many numbers the runs of a tree have. answer: that number.
+ * Refusals: 87, 88. */
+uint32_t genduwal_tree_total(const uint64_t *tree, size_t tree_len, uint64_t answer[1]);
+
+/* Whether a tree holds a path number. answer: 1 if it does, else 0; the nodes visited for the answer, root and leaf included: 0 in an empty
+ * tree, else its levels, at most 1 plus the greatest w with 2^w at most the runs held.
+ * Refusals: 87, 88, 60 (a number not 1 to 2^62). */
+uint32_t genduwal_tree_holds(const uint64_t *tree, size_t tree_len, uint64_t number, uint64_t answer[2]);
+
+/* The same for many numbers, with one check of the tree's words. answers: for each number 1 if it is held, 0 if not, 60 if it is not 1 to 2^62.
+ * As many numbers are answered as there are places; places past the last number stay as they were, and all of them where the call is refused.
+ * answer: the nodes visited for each.
+ * Refusals: 87, 88. */
+uint32_t genduwal_tree_holds_each(const uint64_t *tree, size_t tree_len, const uint64_t *numbers, size_t numbers_len, uint64_t *answers,
+                                  size_t answers_len, uint64_t answer[1]);
 
 #ifdef __cplusplus
 }

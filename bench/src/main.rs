@@ -1,6 +1,6 @@
 //! The verified library beside a peer that is written for speed, then beside its unverified twin: equal answers, and the processor time of all.
 //! Arguments: the folder of circuits, the file for the results, `--quick` for fewer repeats and records, `--audit` for the first table alone,
-//! `--load` for the load call alone.
+//! `--load` for the load call alone, `--tree` for the tree's calls alone.
 
 mod audits;
 mod bench_twin;
@@ -12,6 +12,7 @@ mod peer_store;
 mod peer_wide;
 mod texts;
 mod timing;
+mod trees;
 mod twin;
 mod verified;
 mod writer;
@@ -40,6 +41,10 @@ const CLASS_HEAD: &str = "\
 circuit      gates          T  records distinct  runs | class 1 ms | class 2 ms  twin ms ratio | to class 1";
 
 const GROWTH_HEAD: &str = "circuit      gates          T  records distinct  runs |  audit ms   twin ms ratio";
+
+const QUESTIONS_HEAD: &str = "runs visited |  holds ns   each ns   scan ns    map ns | check of the words";
+
+const CHANGES_HEAD: &str = "runs  changes | change ns    map ns | copies, one in";
 
 const LOADS_HEAD: &str = "inputs |  load MB/s  twin MB/s ratio";
 
@@ -328,6 +333,29 @@ fn loads_by_inputs(repeats: usize) -> String {
     results
 }
 
+/// The tree's calls: equal answers, then the time of a question and of a change by the runs held.
+fn trees_by_runs(repeats: usize) {
+    let mut random = Random::new(0x9E37_79B9_7F4A_7C15);
+    let compared = trees::compare(&mut random);
+    println!(
+        "\nA question to a tree, {compared} answers compared; check: what holds takes more than each\n{QUESTIONS_HEAD}"
+    );
+    for runs in trees::RUNS {
+        let trees::Questions { holds, each, scan, map, visited } = trees::questions(runs, repeats, &mut random);
+        let check = holds - each;
+        println!(
+            "{runs:4} {visited:7} | {holds:9.1} {each:9.1} {scan:9.1} {map:9.1} | {check:9.1} ({:.0} %)",
+            100.0 * check / holds
+        );
+    }
+    println!("\nA change: a run deleted and inserted in turn\n{CHANGES_HEAD}");
+    for runs in trees::RUNS {
+        let trees::Changes { tree, map, changes, copies } = trees::changes(runs, 100_000, &mut random);
+        let every = changes.checked_div(copies).map_or("-".to_string(), |every| every.to_string());
+        println!("{runs:4} {changes:8} | {tree:9.1} {map:9.1} | {copies:6} {every:>7}");
+    }
+}
+
 /// The tables, in turn, then the results file.
 fn main() {
     let words: Vec<String> = std::env::args().collect();
@@ -336,6 +364,10 @@ fn main() {
     let (repeats, records) = if quick { (1, 10_000) } else { (9, 100_000) };
     if asked("--load") {
         loads_by_inputs(repeats);
+        return;
+    }
+    if asked("--tree") {
+        trees_by_runs(repeats);
         return;
     }
     let audits = audits::table(&words[1], &CIRCUITS, if quick { 3 } else { 9 });
@@ -359,6 +391,7 @@ fn main() {
     bench.by_runs();
     bench.by_text();
     let loads = loads_by_inputs(repeats);
+    trees_by_runs(repeats);
     bench.results.push_str(&loads);
     bench.results.push_str(&audits);
     std::fs::write(&words[2], &bench.results).expect("the results file");

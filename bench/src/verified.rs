@@ -53,6 +53,21 @@ unsafe extern "C" {
         netlist_bytes: usize,
         answer: *mut u64,
     ) -> u32;
+    fn genduwal_tree_empty(tree: *mut u64, tree_words: usize) -> u32;
+    fn genduwal_tree_insert(tree: *mut u64, tree_words: usize, low: u64, high: u64) -> u32;
+    fn genduwal_tree_delete(tree: *mut u64, tree_words: usize, low: u64, high: u64) -> u32;
+    fn genduwal_tree_search(tree: *const u64, tree_words: usize, low: u64, high: u64, answer: *mut u64) -> u32;
+    fn genduwal_tree_total(tree: *const u64, tree_words: usize, answer: *mut u64) -> u32;
+    fn genduwal_tree_holds(tree: *const u64, tree_words: usize, number: u64, answer: *mut u64) -> u32;
+    fn genduwal_tree_holds_each(
+        tree: *const u64,
+        tree_words: usize,
+        numbers: *const u64,
+        numbers_words: usize,
+        answers: *mut u64,
+        answers_words: usize,
+        answer: *mut u64,
+    ) -> u32;
     fn genduwal_load(state: u32, inputs: u32, records: *mut u8, records_bytes: usize, answer: *mut u64) -> u32;
 }
 
@@ -167,4 +182,57 @@ pub fn load(state: u32, inputs: u32, records: &mut [u8]) -> Result<(u32, usize),
     let mut words = [0; 2];
     let refusal = unsafe { genduwal_load(state, inputs, records.as_mut_ptr(), records.len(), words.as_mut_ptr()) };
     answer(refusal, (words[0] as u32, words[1] as usize))
+}
+
+/// Empties a tree.
+pub fn tree_empty(tree: &mut [u64]) -> Result<(), u32> {
+    answer(unsafe { genduwal_tree_empty(tree.as_mut_ptr(), tree.len()) }, ())
+}
+
+/// Inserts a run into a tree.
+pub fn tree_insert(tree: &mut [u64], low: u64, high: u64) -> Result<(), u32> {
+    answer(unsafe { genduwal_tree_insert(tree.as_mut_ptr(), tree.len(), low, high) }, ())
+}
+
+/// Deletes a run from a tree.
+pub fn tree_delete(tree: &mut [u64], low: u64, high: u64) -> Result<(), u32> {
+    answer(unsafe { genduwal_tree_delete(tree.as_mut_ptr(), tree.len(), low, high) }, ())
+}
+
+/// The least overlapping run of a tree, else the adjacent one with the least low.
+pub fn tree_search(tree: &[u64], low: u64, high: u64) -> Result<Option<(u64, u64)>, u32> {
+    let mut words = [0; 3];
+    let refusal = unsafe { genduwal_tree_search(tree.as_ptr(), tree.len(), low, high, words.as_mut_ptr()) };
+    answer(refusal, (words[0] == 1).then_some((words[1], words[2])))
+}
+
+/// How many numbers a tree holds.
+pub fn tree_total(tree: &[u64]) -> Result<u64, u32> {
+    let mut total = 0;
+    let refusal = unsafe { genduwal_tree_total(tree.as_ptr(), tree.len(), &mut total) };
+    answer(refusal, total)
+}
+
+/// Whether a tree holds a number, and the nodes visited.
+pub fn tree_holds(tree: &[u64], number: u64) -> Result<(bool, u64), u32> {
+    let mut words = [0; 2];
+    let refusal = unsafe { genduwal_tree_holds(tree.as_ptr(), tree.len(), number, words.as_mut_ptr()) };
+    answer(refusal, (words[0] == 1, words[1]))
+}
+
+/// Whether a tree holds each of the numbers; the nodes visited for each.
+pub fn tree_holds_each(tree: &[u64], numbers: &[u64], answers: &mut [u64]) -> Result<u64, u32> {
+    let mut visited = 0;
+    let refusal = unsafe {
+        genduwal_tree_holds_each(
+            tree.as_ptr(),
+            tree.len(),
+            numbers.as_ptr(),
+            numbers.len(),
+            answers.as_mut_ptr(),
+            answers.len(),
+            &mut visited,
+        )
+    };
+    answer(refusal, visited)
 }

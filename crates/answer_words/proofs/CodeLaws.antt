@@ -50,6 +50,8 @@ code-refused why.UnknownClass = refl
 code-refused why.PathTooLong = refl
 code-refused why.UnchangedPair = refl
 code-refused why.TestsFull = refl
+code-refused why.TreeLength = refl
+code-refused why.TreeWords = refl
 
 pub code-zero : codeAnswer 0 ≡ value tt
 unfolding codeAnswer

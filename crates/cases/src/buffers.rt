@@ -24,10 +24,10 @@ pub(crate) fn record_buffer() -> [u8; 128]
 }
 
 // The cells of a script.
-pub(crate) fn cells_buffer() -> [u64; 65536]
-    ensures { λ r. ⌜ 65536 ≡ length r ⌝ }
+pub(crate) fn cells_buffer() -> [u64; 131072]
+    ensures { λ r. ⌜ 131072 ≡ length r ⌝ }
 {
-    [0; 65536]
+    [0; 131072]
 }
 
 // The words of a store with its copy, or of working memory.

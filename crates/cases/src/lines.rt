@@ -17,6 +17,7 @@ use script::inner::pages::length_at;
 use script::inner::pages::page_of;
 use script::inner::words::find_byte;
 use script::inner::words::key_of;
+use tree_questions::inner::asking::ask_tree;
 
 // What a line leaves: the lengths of the memory, and the tally.
 struct Done {
@@ -70,6 +71,10 @@ fn answer_to(
     let found = ask_memory(line, lengths, cells, store, work);
     if found.known {
         return found;
+    }
+    let told = ask_tree(line, lengths, cells);
+    if told.known {
+        return told;
     }
     ask_call(line, lengths, cells, store, work)
 }

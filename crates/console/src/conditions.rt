@@ -37,6 +37,7 @@ pub fn print_condition(fd: i32, why: Refusal) {
         Refusal::BenchLine | Refusal::BenchName | Refusal::BenchCount => print_bench(fd, why),
         Refusal::UnknownClass => print(fd, b"The class of the tests is neither 1 nor 2.\n"),
         Refusal::PathTooLong => print(fd, b"A path to an output has more than 63 gates.\n"),
+        Refusal::TreeLength | Refusal::TreeWords => print_tree(fd, why),
     }
 }
 
@@ -181,6 +182,15 @@ fn print_bench(fd: i32, why: Refusal) {
             fd,
             b"A number of pins, inputs (1 to 64), gates (to 511), both (to 512) or outputs (1 to 64) is out of range.\n",
         ),
+        _ => return,
+    }
+}
+
+// The conditions of trees.
+fn print_tree(fd: i32, why: Refusal) {
+    match why {
+        Refusal::TreeLength => print(fd, b"The tree has under 32,768 words.\n"),
+        Refusal::TreeWords => print(fd, b"The words are no tree in the layout.\n"),
         _ => return,
     }
 }

@@ -1,4 +1,6 @@
 // The calls of the papers for C: each returns 0, or the number of the refusal; a refused call leaves the answer words as they were.
+pub mod tree_calls;
+
 ghost use mathlib.Core.Path.{_≡_};
 ghost use Rattle.model.specs.Calls.{surveyCall, emptyCall, emptiedStore, totalsCall, faultCall, pathToNumberCall, numberToPathAnswer, numberToPathBuffer, testAnswer, testStore, WorkAfter};
 ghost use Rattle.model.specs.Report.{writerAnswer, writerBuffer, auditAnswer, auditStore};

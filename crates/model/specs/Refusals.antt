@@ -42,3 +42,5 @@ refusalNumber why.UnknownClass = 83
 refusalNumber why.PathTooLong = 84
 refusalNumber why.UnchangedPair = 85
 refusalNumber why.TestsFull = 86
+refusalNumber why.TreeLength = 87
+refusalNumber why.TreeWords = 88

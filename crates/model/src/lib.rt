@@ -74,6 +74,8 @@ pub enum Refusal {
     PathTooLong,
     UnchangedPair,
     TestsFull,
+    TreeLength,
+    TreeWords,
 }
 
 // Class 1 or 2.
@@ -125,5 +127,7 @@ pub fn refusal_number(why: Refusal) -> u32
         Refusal::PathTooLong => 84,
         Refusal::UnchangedPair => 85,
         Refusal::TestsFull => 86,
+        Refusal::TreeLength => 87,
+        Refusal::TreeWords => 88,
     }
 }

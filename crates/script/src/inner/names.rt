@@ -13,6 +13,8 @@ pub(crate) const WORK: u64 = 0x776f726b;
 
 pub(crate) const PATH: u64 = 0x70617468;
 
+pub(crate) const TREE: u64 = 0x74726565;
+
 // What is done with memory.
 pub(crate) const CHAIN: u64 = 0x636861696e;
 

@@ -5,10 +5,11 @@ use crate::inner::names::PATH;
 use crate::inner::names::REPORT;
 use crate::inner::names::STORE;
 use crate::inner::names::TESTS;
+use crate::inner::names::TREE;
 use crate::inner::names::WORK;
 
 // The cells of all others.
-pub const CELLS: usize = 65536;
+pub const CELLS: usize = 131072;
 
 // Where a memory's cells begin and end, the greatest word that a cell may have, and the place of its length among the lengths.
 pub struct Page {
@@ -35,6 +36,8 @@ pub const PATH_PLACE: usize = 4;
 
 pub const WORK_PLACE: usize = 5;
 
+pub const TREE_PLACE: usize = 6;
+
 // The words of the greatest store. A copy of the store that is kept follows after them.
 pub const STORE_WORDS: usize = 8192;
 
@@ -46,6 +49,8 @@ pub const TESTS_START: usize = 12288;
 pub const PATH_START: usize = 13312;
 
 pub const REPORT_START: usize = 14336;
+
+pub const TREE_START: usize = 65536;
 
 // A page.
 fn page_at(start: usize, end: usize, most: u64, place: usize) -> Page {
@@ -63,7 +68,8 @@ pub fn page_of(name: u64) -> Page {
         NETLIST => page_at(NETLIST_START, TESTS_START, 255, NETLIST_PLACE),
         TESTS => page_at(TESTS_START, PATH_START, 255, TESTS_PLACE),
         PATH => page_at(PATH_START, REPORT_START, 65535, PATH_PLACE),
-        REPORT => page_at(REPORT_START, CELLS, 255, REPORT_PLACE),
+        REPORT => page_at(REPORT_START, TREE_START, 255, REPORT_PLACE),
+        TREE => page_at(TREE_START, CELLS, u64::MAX, TREE_PLACE),
         STORE => page_at(0, 0, 0, STORE_PLACE),
         WORK => page_at(0, 0, 0, WORK_PLACE),
         _ => page_at(0, 0, 0, 7),

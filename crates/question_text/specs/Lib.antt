@@ -1,0 +1,3 @@
+-- Questions for faults, one on each line of a text, and their answers.
+pub mod Questions
+pub mod Pieces

@@ -1,0 +1,2 @@
+-- The walk over questions.
+pub mod InputSteps

@@ -1,0 +1,2 @@
+-- The walk over questions that are read piece by piece.
+pub mod InputWalk

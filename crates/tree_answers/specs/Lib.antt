@@ -1,0 +1,2 @@
+-- What the calls on a tree answer, as a C caller finds it.
+pub mod AnswerWords

@@ -1,0 +1,5 @@
+pub mod HoldsLaws
+pub mod CutCases
+pub mod RebuildLaws
+pub mod BetweenCases
+pub mod ChangeCases

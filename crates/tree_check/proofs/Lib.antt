@@ -1,0 +1,6 @@
+pub mod TestCases
+pub mod NodeTestCases
+pub mod TreeTestCases
+pub mod CountCases
+pub mod HeadCases
+pub mod TreeLaws

@@ -1,0 +1,1 @@
+-- The definitions of the check stand in tree_words.

@@ -1,0 +1,3 @@
+pub mod FoundLaws
+pub mod VisitCases
+pub mod ReachCases

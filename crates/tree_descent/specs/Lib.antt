@@ -1,0 +1,2 @@
+-- what our own functions promise each other
+pub mod Descent

@@ -1,0 +1,2 @@
+-- The runs of a store as trees.
+pub mod TreesOfStore

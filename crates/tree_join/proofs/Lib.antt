@@ -1,0 +1,4 @@
+pub mod GroupCases
+pub mod AttachCases
+pub mod JoinCases
+pub mod TreeCases

@@ -1,0 +1,3 @@
+pub mod asking;
+mod calls;
+mod names;

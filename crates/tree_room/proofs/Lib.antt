@@ -1,0 +1,2 @@
+pub mod PlantLaws
+pub mod RoomCases

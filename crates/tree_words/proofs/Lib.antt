@@ -1,0 +1,6 @@
+pub mod NodePutLaws
+pub mod NodeLaws
+pub mod SepLaws
+pub mod MakeLaws
+pub mod ChildLaws
+pub mod KeepLaws
