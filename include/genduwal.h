@@ -1,5 +1,5 @@
-/* Genduwal for C and C++: netlists, also from .bench text, path numbers, tests, stores of tested faults, coverage by length, reports and their
- * audit, interval 2-3 trees of path numbers.
+/* Genduwal for C and C++: netlists, also from .bench text, path numbers, tests, stores of tested faults, coverage by length, what a viewer sees of
+ * a store, reports and their audit, interval 2-3 trees of path numbers.
  *
  * Link target/staticlib/libexports.a (rt staticlib exports), on Linux x86-64; it needs memcpy and memset of the C library alone.
  *
@@ -15,10 +15,12 @@
  *
  * No call uses a heap. genduwal_audit and genduwal_audit_piece need some 370,000 bytes of stack (measured, both classes), of which 270,336
  * are the lists of 64 records; genduwal_lengths some 276,000, of which 262,144 are the rows of 512 nets; genduwal_number_to_path and
- * genduwal_path_to_number up to 68,000 (a path of 511 gates), the others up to 16,000.
+ * genduwal_path_to_number up to 68,000 (a path of 511 gates), genduwal_viewer_runs some 42,000, of which 34,816 are the runs of both edges,
+ * genduwal_viewer_totals some 24,000, the others up to 16,000.
  *
  * Refusals, in the order in which they are looked for:
- *   1  store not 4,099 words                     2  working memory under 8,192 words
+ *   1  store (a viewer's second one, too) not 4,099 words
+ *   2  working memory under 8,192 words
  *   3  path buffer under 513 words               4  report buffer under 32,802 bytes, netlist buffer under 10,484 bytes
  *   4  buffer of a load under 2,304 bytes       11  inputs of a load not 1 to 64
  *  87  tree under 32,768 words                  88  words that are no tree in its layout
@@ -36,9 +38,12 @@
  *  41  a run out of range or not after the one before, or runs and no tests taken; a run handed to a tree's call out of range
  *  42  word past the last run not zero          86  a test on a store with 4,294,967,295 tests taken
  *  84  coverage by length: a path to an output has more than 63 gates
- *  50  over 1,024 working runs of an edge       51  the store would have over 1,024 runs of an edge, the tree over 1,024 runs
+ *  89  a viewer's places: none, not strictly ascending, or one that is not below the number of outputs
+ *  50  over 1,024 working runs of an edge
+ *  51  the store (a viewer's second one, too) would have over 1,024 runs of an edge, the tree over 1,024 runs
  *  60  no such path or fault number, no such    61  words are not a path of the netlist
  *      run in the tree
+ *  90  a fault of another output than the viewer's
  *  70  report under 34 bytes or its mark        71  report's length
  *  72  another byte of the report differs
  *  80  .bench text: a line of another form      81  unknown or twice defined name or output
@@ -118,6 +123,23 @@ uint32_t genduwal_lengths(const uint8_t *netlist, size_t netlist_len, const uint
  * Refusals: 1, 10 to 15, 17 to 21, 40 to 42, 60. */
 uint32_t genduwal_holds(const uint8_t *netlist, size_t netlist_len, const uint64_t *store, size_t store_len, uint64_t fault,
                         uint64_t answer[1]);
+
+/* What a viewer may see of a store of 4,099 words: the faults of paths that end at his outputs. places: the outputs' places, from 0, strictly
+ * ascending. Path numbers and T are those of the whole netlist. answer: the number of rising, then of falling faults.
+ * Refusals: 1, 10 to 15, 17 to 21, 40 to 42, 89. */
+uint32_t genduwal_viewer_totals(const uint8_t *netlist, size_t netlist_len, const uint64_t *store, size_t store_len, const uint16_t *places,
+                                size_t places_len, uint64_t answer[2]);
+
+/* Whether the store holds a fault of one of the viewer's outputs. answer: 1 if it does, else 0.
+ * Refusals: 1, 10 to 15, 17 to 21, 40 to 42, 89, 60, 90. */
+uint32_t genduwal_viewer_holds(const uint8_t *netlist, size_t netlist_len, const uint64_t *store, size_t store_len, const uint16_t *places,
+                               size_t places_len, uint64_t fault, uint64_t answer[1]);
+
+/* Writes the runs that the viewer sees into view, a second store of 4,099 words, whatever they hold, with the store's number of tests. A refused
+ * call leaves them as they were.
+ * Refusals: 1 (either store), 10 to 15, 17 to 21, 40 to 42, 89, 51. */
+uint32_t genduwal_viewer_runs(const uint8_t *netlist, size_t netlist_len, const uint64_t *store, size_t store_len, const uint16_t *places,
+                              size_t places_len, uint64_t *view, size_t view_len);
 
 /* The number of a path. path: the output's place, the number n of pins, then n pins from the output back; path_len is exactly 2 + n.
  * answer: the path's number, from 1.

@@ -52,6 +52,8 @@ code-refused why.UnchangedPair = refl
 code-refused why.TestsFull = refl
 code-refused why.TreeLength = refl
 code-refused why.TreeWords = refl
+code-refused why.ViewerPlaces = refl
+code-refused why.ForeignFault = refl
 
 pub code-zero : codeAnswer 0 ≡ value tt
 unfolding codeAnswer

@@ -31,14 +31,14 @@ module _ (netlist : List ℕ) (N : Netlist) (e : readNetlist netlist ≡ value N
       let q = steps (testCall netlist (m .call .class) (m .call .rec) (s .store) (m .call .work)) (λ r. value (r .returned)) (sym p ∙ t .is) in
       record { tested = q .got; answer = q .first }
 
-  each-taken : (ms : List MadeCall) (s : State) → Promised netlist (s .store) ms → AllCallsTaken ms → EachTaken netlist N s (callsOf ms)
+  pub each-taken : (ms : List MadeCall) (s : State) → Promised netlist (s .store) ms → AllCallsTaken ms → EachTaken netlist N s (callsOf ms)
   each-taken [] s p k = tt
   each-taken (m ∷ ms) s p k = (
     taken-at m s (p .0 .answer) (k .0),
     each-taken ms (next netlist N s (m .call)) (subst (λ ws. Promised netlist ws ms) (p .0 .store) (p .1)) (k .1),
   )
 
-  store-is : (ms : List MadeCall) → Promised netlist emptyStore ms → afterCalls netlist N start (callsOf ms) .store ≡ lastStore emptyStore ms
+  pub store-is : (ms : List MadeCall) → Promised netlist emptyStore ms → afterCalls netlist N start (callsOf ms) .store ≡ lastStore emptyStore ms
   store-is ms p = ap (λ (s : State). s .store) (state-after netlist N ms start p)
 
   orders : (ms ks : List MadeCall) → Promised netlist emptyStore ms → Promised netlist emptyStore ks → AllCallsTaken ms → AllCallsTaken ks

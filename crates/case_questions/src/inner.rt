@@ -3,4 +3,5 @@ mod by_length;
 mod calls;
 mod names;
 pub mod reading;
+pub mod viewing;
 pub mod writing;

@@ -13,6 +13,7 @@ use script::inner::cells::Length;
 use script::inner::memory::ask_memory;
 use script::inner::memory::set_memory;
 use script::inner::pages::Lengths;
+use script::inner::pages::MEMORIES;
 use script::inner::pages::length_at;
 use script::inner::pages::page_of;
 use script::inner::words::find_byte;
@@ -35,7 +36,7 @@ fn with_length(line: &[u8], before: Done, place: usize, set: Length) -> Done {
             tally: wrong_line(line, tally, unknown()),
         };
     }
-    if 8 <= place {
+    if MEMORIES <= place {
         return before;
     }
     let mut longer = lengths;
@@ -126,7 +127,7 @@ fn run_line(
 // Before the first line: no memory and no comparison.
 fn start() -> Done {
     Done {
-        lengths: Lengths { of: [0; 8] },
+        lengths: Lengths { of: [0; MEMORIES] },
         tally: Tally {
             line: 0,
             compared: 0,

@@ -2,6 +2,7 @@
 use crate::buffers::netlist_buffer;
 use crate::storing::ask_storing;
 use case_questions::inner::reading::ask_reading;
+use case_questions::inner::viewing::ask_viewing;
 use case_questions::inner::writing::ask_writing;
 use script::inner::answers::Answer;
 use script::inner::answers::unknown;
@@ -41,6 +42,10 @@ fn ask_lent(
     let written = ask_writing(line, netlist, lengths, store, cells);
     if written.known {
         return written;
+    }
+    let viewed = ask_viewing(line, netlist, lengths, store, cells);
+    if viewed.known {
+        return viewed;
     }
     ask_storing(
         line,

@@ -38,6 +38,7 @@ pub fn print_condition(fd: i32, why: Refusal) {
         Refusal::UnknownClass => print(fd, b"The class of the tests is neither 1 nor 2.\n"),
         Refusal::PathTooLong => print(fd, b"A path to an output has more than 63 gates.\n"),
         Refusal::TreeLength | Refusal::TreeWords => print_tree(fd, why),
+        Refusal::ViewerPlaces | Refusal::ForeignFault => print_viewer(fd, why),
     }
 }
 
@@ -191,6 +192,18 @@ fn print_tree(fd: i32, why: Refusal) {
     match why {
         Refusal::TreeLength => print(fd, b"The tree has under 32,768 words.\n"),
         Refusal::TreeWords => print(fd, b"The words are no tree in the layout.\n"),
+        _ => return,
+    }
+}
+
+// The conditions of viewers.
+fn print_viewer(fd: i32, why: Refusal) {
+    match why {
+        Refusal::ViewerPlaces => print(
+            fd,
+            b"The list of output places is empty, not strictly ascending or names no output.\n",
+        ),
+        Refusal::ForeignFault => print(fd, b"The fault is that of another output.\n"),
         _ => return,
     }
 }

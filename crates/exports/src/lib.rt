@@ -9,6 +9,7 @@ ghost use Rattle.load.specs.Calls.{loadAnswer, loadBuffer};
 ghost use Rattle.length_rows.specs.Lengths.{lengthWords, lengthsCall};
 ghost use Rattle.pieces.specs.Calls.{pieceAnswer, pieceLeft, PieceWork, endAnswer, endStore};
 ghost use Rattle.bench_text.specs.Calls.{convertAnswer, convertBuffer};
+ghost use Rattle.viewer_places.specs.Viewer.{viewerTotalsCall, viewerRunsAnswer, viewerRunsStore, viewerFaultCall};
 ghost use Rattle.answer_words.specs.Codes.{codeAnswer, Answered, surveyWords, edgeWords, countWords, numberWord, boolWord};
 ghost use Rattle.answers.specs.Answers.{allTaken, loadWords};
 use faults::FaultNo;
@@ -83,6 +84,50 @@ pub extern "C" fn genduwal_holds(
 {
     let held = store::fault_in_store(netlist, store, FaultNo(fault));
     store_answers::held_code(held, answer)
+}
+
+// The number of rising, then of falling faults that a store holds, of paths that end at a viewer's outputs.
+#[no_mangle]
+pub extern "C" fn genduwal_viewer_totals(
+    netlist: &[u8],
+    store: &[u64],
+    places: &[u16],
+    answer: &mut [u64; 2],
+) -> u32
+    ensures { λ r. ⌜ Answered (viewerTotalsCall (now (netlist .entry)) (now (store .entry)) (now (places .entry))) edgeWords r (now (answer .entry)) (now (answer .exit)) ⌝ }
+{
+    let totals = viewer::viewer_totals(netlist, store, places);
+    store_answers::totals_code(totals, answer)
+}
+
+// Whether a store holds a fault of one of a viewer's outputs: 1 if it does, else 0.
+#[no_mangle]
+pub extern "C" fn genduwal_viewer_holds(
+    netlist: &[u8],
+    store: &[u64],
+    places: &[u16],
+    fault: u64,
+    answer: &mut [u64; 1],
+) -> u32
+    ensures { λ r. ⌜ Answered (viewerFaultCall (now (netlist .entry)) (now (store .entry)) (now (places .entry)) fault) boolWord r (now (answer .entry)) (now (answer .exit)) ⌝ }
+{
+    let held = viewer::viewer_holds(netlist, store, places, FaultNo(fault));
+    store_answers::held_code(held, answer)
+}
+
+// Writes the runs of a store that a viewer sees into a second one, of any words.
+#[no_mangle]
+pub extern "C" fn genduwal_viewer_runs(
+    netlist: &[u8],
+    store: &[u64],
+    places: &[u16],
+    view: &mut [u64],
+) -> u32
+    ensures { λ r. ⌜ codeAnswer r ≡ viewerRunsAnswer (now (netlist .entry)) (now (store .entry)) (now (view .entry)) (now (places .entry)) ⌝ }
+    ensures { λ _. ⌜ now (view .exit) ≡ viewerRunsStore (now (netlist .entry)) (now (store .entry)) (now (view .entry)) (now (places .entry)) ⌝ }
+{
+    let written = viewer::viewer_runs(netlist, store, places, view);
+    store_answers::view_code(written)
 }
 
 // The number of the path in the words.

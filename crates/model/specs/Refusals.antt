@@ -44,3 +44,5 @@ refusalNumber why.UnchangedPair = 85
 refusalNumber why.TestsFull = 86
 refusalNumber why.TreeLength = 87
 refusalNumber why.TreeWords = 88
+refusalNumber why.ViewerPlaces = 89
+refusalNumber why.ForeignFault = 90

@@ -76,6 +76,8 @@ pub enum Refusal {
     TestsFull,
     TreeLength,
     TreeWords,
+    ViewerPlaces,
+    ForeignFault,
 }
 
 // Class 1 or 2.
@@ -129,5 +131,7 @@ pub fn refusal_number(why: Refusal) -> u32
         Refusal::TestsFull => 86,
         Refusal::TreeLength => 87,
         Refusal::TreeWords => 88,
+        Refusal::ViewerPlaces => 89,
+        Refusal::ForeignFault => 90,
     }
 }

@@ -22,6 +22,9 @@ use Rattle.coverage.specs.declared.TestAnswer.{TestAnswer}
 use Rattle.coverage.specs.declared.TestAnswer.the-variants as test
 use Rattle.lengths.specs.declared.LengthRows.{LengthRows}
 use Rattle.lengths.specs.declared.LengthsAnswer.the-variants as lengths
+use Rattle.viewer.specs.ViewAnswers.{viewOf}
+use Rattle.viewer.specs.declared.ViewAnswer.{ViewAnswer}
+use Rattle.viewer.specs.declared.ViewAnswer.the-variants as view
 use Rattle.answer_words.specs.Codes.{codeAnswer, Answered, edgeWords, countWords, numberWord, boolWord}
 use Rattle.length_rows.specs.Lengths.{rowWords, lengthWords}
 use Rattle.answer_words.proofs.CodeLaws.{code-refused, code-zero, answered-refused, answered-value}
@@ -34,10 +37,18 @@ module _ (code : ℕ) (w : Refusal) (q : code ≡ refusalNumber w) where
   pub empty-refused : (r : EmptyAnswer) → r ≡ empty.Refused w → codeAnswer code ≡ emptyOf r
   empty-refused r p = rw (q, p) (code-refused w)
 
+  pub view-refused : (r : ViewAnswer) → r ≡ view.Refused w → codeAnswer code ≡ viewOf r
+  view-refused r p = rw (q, p) (code-refused w)
+
 pub empty-done : (r : EmptyAnswer) → r ≡ empty.Emptied → codeAnswer 0 ≡ emptyOf r
 empty-done r p = rw p code-zero
 
+pub view-done : (r : ViewAnswer) → r ≡ view.Written → codeAnswer 0 ≡ viewOf r
+view-done r p = rw p code-zero
+
 pub ruleset empty-cases = (empty-refused, empty-done, needs)
+
+pub ruleset view-cases = (view-refused, view-done, needs)
 
 -- ---- Answers with words: a call that was refused leaves them as they were
 

@@ -5,6 +5,7 @@ ghost use Rattle.store.specs.Answers.{emptyOf, totalsOf, heldOf};
 ghost use Rattle.coverage.specs.TestCall.{testedOf};
 ghost use Rattle.answer_words.specs.Codes.{codeAnswer, Answered, edgeWords, countWords, boolWord};
 ghost use Rattle.length_rows.specs.Lengths.{lengthWords};
+ghost use Rattle.viewer.specs.ViewAnswers.{viewOf};
 ghost use Rattle.store_answers.specs.Answers.{lengthsOf};
 use answer_words::inner::put_number;
 use answer_words::inner::put_rows;
@@ -15,6 +16,7 @@ use model::refusal_number;
 use store::EmptyAnswer;
 use store::HeldAnswer;
 use store::TotalsAnswer;
+use viewer::ViewAnswer;
 
 // Emptying a store.
 pub fn empty_code(emptied: EmptyAnswer) -> u32
@@ -84,5 +86,15 @@ pub fn held_code(held: HeldAnswer, answer: &mut [u64; 1]) -> u32
         HeldAnswer::Refused(why) => refusal_number(why),
         HeldAnswer::Held => put_number(1, answer),
         HeldAnswer::NotHeld => put_number(0, answer),
+    }
+}
+
+// A viewer's runs.
+pub fn view_code(written: ViewAnswer) -> u32
+    ensures { λ r. ⌜ codeAnswer r ≡ viewOf written ⌝ }
+{
+    match written {
+        ViewAnswer::Refused(why) => refusal_number(why),
+        ViewAnswer::Written => 0,
     }
 }

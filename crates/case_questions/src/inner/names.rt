@@ -29,3 +29,7 @@ pub(crate) const LENGTHS: u64 = 0x6c656e67746873;
 pub(crate) const PATHS: u64 = 0x7061746873;
 
 pub(crate) const HELD: u64 = 0x68656c64;
+
+pub(crate) const VIEWER: u64 = 0x766965776572;
+
+pub(crate) const RUNS: u64 = 0x72756e73;

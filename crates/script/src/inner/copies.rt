@@ -1,4 +1,4 @@
-// Bytes and the words of a path, out of cells and back into them.
+// Bytes and words of 16 bits, those of a path or a viewer's places, out of cells and back into them.
 
 // The bytes in cells, as many as there are and as there is space for.
 pub fn load_bytes(cells: &[u64], bytes: &mut [u8]) {
@@ -29,7 +29,7 @@ pub fn save_bytes(bytes: &[u8], cells: &mut [u64]) {
     }
 }
 
-// The words of a path in cells, as many as there are and as there is space for.
+// The words of 16 bits in cells, as many as there are and as there is space for.
 pub fn load_path(cells: &[u64], path: &mut [u16]) {
     let mut at = 0;
     while at < cells.len() {

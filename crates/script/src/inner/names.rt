@@ -15,6 +15,10 @@ pub(crate) const PATH: u64 = 0x70617468;
 
 pub(crate) const TREE: u64 = 0x74726565;
 
+pub(crate) const VIEW: u64 = 0x76696577;
+
+pub(crate) const PLACES: u64 = 0x706c61636573;
+
 // What is done with memory.
 pub(crate) const CHAIN: u64 = 0x636861696e;
 

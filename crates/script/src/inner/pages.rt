@@ -2,10 +2,12 @@
 ghost use Prim.Native.Nat.{_≤_};
 use crate::inner::names::NETLIST;
 use crate::inner::names::PATH;
+use crate::inner::names::PLACES;
 use crate::inner::names::REPORT;
 use crate::inner::names::STORE;
 use crate::inner::names::TESTS;
 use crate::inner::names::TREE;
+use crate::inner::names::VIEW;
 use crate::inner::names::WORK;
 
 // The cells of all others.
@@ -21,8 +23,10 @@ pub struct Page {
 
 // How many cells of each memory the calls are handed, by the places below.
 pub struct Lengths {
-    pub of: [usize; 8],
+    pub of: [usize; MEMORIES],
 }
+
+pub const MEMORIES: usize = 9;
 
 pub const NETLIST_PLACE: usize = 0;
 
@@ -38,6 +42,10 @@ pub const WORK_PLACE: usize = 5;
 
 pub const TREE_PLACE: usize = 6;
 
+pub const VIEW_PLACE: usize = 7;
+
+pub const PLACES_PLACE: usize = 8;
+
 // The words of the greatest store. A copy of the store that is kept follows after them.
 pub const STORE_WORDS: usize = 8192;
 
@@ -49,6 +57,10 @@ pub const TESTS_START: usize = 12288;
 pub const PATH_START: usize = 13312;
 
 pub const REPORT_START: usize = 14336;
+
+pub const VIEW_START: usize = 57216;
+
+pub const PLACES_START: usize = 65408;
 
 pub const TREE_START: usize = 65536;
 
@@ -68,18 +80,20 @@ pub fn page_of(name: u64) -> Page {
         NETLIST => page_at(NETLIST_START, TESTS_START, 255, NETLIST_PLACE),
         TESTS => page_at(TESTS_START, PATH_START, 255, TESTS_PLACE),
         PATH => page_at(PATH_START, REPORT_START, 65535, PATH_PLACE),
-        REPORT => page_at(REPORT_START, TREE_START, 255, REPORT_PLACE),
+        REPORT => page_at(REPORT_START, VIEW_START, 255, REPORT_PLACE),
+        VIEW => page_at(VIEW_START, PLACES_START, u64::MAX, VIEW_PLACE),
+        PLACES => page_at(PLACES_START, TREE_START, 65535, PLACES_PLACE),
         TREE => page_at(TREE_START, CELLS, u64::MAX, TREE_PLACE),
         STORE => page_at(0, 0, 0, STORE_PLACE),
         WORK => page_at(0, 0, 0, WORK_PLACE),
-        _ => page_at(0, 0, 0, 7),
+        _ => page_at(0, 0, 0, MEMORIES),
     }
 }
 
 // The length of a memory, by its place.
 pub fn length_at(lengths: Lengths, place: usize) -> usize {
     let of = lengths.of;
-    if 8 <= place {
+    if MEMORIES <= place {
         return 0;
     }
     of[place]

@@ -1,0 +1,2 @@
+-- What two lists of runs have in common.
+pub mod Meets

@@ -1,0 +1,2 @@
+-- What is claimed over several calls of the library.
+pub mod ViewerCalls

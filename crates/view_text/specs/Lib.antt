@@ -1,0 +1,3 @@
+-- What a viewer is shown.
+pub mod ViewText
+pub mod ViewExamples

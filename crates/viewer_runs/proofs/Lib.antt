@@ -1,0 +1,3 @@
+-- The cases of each function.
+pub mod SeenRunCases
+pub mod ViewWriteCases

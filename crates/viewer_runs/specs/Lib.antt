@@ -1,0 +1,2 @@
+-- Runs of both edges.
+pub mod ViewRuns

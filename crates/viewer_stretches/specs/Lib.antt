@@ -1,0 +1,2 @@
+-- What a viewer sees, by stretches of path numbers.
+pub mod Stretches

@@ -1,0 +1,2 @@
+// The stretches of path numbers that a viewer sees, for our own crates only.
+pub mod inner;
