@@ -30,7 +30,7 @@
  *  17  count of a net over 2^62                 18  output cut off or its mark
  *  19  no such net, or not higher               21  paths of the outputs over 2^62
  *  20  bytes left over after the netlist
- *  83  class of tests neither 1 nor 2
+ *  83  class of tests neither 1 nor 2           91  all pairs: over 6 inputs
  *  33  test file not whole records, or over 4,294,967,295 of them
  *  30  test record's length                     31  test record's mark
  *  32  spare bit set                            85  a pair without a changed input
@@ -111,6 +111,15 @@ uint32_t genduwal_test(const uint8_t *netlist, size_t netlist_len, const uint8_t
 /* The faults that a store of 4,099 words holds. answer: rising faults, falling faults.
  * Refusals: 1, 10 to 15, 17 to 21, 40 to 42. */
 uint32_t genduwal_totals(const uint8_t *netlist, size_t netlist_len, const uint64_t *store, size_t store_len, uint64_t answer[2]);
+
+/* Everything that tests of a small block can show: empties the store unread and applies every legal pair of vectors of a netlist of up to 6
+ * inputs in one class, V1 counted upward and V2 upward within it, input 0 the low bit, equal pairs skipped. The store then holds exactly the
+ * faults that some legal test of the class detects, and counts the pairs. answer: rising faults, falling faults. store is 4,099 words, of any
+ * content; work is at least 8,192 words, used as by a test. A call refused with 50 or 51 leaves the store all zeros, another refusal leaves
+ * store and working memory as they were.
+ * Refusals: 1, 2, 10 to 15, 17 to 21, 83, 91, then for one pair after another 50, 51. */
+uint32_t genduwal_exhaust(const uint8_t *netlist, size_t netlist_len, uint32_t test_class, uint64_t *store, size_t store_len, uint64_t *work,
+                          size_t work_len, uint64_t answer[2]);
 
 /* Coverage by length: how many paths of each number of gates there are, and how many of their faults a store of 4,099 words holds. answer: for
  * rising 64 numbers of paths, of 0 to 63 gates, then 64 of faults held; the same for falling. A path has the same length for both edges, so

@@ -1,10 +1,11 @@
 //! The verified library beside a peer that is written for speed, then beside its unverified twin: equal answers, and the processor time of all.
 //! Arguments: the folder of circuits, the file for the results, `--quick` for fewer repeats and records, `--audit` for the first table alone,
-//! `--load` for the load call alone, `--tree` for the tree's calls alone.
+//! `--load` for the load call alone, `--tree` for the tree's calls alone, `--exhaust` for all pairs of a small block alone.
 
 mod audits;
 mod bench_twin;
 mod compare;
+mod exhaustive;
 mod loads;
 mod peer;
 mod peer_netlist;
@@ -370,6 +371,11 @@ fn main() {
         trees_by_runs(repeats);
         return;
     }
+    let turns = if quick { 100 } else { 2_000 };
+    if asked("--exhaust") {
+        exhaustive::table(turns);
+        return;
+    }
     let audits = audits::table(&words[1], &CIRCUITS, if quick { 3 } else { 9 });
     if asked("--audit") {
         return;
@@ -392,6 +398,7 @@ fn main() {
     bench.by_text();
     let loads = loads_by_inputs(repeats);
     trees_by_runs(repeats);
+    exhaustive::table(turns);
     bench.results.push_str(&loads);
     bench.results.push_str(&audits);
     std::fs::write(&words[2], &bench.results).expect("the results file");

@@ -17,6 +17,16 @@ unsafe extern "C" {
         work_words: usize,
         answer: *mut u64,
     ) -> u32;
+    fn genduwal_exhaust(
+        netlist: *const u8,
+        netlist_bytes: usize,
+        class: u32,
+        store: *mut u64,
+        store_words: usize,
+        work: *mut u64,
+        work_words: usize,
+        answer: *mut u64,
+    ) -> u32;
     fn genduwal_totals(
         netlist: *const u8,
         netlist_bytes: usize,
@@ -166,6 +176,24 @@ pub fn audit(
         )
     };
     answer(refusal, ())
+}
+
+/// All pairs of vectors in a class: the totals.
+pub fn exhaust(netlist: &[u8], class: u32, store: &mut [u64], work: &mut [u64]) -> Result<[u64; 2], u32> {
+    let mut totals = [0; 2];
+    let refusal = unsafe {
+        genduwal_exhaust(
+            netlist.as_ptr(),
+            netlist.len(),
+            class,
+            store.as_mut_ptr(),
+            store.len(),
+            work.as_mut_ptr(),
+            work.len(),
+            totals.as_mut_ptr(),
+        )
+    };
+    answer(refusal, totals)
 }
 
 /// The converter from .bench text: the length of the netlist file.

@@ -54,6 +54,7 @@ code-refused why.TreeLength = refl
 code-refused why.TreeWords = refl
 code-refused why.ViewerPlaces = refl
 code-refused why.ForeignFault = refl
+code-refused why.TooManyInputs = refl
 
 pub code-zero : codeAnswer 0 ≡ value tt
 unfolding codeAnswer

@@ -1,10 +1,12 @@
 // The public calls that write a store, each with its answer as numbers.
 use coverage::TestAnswer;
+use exhaust::ExhaustAnswer;
 use file_judging::AuditAnswer;
 use script::inner::answers::Answer;
 use script::inner::answers::accepted;
 use script::inner::answers::four;
 use script::inner::answers::refused_by;
+use script::inner::answers::two;
 use store::EmptyAnswer;
 use test_call::apply_test;
 
@@ -50,5 +52,14 @@ pub(crate) fn audit(
     match answer {
         AuditAnswer::Accepted => accepted(),
         AuditAnswer::Refused(why) => refused_by(why),
+    }
+}
+
+// All pairs of vectors in a class: rising faults, falling faults.
+pub(crate) fn exhaust(netlist: &[u8], class: u32, store: &mut [u64], work: &mut [u64]) -> Answer {
+    let answer = exhaust::exhaust(netlist, class, store, work);
+    match answer {
+        ExhaustAnswer::Totals { rising, falling } => two(rising, falling),
+        ExhaustAnswer::Refused(why) => refused_by(why),
     }
 }

@@ -9,3 +9,5 @@ pub(crate) const EMPTY: u64 = 0x656d707479;
 pub(crate) const AUDIT: u64 = 0x6175646974;
 
 pub(crate) const CLASS: u64 = 0x636c617373;
+
+pub(crate) const EXHAUST: u64 = 0x65786861757374;

@@ -5,6 +5,7 @@ use crate::calls;
 use crate::names::AUDIT;
 use crate::names::CLASS;
 use crate::names::EMPTY;
+use crate::names::EXHAUST;
 use crate::names::FIRST;
 use crate::names::TEST;
 use case_questions::inner::buffers::tests_buffer;
@@ -89,6 +90,20 @@ fn ask_audit(
     unknown()
 }
 
+// `exhaust`.
+fn ask_exhaust(
+    class: u32,
+    numbers: Numbers,
+    netlist: &[u8],
+    store: &mut [u64],
+    work: &mut [u64],
+) -> Answer {
+    if are(numbers, 0) {
+        return calls::exhaust(netlist, class, store, work);
+    }
+    unknown()
+}
+
 // Calls that write store or working memory, those of tests in a class.
 fn ask_in_class(
     class: u32,
@@ -114,6 +129,7 @@ fn ask_in_class(
             store,
             work,
         ),
+        EXHAUST => ask_exhaust(class, numbers_in(arguments), netlist, store, work),
         _ => unknown(),
     }
 }

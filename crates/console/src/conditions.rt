@@ -39,6 +39,7 @@ pub fn print_condition(fd: i32, why: Refusal) {
         Refusal::PathTooLong => print(fd, b"A path to an output has more than 63 gates.\n"),
         Refusal::TreeLength | Refusal::TreeWords => print_tree(fd, why),
         Refusal::ViewerPlaces | Refusal::ForeignFault => print_viewer(fd, why),
+        Refusal::TooManyInputs => print(fd, b"The netlist has more than 6 inputs.\n"),
     }
 }
 

@@ -6,6 +6,7 @@ ghost use Rattle.model.specs.Calls.{surveyCall, emptyCall, emptiedStore, totals
 ghost use Rattle.model.specs.Report.{writerAnswer, writerBuffer, auditAnswer, auditStore};
 ghost use Rattle.piece_steps.specs.Steps.{beginAnswer, beginStore};
 ghost use Rattle.load.specs.Calls.{loadAnswer, loadBuffer};
+ghost use Rattle.all_pairs.specs.Exhaust.{exhaustAnswer, exhaustStore, PairsWork};
 ghost use Rattle.length_rows.specs.Lengths.{lengthWords, lengthsCall};
 ghost use Rattle.pieces.specs.Calls.{pieceAnswer, pieceLeft, PieceWork, endAnswer, endStore};
 ghost use Rattle.bench_text.specs.Calls.{convertAnswer, convertBuffer};
@@ -52,6 +53,25 @@ pub extern "C" fn genduwal_test(
 {
     let tested = test_call::apply_test(netlist, test, test_class, store, work);
     store_answers::test_code(tested, answer)
+}
+
+// Every legal pair of vectors of a netlist of up to 6 inputs, judged in a class, on the store, which is emptied unread: the number of rising, then of
+// falling faults that legal tests detect.
+#[no_mangle]
+pub extern "C" fn genduwal_exhaust(
+    netlist: &[u8],
+    test_class: u32,
+    store: &mut [u64],
+    work: &mut [u64],
+    answer: &mut [u64; 2],
+) -> u32
+    ensures { λ r. ⌜ Answered (exhaustAnswer (now (netlist .entry)) «test_class» (now (store .entry)) (now (work .entry)))
+        edgeWords r (now (answer .entry)) (now (answer .exit)) ⌝ }
+    ensures { λ _. ⌜ now (store .exit) ≡ exhaustStore (now (netlist .entry)) «test_class» (now (store .entry)) (now (work .entry)) ⌝ }
+    ensures { λ _. ⌜ PairsWork (now (netlist .entry)) «test_class» (now (store .entry)) (now (work .entry)) (now (work .exit)) ⌝ }
+{
+    let shown = exhaust::exhaust(netlist, test_class, store, work);
+    store_answers::exhaust_code(shown, answer)
 }
 
 // The number of rising, then of falling faults that a store holds.

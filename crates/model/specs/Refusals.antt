@@ -46,3 +46,4 @@ refusalNumber why.TreeLength = 87
 refusalNumber why.TreeWords = 88
 refusalNumber why.ViewerPlaces = 89
 refusalNumber why.ForeignFault = 90
+refusalNumber why.TooManyInputs = 91

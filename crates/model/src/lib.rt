@@ -78,6 +78,7 @@ pub enum Refusal {
     TreeWords,
     ViewerPlaces,
     ForeignFault,
+    TooManyInputs,
 }
 
 // Class 1 or 2.
@@ -133,5 +134,6 @@ pub fn refusal_number(why: Refusal) -> u32
         Refusal::TreeWords => 88,
         Refusal::ViewerPlaces => 89,
         Refusal::ForeignFault => 90,
+        Refusal::TooManyInputs => 91,
     }
 }

@@ -18,6 +18,9 @@ use Rattle.store.specs.declared.TotalsAnswer.the-variants as totals
 use Rattle.store.specs.declared.HeldAnswer.{HeldAnswer}
 use Rattle.store.specs.declared.HeldAnswer.the-variants as held
 use Rattle.coverage.specs.TestCall.{testedOf}
+use Rattle.exhaust.specs.Answers.{exhaustOf}
+use Rattle.exhaust.specs.declared.ExhaustAnswer.{ExhaustAnswer}
+use Rattle.exhaust.specs.declared.ExhaustAnswer.the-variants as exhaust
 use Rattle.coverage.specs.declared.TestAnswer.{TestAnswer}
 use Rattle.coverage.specs.declared.TestAnswer.the-variants as test
 use Rattle.lengths.specs.declared.LengthRows.{LengthRows}
@@ -59,6 +62,9 @@ module _ (code : ℕ) (w : Refusal) (q : code ≡ refusalNumber w) (found : List
   pub totals-refused : (r : TotalsAnswer) → r ≡ totals.Refused w → Answered (totalsOf r) edgeWords code found found
   totals-refused r p = answered-refused (totalsOf r) edgeWords found w code q (ap totalsOf p)
 
+  pub exhaust-refused : (r : ExhaustAnswer) → r ≡ exhaust.Refused w → Answered (exhaustOf r) edgeWords code found found
+  exhaust-refused r p = answered-refused (exhaustOf r) edgeWords found w code q (ap exhaustOf p)
+
   pub held-refused : (r : HeldAnswer) → r ≡ held.Refused w → Answered (heldOf r) boolWord code found found
   held-refused r p = answered-refused (heldOf r) boolWord found w code q (ap heldOf p)
 
@@ -74,6 +80,9 @@ module _ (found : List ℕ) where
 
   pub totals-taken : (r : TotalsAnswer) (a b : ℕ) → r ≡ totals.Totals a b → Answered (totalsOf r) edgeWords 0 found (sets found 0 (a ∷ b ∷ []))
   totals-taken r a b p = answered-value (totalsOf r) edgeWords found _ (ap totalsOf p)
+
+  pub exhaust-taken : (r : ExhaustAnswer) (a b : ℕ) → r ≡ exhaust.Totals a b → Answered (exhaustOf r) edgeWords 0 found (sets found 0 (a ∷ b ∷ []))
+  exhaust-taken r a b p = answered-value (exhaustOf r) edgeWords found _ (ap exhaustOf p)
 
   pub lengths-taken : (r : LengthRows) (first left : List ℕ) → r .answer ≡ lengths.Counted → length (r .rising .paths) ≡ 64 → length (r .rising .held) ≡ 64
       → first ≡ sets found 0 (r .rising .paths ++ r .rising .held) → left ≡ sets first 128 (r .falling .paths ++ r .falling .held)
@@ -95,6 +104,8 @@ module _ (code : ℕ) (q : code ≡ 0) (found left : List ℕ) where
 pub ruleset test-cases = (test-refused, test-taken, needs)
 
 pub ruleset totals-cases = (totals-refused, totals-taken, needs)
+
+pub ruleset exhaust-cases = (exhaust-refused, exhaust-taken, needs)
 
 pub ruleset held-cases = (held-refused, held-yes, held-no, needs)
 

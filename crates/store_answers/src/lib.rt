@@ -3,6 +3,7 @@
 ghost use mathlib.Core.Path.{_≡_};
 ghost use Rattle.store.specs.Answers.{emptyOf, totalsOf, heldOf};
 ghost use Rattle.coverage.specs.TestCall.{testedOf};
+ghost use Rattle.exhaust.specs.Answers.{exhaustOf};
 ghost use Rattle.answer_words.specs.Codes.{codeAnswer, Answered, edgeWords, countWords, boolWord};
 ghost use Rattle.length_rows.specs.Lengths.{lengthWords};
 ghost use Rattle.viewer.specs.ViewAnswers.{viewOf};
@@ -10,6 +11,7 @@ ghost use Rattle.store_answers.specs.Answers.{lengthsOf};
 use answer_words::inner::put_number;
 use answer_words::inner::put_rows;
 use coverage::TestAnswer;
+use exhaust::ExhaustAnswer;
 use lengths::LengthRows;
 use lengths::LengthsAnswer;
 use model::refusal_number;
@@ -56,6 +58,20 @@ pub fn totals_code(totals: TotalsAnswer, answer: &mut [u64; 2]) -> u32
     match totals {
         TotalsAnswer::Refused(why) => refusal_number(why),
         TotalsAnswer::Totals { rising, falling } => {
+            answer[0] = rising;
+            answer[1] = falling;
+            0
+        }
+    }
+}
+
+// All pairs of a small block: the number of rising, then of falling faults.
+pub fn exhaust_code(shown: ExhaustAnswer, answer: &mut [u64; 2]) -> u32
+    ensures { λ r. ⌜ Answered (exhaustOf shown) edgeWords r (now (answer .entry)) (now (answer .exit)) ⌝ }
+{
+    match shown {
+        ExhaustAnswer::Refused(why) => refusal_number(why),
+        ExhaustAnswer::Totals { rising, falling } => {
             answer[0] = rising;
             answer[1] = falling;
             0

@@ -130,6 +130,9 @@ enum-told-40 c = search needs
 enum-told-41 : tie.Need-enum-told-41
 enum-told-41 c = search needs
 
+enum-told-42 : tie.Need-enum-told-42
+enum-told-42 c = search needs
+
 -- and its number is the definition's
 returns : tie.Need-returns
 returns c = sym (ap refusalNumber (c .enum-told .given .1))
@@ -254,6 +257,9 @@ returns-40 c = sym (ap refusalNumber (c .enum-told40 .given .1))
 returns-41 : tie.Need-returns-41
 returns-41 c = sym (ap refusalNumber (c .enum-told41 .given .1))
 
+returns-42 : tie.Need-returns-42
+returns-42 c = sym (ap refusalNumber (c .enum-told42 .given .1))
+
 pub refusal-number-spec : {M : Type 1} → statement M
 refusal-number-spec =
     tie.close
@@ -261,8 +267,8 @@ refusal-number-spec =
     enum-told enum-told-2 enum-told-3 enum-told-4 enum-told-5 enum-told-6 enum-told-7 enum-told-8 enum-told-9 enum-told-10 enum-told-11 enum-told-12
     enum-told-13 enum-told-14 enum-told-15 enum-told-16 enum-told-17 enum-told-18 enum-told-19 enum-told-20 enum-told-21 enum-told-22 enum-told-23
     enum-told-24 enum-told-25 enum-told-26 enum-told-27 enum-told-28 enum-told-29 enum-told-30 enum-told-31 enum-told-32 enum-told-33 enum-told-34
-    enum-told-35 enum-told-36 enum-told-37 enum-told-38 enum-told-39 enum-told-40 enum-told-41
+    enum-told-35 enum-told-36 enum-told-37 enum-told-38 enum-told-39 enum-told-40 enum-told-41 enum-told-42
     returns returns-2 returns-3 returns-4 returns-5 returns-6 returns-7 returns-8 returns-9 returns-10 returns-11 returns-12
     returns-13 returns-14 returns-15 returns-16 returns-17 returns-18 returns-19 returns-20 returns-21 returns-22 returns-23 returns-24 returns-25
     returns-26 returns-27 returns-28 returns-29 returns-30 returns-31 returns-32 returns-33 returns-34 returns-35 returns-36 returns-37
-    returns-38 returns-39 returns-40 returns-41)
+    returns-38 returns-39 returns-40 returns-41 returns-42)

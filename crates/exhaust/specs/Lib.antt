@@ -1,0 +1,3 @@
+-- All pairs of a small block: what the call promises, and what that shows.
+pub mod Answers
+pub mod Returned

@@ -1,0 +1,2 @@
+-- What the program's functions need of each other.
+pub mod BlockCases

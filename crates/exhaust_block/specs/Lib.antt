@@ -1,0 +1,2 @@
+-- The store that the program prints.
+pub mod Block

@@ -1,0 +1,2 @@
+-- The lines on the faults that a store does not hold.
+pub mod UndetectedText
