@@ -1,4 +1,3 @@
 pub mod Covering
 pub mod Listed
 pub mod BlockStage
-pub mod Counts

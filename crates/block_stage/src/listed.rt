@@ -39,12 +39,7 @@ pub struct RecordEdges {
 }
 
 // The marks of record t of a block.
-pub(crate) fn edges_at(
-    marks: &[u64; MARKS_SIZE],
-    t: usize,
-    inputs: usize,
-    outputs: usize,
-) -> RecordEdges
+pub fn edges_at(marks: &[u64; MARKS_SIZE], t: usize, inputs: usize, outputs: usize) -> RecordEdges
     requires { ⌜ t < 64 ⌝ }
     ensures { λ r. ⌜ r ≡ edgesAt (now (marks .entry)) t inputs outputs ⌝ }
 {
@@ -59,7 +54,7 @@ pub(crate) fn edges_at(
 }
 
 // Covers both edges of a store with what a record detects: the rising runs are made in the third quarter of the words, the falling ones in the last.
-pub(crate) fn cover_listed(
+pub fn cover_listed(
     table: &[u16; GATE_TABLE_SIZE],
     places: &[u64; PLACE_TABLE_SIZE],
     ups: &[u32],

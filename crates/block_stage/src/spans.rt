@@ -19,7 +19,7 @@ use store_words::inner::parts::edge_runs;
 use store_writing::inner::Change;
 
 // The spans of the inputs and the sections of both edges.
-pub(crate) fn begin_spans(
+pub fn begin_spans(
     places: &[u64; PLACE_TABLE_SIZE],
     inputs: usize,
     outputs: usize,
@@ -66,7 +66,7 @@ fn renew_edge(
 }
 
 // The sections of both edges, after what was made of them is written.
-pub(crate) fn renew_sections(
+pub fn renew_sections(
     places: &[u64; PLACE_TABLE_SIZE],
     outputs: usize,
     answer: BothAnswer,

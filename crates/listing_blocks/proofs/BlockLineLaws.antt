@@ -18,7 +18,7 @@ use Rattle.coverage.specs.Stage.{MemoryReady, workStage, storeAfter}
 use Rattle.coverage.specs.TestCall.{returnedBy}
 use Rattle.coverage.proofs.StageLaws.{stage-work, stage-refused}
 use Rattle.block_marks.specs.Marks.{recordAt, testAt}
-use Rattle.block_stage.specs.Counts.{Says, SaysAt, storeAt}
+use Rattle.block_counting.specs.Counts.{Says, SaysAt, storeAt}
 use Rattle.coverage.proofs.WorkMemory.{stage-memory}
 use Rattle.listing_lines.specs.ListingLines.{recordLine, answerIn, answerAt, answerLines}
 use Rattle.listing_text.specs.Listing.{recordLines, storeAfterAll, listedRecords}

@@ -26,7 +26,7 @@ use Rattle.block.specs.Block.{BlockOf}
 use Rattle.block.specs.Table.{CircuitTable}
 use Rattle.block_marks.specs.EdgeMarks.{WorkKept}
 use Rattle.block_marks.specs.Marks.{PlaceTable, MarksTrue, VectorsOf, testAt, BlockRead}
-use Rattle.block_stage.specs.Counts.{Says, SaysAt, storeAt, BlockCounted}
+use Rattle.block_counting.specs.Counts.{Says, SaysAt, storeAt, BlockCounted}
 use Rattle.block_stage.specs.BlockStage.{BlockAt, MemoryKept}
 use Rattle.file_block.specs.FileBlocks.{BlockTables, BlocksReady, RoomKept}
 use Rattle.file_block.specs.declared.inner.FileNumbers.{FileNumbers}

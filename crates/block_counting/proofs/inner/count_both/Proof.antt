@@ -1,10 +1,10 @@
--- `block_stage::counting::count_both` meets its contract: a stage that keeps the runs leaves the totals of before, another is counted again.
+-- `block_counting::inner::count_both` meets its contract: a stage that keeps the runs leaves the totals of before, another is counted again.
 -- Assumes nothing.
 use mathlib.Core.Path.{sym, _∙_}
-use Rattle.block_stage.proofs.CountBothLaws.{some-made, counted-kept, counted-some, counted-again}
+use Rattle.block_counting.proofs.CountBothLaws.{some-made, counted-kept, counted-some, counted-again}
 use borrow.Author.Needs.{needs}
-use Rattle.block_stage.proofs.counting.count_both.Statement.{statement}
-use Rattle.block_stage.proofs.counting.count_both.Tie as tie
+use Rattle.block_counting.proofs.inner.count_both.Statement.{statement}
+use Rattle.block_counting.proofs.inner.count_both.Tie as tie
 
 write-both-requires : tie.Need-write-both-requires
 write-both-requires c κs = some-made (c .before .before .before .pre)

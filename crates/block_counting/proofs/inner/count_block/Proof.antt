@@ -1,12 +1,12 @@
--- `block_stage::counting::count_block` meets its contract. The invariant, `CountingBlock`: the answers of the tests before test t, on the store after them.
+-- `block_counting::inner::count_block` meets its contract. The invariant, `CountingBlock`: the answers of the tests before test t, on the store after them.
 -- Assumes nothing.
 use mathlib.Core.Path.{refl}
 use Prim.Native.Nat.{_-_}
 use native.Mathlib.Omega.{arith}
 use borrow.Author.Needs.{needs}
 use Rattle.block_stage.proofs.BlockSteps.{block-in, block-begun, block-inputs, block-few, up-inside, down-inside}
 use Rattle.block_stage.proofs.RecordEdgeLaws.{listed-inputs}
-use Rattle.block_stage.proofs.CountSteps.{
+use Rattle.block_counting.proofs.CountSteps.{
   CountingBlock,
   block-sound,
   counting-start,
@@ -17,8 +17,8 @@ use Rattle.block_stage.proofs.CountSteps.{
   counted-all,
   counted-few,
 }
-use Rattle.block_stage.proofs.counting.count_block.Statement.{statement}
-use Rattle.block_stage.proofs.counting.count_block.Tie as tie
+use Rattle.block_counting.proofs.inner.count_block.Statement.{statement}
+use Rattle.block_counting.proofs.inner.count_block.Tie as tie
 
 abbrev Inv-loop : tie.InvT-loop
 Inv-loop table places ups downs marks store₀ work₀ inputs outputs records spans₀ answers₀ held₀ t₀ store work spans answers held t =

@@ -31,7 +31,7 @@ use Rattle.coverage.specs.declared.inner.StageAnswer.the-variants as stage
 use Rattle.coverage.proofs.EdgesLaws.{memory-sound}
 use Rattle.coverage.proofs.WorkMemory.{work-result}
 use Rattle.coverage.proofs.TestCallLaws.{taken-by, then-size, size-after, count-refused, count-taken}
-use Rattle.block_stage.specs.Counts.{keepsBoth, countsKept, BothCounted, SomeBothCounted, totalsAfter, wordsOf, Says}
+use Rattle.block_counting.specs.Counts.{keepsBoth, countsKept, BothCounted, SomeBothCounted, totalsAfter, wordsOf, Says}
 
 -- both edges keep their runs
 kept-both : (b : BothAnswer) → true ≡ keepsBoth b → b ≡ both.Fits change.Kept change.Kept

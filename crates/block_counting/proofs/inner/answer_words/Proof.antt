@@ -1,11 +1,11 @@
--- `block_stage::counting::answer_words` meets its contract, case by case.
+-- `block_counting::inner::answer_words` meets its contract, case by case.
 -- Assumes nothing.
 use mathlib.Core.Path.{ap, sym, _∙_}
 use Prim.Native.Nat.{ℕ}
-use Rattle.block_stage.specs.Counts.{wordsOf}
+use Rattle.block_counting.specs.Counts.{wordsOf}
 use borrow.Author.Needs.{needs}
-use Rattle.block_stage.proofs.counting.answer_words.Statement.{statement}
-use Rattle.block_stage.proofs.counting.answer_words.Tie as tie
+use Rattle.block_counting.proofs.inner.answer_words.Statement.{statement}
+use Rattle.block_counting.proofs.inner.answer_words.Tie as tie
 
 enum-known-answer : tie.Need-enum-known-answer
 enum-known-answer c = search needs

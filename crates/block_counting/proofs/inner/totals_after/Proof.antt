@@ -1,10 +1,10 @@
--- `block_stage::counting::totals_after` meets its contract, case by case.
+-- `block_counting::inner::totals_after` meets its contract, case by case.
 -- Assumes nothing.
 use mathlib.Core.Path.{ap, sym}
-use Rattle.block_stage.specs.Counts.{totalsAfter}
+use Rattle.block_counting.specs.Counts.{totalsAfter}
 use borrow.Author.Needs.{needs}
-use Rattle.block_stage.proofs.counting.totals_after.Statement.{statement}
-use Rattle.block_stage.proofs.counting.totals_after.Tie as tie
+use Rattle.block_counting.proofs.inner.totals_after.Statement.{statement}
+use Rattle.block_counting.proofs.inner.totals_after.Tie as tie
 
 enum-known-answer : tie.Need-enum-known-answer
 enum-known-answer c = search needs

@@ -27,13 +27,13 @@ use Rattle.coverage.proofs.EdgesLaws.{memory-sound, memory-few}
 use Rattle.coverage.proofs.WorkMemory.{stage-memory}
 use Rattle.block_marks.specs.declared.inner.Batch.{Batch}
 use Rattle.block_runs.specs.Spans.{InputSpans}
-use Rattle.block_stage.specs.Counts.{BothCounted, SomeBothCounted, totalsAfter, wordsOf, withAnswer, Says, SaysAt, storeAt, BlockCounted}
+use Rattle.block_counting.specs.Counts.{BothCounted, SomeBothCounted, totalsAfter, wordsOf, withAnswer, Says, SaysAt, storeAt, BlockCounted}
 use Rattle.block_stage.specs.Listed.{edgesAt, ListedBoth, SomeListedBoth}
 use Rattle.block_stage.specs.BlockStage.{BlockReady, MemoryKept}
-use Rattle.block_stage.specs.declared.counting.AnswerWords.{AnswerWords}
+use Rattle.block_counting.specs.declared.inner.AnswerWords.{AnswerWords}
 use Rattle.block_stage.specs.declared.listed.RecordEdges.{RecordEdges}
 use Rattle.block_stage.proofs.BlockSteps.{BlockIn, listOf, listed-here, block-begun}
-use Rattle.block_stage.proofs.CountBothLaws.{totals-next, says-of}
+use Rattle.block_counting.proofs.CountBothLaws.{totals-next, says-of}
 
 -- the words of one record put among the answers: the others stay
 module _ (answers : List ℕ) (room : length answers ≡ 192) {t : ℕ} (h : t < 64) (a : AnswerWords) where

@@ -22,7 +22,7 @@ use Rattle.coverage.specs.declared.edges.BothAnswer.{BothAnswer}
 use Rattle.coverage.specs.declared.edges.BothAnswer.the-variants as both
 use Rattle.coverage.specs.declared.inner.StageAnswer.{StageAnswer}
 use Rattle.coverage.specs.declared.inner.StageAnswer.the-variants as stage
-use Rattle.block_stage.specs.declared.counting.AnswerWords.{AnswerWords}
+use Rattle.block_counting.specs.declared.inner.AnswerWords.{AnswerWords}
 
 -- whether an edge's runs are kept, and those of both edges
 abbrev pub keepsEdge : Change → Bool

@@ -1,9 +1,9 @@
--- `block_stage::counting::count_kept` meets its contract, case by case.
+-- `block_counting::inner::count_kept` meets its contract, case by case.
 -- Assumes nothing.
-use Rattle.block_stage.proofs.CountBothLaws.{kept-cases}
+use Rattle.block_counting.proofs.CountBothLaws.{kept-cases}
 use borrow.Author.Needs.{needs}
-use Rattle.block_stage.proofs.counting.count_kept.Statement.{statement}
-use Rattle.block_stage.proofs.counting.count_kept.Tie as tie
+use Rattle.block_counting.proofs.inner.count_kept.Statement.{statement}
+use Rattle.block_counting.proofs.inner.count_kept.Tie as tie
 
 enum-known-answer : tie.Need-enum-known-answer
 enum-known-answer c = search needs

@@ -1,0 +1,2 @@
+pub mod CountBothLaws
+pub mod CountSteps

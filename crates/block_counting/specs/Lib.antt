@@ -1,0 +1,2 @@
+-- What the records of a block are answered.
+pub mod Counts

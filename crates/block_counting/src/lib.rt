@@ -1,0 +1,2 @@
+// The records of a block with the faults counted that each adds, for our own crates.
+pub mod inner;
