@@ -1,8 +1,7 @@
 // The class of the tests, from a file with its one character.
 ghost use mathlib.Core.Path.{_≡_};
 ghost use Rattle.io.specs.Counts.{Counts};
-ghost use Rattle.command.specs.ClassFile.{classChosen};
-ghost use Rattle.command.specs.ClassFile.{classIn};
+ghost use Rattle.command.specs.ClassFile.{classChosen, classIn, classListed};
 use crate::arguments::file_name;
 use crate::files::Opened;
 use crate::files::at_end;
@@ -21,7 +20,7 @@ pub struct ClassRead {
 }
 
 // What was read of a class file: whether it is missing, its bytes, and whether the program may judge by it.
-pub struct ClassContent {
+struct ClassContent {
     pub missing: bool,
     pub bytes: usize,
     pub whole: bool,
@@ -54,6 +53,13 @@ pub fn class_in(missing: bool, bytes: &[u8]) -> u32
     class_chosen(NON_ROBUST, missing, bytes)
 }
 
+// The same for a program that lists: robust when nothing is said.
+pub fn class_listed(missing: bool, bytes: &[u8]) -> u32
+    ensures { λ r. ⌜ r ≡ classListed missing (now (bytes .entry)) ⌝ }
+{
+    class_chosen(ROBUST, missing, bytes)
+}
+
 // Whether a class file that could not be opened is missing. It is told apart from one that can't be read, and named only where an argument names it.
 fn is_missing(name: &[u8], is_named: bool) -> bool {
     let missing = os::errno() == libc::ENOENT;
@@ -69,7 +75,7 @@ fn is_missing(name: &[u8], is_named: bool) -> bool {
 
 // Reads the first bytes of the class file that an argument names, class.txt where there is no such argument, as many as the space holds. Two bytes of
 // space tell a longer file from one character.
-pub fn load_class(place: usize, space: &mut [u8]) -> ClassContent
+fn load_class(place: usize, space: &mut [u8]) -> ClassContent
     ensures { λ r. ⌜ Counts (r .bytes) (now (space .exit)) ⌝ }
 {
     let mut name = io::buffer();
@@ -101,6 +107,17 @@ pub fn read_class(place: usize) -> ClassRead {
     let n = content.bytes;
     ClassRead {
         class: class_in(content.missing, &space[..n]),
+        whole: content.whole,
+    }
+}
+
+// The class in that file, for a program that lists.
+pub fn read_listed_class(place: usize) -> ClassRead {
+    let mut space = [0u8; 2];
+    let content = load_class(place, &mut space);
+    let n = content.bytes;
+    ClassRead {
+        class: class_listed(content.missing, &space[..n]),
         whole: content.whole,
     }
 }

@@ -5,12 +5,12 @@ mod files;
 
 pub use arguments::file_name;
 pub use arguments::is_argument;
-pub use class_file::ClassContent;
 pub use class_file::ClassRead;
 pub use class_file::class_chosen;
 pub use class_file::class_in;
-pub use class_file::load_class;
+pub use class_file::class_listed;
 pub use class_file::read_class;
+pub use class_file::read_listed_class;
 pub use files::Content;
 pub use files::Opened;
 pub use files::at_end;

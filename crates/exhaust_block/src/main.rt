@@ -2,10 +2,9 @@
 // them, then the number of the faults that no test detects and the first 20 of these in gates: `exhaust_block [CIRCUIT [CLASS]]`, without names the
 // files of the current folder; a missing circuit counts as empty, a missing class file as class 2. A refusal it prints, and says its condition on
 // standard error. Where a file can't be read whole it prints nothing.
-use command::class_chosen;
 use command::is_argument;
 use command::load_argument;
-use command::load_class;
+use command::read_listed_class;
 use console::NETLIST_BYTES;
 use console::empty_line;
 use console::print;
@@ -20,7 +19,6 @@ use libc::STDERR_FILENO;
 use libc::STDOUT_FILENO;
 use listing_text::inner::OUT_BYTES;
 use listing_text::inner::put_store;
-use model::ROBUST;
 use model::Refusal;
 use model::STORE_WORDS;
 use model::WORK_WORDS;
@@ -35,7 +33,6 @@ use undetected_text::fault_line;
 ghost use mathlib.Core.Path.{_≡_};
 ghost use Prim.Native.Nat.{_^_, _≤_};
 ghost use lib.ListN.{length};
-ghost use Rattle.command.specs.ClassFile.{classListed};
 ghost use Rattle.listing_text.specs.StoreText.{outBytes};
 ghost use Rattle.store_words.specs.Sound.{SoundWords};
 ghost use Rattle.exhaust_block.specs.Block.{StoreOfBlock};
@@ -50,13 +47,6 @@ fn print_usage(fd: i32) {
         fd,
         b"Without a class file tests are judged robustly, in class 2.\n",
     );
-}
-
-// The class that the block is judged by: that of the class file, robust where it is missing, as in the listing.
-fn block_class(missing: bool, bytes: &[u8]) -> u32
-    ensures { λ r. ⌜ r ≡ classListed missing (now (bytes .entry)) ⌝ }
-{
-    class_chosen(ROBUST, missing, bytes)
 }
 
 // Zeros for text, for a store and for working memory.
@@ -154,11 +144,8 @@ fn main() {
     let mut bytes = [0u8; NETLIST_BYTES];
     let circuit = load_argument(1, b"circuit.nl", &mut bytes);
     let length = circuit.bytes;
-    let mut characters = [0u8; 2];
-    let class_file = load_class(2, &mut characters);
-    let n = class_file.bytes;
-    if circuit.whole && class_file.whole {
-        let class = block_class(class_file.missing, &characters[..n]);
-        exhaust_netlist(&bytes[..length], class);
+    let read = read_listed_class(2);
+    if circuit.whole && read.whole {
+        exhaust_netlist(&bytes[..length], read.class);
     }
 }

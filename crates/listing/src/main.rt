@@ -2,13 +2,12 @@
 // [CIRCUIT [TESTS [CLASS]]]`, without names those of the current folder; a missing file counts as empty, a missing class file as class 2. What it
 // writes is made by `listing_lines` and `listing_walk`, each part with a promise. Where the netlist or the class file can't be read whole it writes
 // nothing, and where the test file can't, neither runs nor totals.
-use command::class_chosen;
 use command::close_file;
 use command::file_name;
 use command::is_argument;
 use command::load_argument;
-use command::load_class;
 use command::open_file;
+use command::read_listed_class;
 use console::NETLIST_BYTES;
 use console::print;
 use libc::STDERR_FILENO;
@@ -18,7 +17,6 @@ use listing_lines::inner::put_refusal;
 use listing_text::inner::OUT_BYTES;
 use listing_walk::inner::Descriptors;
 use listing_walk::inner::list_file;
-use model::ROBUST;
 use model::Refusal;
 use model::STORE_WORDS;
 use model::WORK_WORDS;
@@ -33,7 +31,6 @@ ghost use lib.ListN.{length};
 ghost use Rattle.model.specs.Store.{storeWords};
 ghost use Rattle.model.specs.Calls.{workWords};
 ghost use Rattle.netlist.specs.Tables.{SomeTables};
-ghost use Rattle.command.specs.ClassFile.{classListed};
 ghost use Rattle.listing_text.specs.StoreText.{outBytes};
 
 fn print_usage(fd: i32) {
@@ -46,13 +43,6 @@ fn print_usage(fd: i32) {
         fd,
         b"Without a class file tests are judged robustly, in class 2.\n",
     );
-}
-
-// The class that the listing judges by: that of the class file, robust where it is missing.
-fn listed_class(missing: bool, bytes: &[u8]) -> u32
-    ensures { λ r. ⌜ r ≡ classListed missing (now (bytes .entry)) ⌝ }
-{
-    class_chosen(ROBUST, missing, bytes)
 }
 
 // Zeros for text, for a store and for working memory.
@@ -150,11 +140,8 @@ fn main() {
     let mut bytes = [0u8; NETLIST_BYTES];
     let circuit = load_argument(1, b"circuit.nl", &mut bytes);
     let length = circuit.bytes;
-    let mut characters = [0u8; 2];
-    let class_file = load_class(3, &mut characters);
-    let n = class_file.bytes;
-    if circuit.whole && class_file.whole {
-        let class = listed_class(class_file.missing, &characters[..n]);
-        list_circuit(&bytes[..length], class);
+    let read = read_listed_class(3);
+    if circuit.whole && read.whole {
+        list_circuit(&bytes[..length], read.class);
     }
 }
