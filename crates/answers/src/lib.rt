@@ -16,13 +16,13 @@ use answer_words::inner::put_survey;
 use bench_text::BenchAnswer;
 use file_judging::AuditAnswer;
 use load::LoadAnswer;
-use model::refusal_number;
 use netlist::SurveyAnswer;
 use netlist::Surveyed;
 use path_numbers::NumberAnswer;
 use paths::PathAnswer;
 use piece_steps::BeginAnswer;
 use pieces::PieceAnswer;
+use refusals::refusal_number;
 use report::WriteAnswer;
 
 // The survey: I, G, U, T, then a count for each of 512 nets.

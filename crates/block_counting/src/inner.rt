@@ -26,7 +26,7 @@ use coverage::edges::BothAnswer;
 use coverage::inner::StageAnswer;
 use coverage::inner::count_answer;
 use coverage::inner::write_both;
-use model::refusal_number;
+use refusals::refusal_number;
 use store_words::inner::StoreTotals;
 use store_words::inner::totals_of;
 use store_writing::inner::Change;

@@ -11,7 +11,7 @@ use crate::AuditAnswer;
 use crate::EndAnswer;
 use model::MAX_TESTS;
 use model::Refusal;
-use model::refusal_number;
+use refusals::refusal_number;
 use report::inner::Comparison;
 use report::inner::compare;
 use store_words::inner::StoreCheck;

@@ -16,7 +16,7 @@ use block_marks::inner::reading::read_block;
 use file_block::inner::FileNumbers;
 use listing_lines::inner::put_lines;
 use model::Refusal;
-use model::refusal_number;
+use refusals::refusal_number;
 use test_records::inner::RecordAnswer;
 use test_records::inner::record_length;
 

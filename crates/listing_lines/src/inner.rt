@@ -5,7 +5,7 @@ ghost use Rattle.model.specs.Refusals.{refusalNumber};
 ghost use Rattle.text_buffer.specs.Written.{Written};
 ghost use Rattle.listing_lines.specs.ListingLines.{pairText, pathsLine, refusedLine, recordLine, answerIn, answerLines};
 use model::Refusal;
-use model::refusal_number;
+use refusals::refusal_number;
 use text::inner::put_number;
 use text::inner::put_text;
 use text_buffer::inner::put_numbered;

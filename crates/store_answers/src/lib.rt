@@ -14,7 +14,7 @@ use coverage::TestAnswer;
 use exhaust::ExhaustAnswer;
 use lengths::LengthRows;
 use lengths::LengthsAnswer;
-use model::refusal_number;
+use refusals::refusal_number;
 use store::EmptyAnswer;
 use store::HeldAnswer;
 use store::TotalsAnswer;

@@ -8,7 +8,7 @@ ghost use Rattle.model.specs.Refusals.{refusalNumber};
 ghost use Rattle.text.specs.Decimal.{decimalText, refusedText};
 ghost use Rattle.text.specs.Lines.{textOf, onLine};
 use model::Refusal;
-use model::refusal_number;
+use refusals::refusal_number;
 
 // The bytes that a line holds.
 pub const LINE_BYTES: usize = 128;

@@ -8,7 +8,7 @@ ghost use Rattle.tree.specs.Each.{eachOf};
 ghost use Rattle.answer_words.specs.Codes.{codeAnswer, Answered, numberWord};
 ghost use Rattle.tree_answers.specs.AnswerWords.{foundWords, askedWords};
 use answer_words::inner::put_number;
-use model::refusal_number;
+use refusals::refusal_number;
 use tree::TreeAsked;
 use tree::TreeChanged;
 use tree::TreeEmptied;

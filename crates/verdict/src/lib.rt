@@ -7,7 +7,7 @@ ghost use Rattle.verdict.specs.Verdict.{verdictText, ofRecord, classText
 use file_judging::AuditAnswer;
 use model::ROBUST;
 use model::Refusal;
-use model::refusal_number;
+use refusals::refusal_number;
 use text::Line;
 use text::empty_line;
 use text::with_refusal;

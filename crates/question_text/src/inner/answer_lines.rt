@@ -14,7 +14,7 @@ use faults::FaultNo;
 use faults::edge_of;
 use faults::path_of;
 use model::Refusal;
-use model::refusal_number;
+use refusals::refusal_number;
 use text::inner::put_number;
 use text_buffer::inner::put_numbered;
 use tree::inner::visit_root;

@@ -14,7 +14,7 @@ use console::with_number;
 use console::with_text;
 use libc::STDOUT_FILENO;
 use model::Refusal;
-use model::refusal_number;
+use refusals::refusal_number;
 
 // The numbers that an answer may have.
 const MOST: usize = 8;

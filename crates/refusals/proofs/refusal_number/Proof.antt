@@ -1,10 +1,14 @@
--- `model::refusal_number` meets its contract: in each arm of the match the case is known, and its number is the definition's.
+-- `refusals::refusal_number` meets its contract: in each arm of the match the case is known, and its number is the definition's; in the last the number is over 79.
 -- Assumes nothing.
-use mathlib.Core.Path.{sym, ap}
-use Rattle.model.specs.Refusals.{refusalNumber}
+use mathlib.Core.Path.{sym, ap, subst}
+use lib.Dec.{T, leb}
+use denote.Enum.Declared.{tagOf}
 use borrow.Author.Needs.{needs}
-use Rattle.model.proofs.refusal_number.Statement.{statement}
-use Rattle.model.proofs.refusal_number.Tie as tie
+use Rattle.model.specs.Refusals.{refusalNumber}
+use Rattle.model.proofs.Refusal as enum
+use Rattle.refusals.proofs.LaterTags.{one-of-all, tagsFrom, later-tags}
+use Rattle.refusals.proofs.refusal_number.Statement.{statement}
+use Rattle.refusals.proofs.refusal_number.Tie as tie
 
 -- in each arm: the case is one of the enum
 enum-told : tie.Need-enum-told
@@ -97,41 +101,8 @@ enum-told-29 c = search needs
 enum-told-30 : tie.Need-enum-told-30
 enum-told-30 c = search needs
 
-enum-told-31 : tie.Need-enum-told-31
-enum-told-31 c = search needs
-
-enum-told-32 : tie.Need-enum-told-32
-enum-told-32 c = search needs
-
-enum-told-33 : tie.Need-enum-told-33
-enum-told-33 c = search needs
-
-enum-told-34 : tie.Need-enum-told-34
-enum-told-34 c = search needs
-
-enum-told-35 : tie.Need-enum-told-35
-enum-told-35 c = search needs
-
-enum-told-36 : tie.Need-enum-told-36
-enum-told-36 c = search needs
-
-enum-told-37 : tie.Need-enum-told-37
-enum-told-37 c = search needs
-
-enum-told-38 : tie.Need-enum-told-38
-enum-told-38 c = search needs
-
-enum-told-39 : tie.Need-enum-told-39
-enum-told-39 c = search needs
-
-enum-told-40 : tie.Need-enum-told-40
-enum-told-40 c = search needs
-
-enum-told-41 : tie.Need-enum-told-41
-enum-told-41 c = search needs
-
-enum-told-42 : tie.Need-enum-told-42
-enum-told-42 c = search needs
+later-number-requires : tie.Need-later-number-requires
+later-number-requires c = search needs
 
 -- and its number is the definition's
 returns : tie.Need-returns
@@ -224,41 +195,12 @@ returns-29 c = sym (ap refusalNumber (c .enum-told29 .given .1))
 returns-30 : tie.Need-returns-30
 returns-30 c = sym (ap refusalNumber (c .enum-told30 .given .1))
 
+-- any other case: its number is over 79, and `later_number` gives it
 returns-31 : tie.Need-returns-31
-returns-31 c = sym (ap refusalNumber (c .enum-told31 .given .1))
-
-returns-32 : tie.Need-returns-32
-returns-32 c = sym (ap refusalNumber (c .enum-told32 .given .1))
-
-returns-33 : tie.Need-returns-33
-returns-33 c = sym (ap refusalNumber (c .enum-told33 .given .1))
-
-returns-34 : tie.Need-returns-34
-returns-34 c = sym (ap refusalNumber (c .enum-told34 .given .1))
-
-returns-35 : tie.Need-returns-35
-returns-35 c = sym (ap refusalNumber (c .enum-told35 .given .1))
-
-returns-36 : tie.Need-returns-36
-returns-36 c = sym (ap refusalNumber (c .enum-told36 .given .1))
-
-returns-37 : tie.Need-returns-37
-returns-37 c = sym (ap refusalNumber (c .enum-told37 .given .1))
-
-returns-38 : tie.Need-returns-38
-returns-38 c = sym (ap refusalNumber (c .enum-told38 .given .1))
-
-returns-39 : tie.Need-returns-39
-returns-39 c = sym (ap refusalNumber (c .enum-told39 .given .1))
-
-returns-40 : tie.Need-returns-40
-returns-40 c = sym (ap refusalNumber (c .enum-told40 .given .1))
-
-returns-41 : tie.Need-returns-41
-returns-41 c = sym (ap refusalNumber (c .enum-told41 .given .1))
-
-returns-42 : tie.Need-returns-42
-returns-42 c = sym (ap refusalNumber (c .enum-told42 .given .1))
+returns-31 c =
+    let why = c .before .before .args .why in
+    let from30 = one-of-all (leb 30) 30 (tagsFrom 31 11) (tagOf enum.the-type why) tt (c .before .match .keys31) in
+    c .later-number .ensures (subst T (later-tags why) from30)
 
 pub refusal-number-spec : {M : Type 1} → statement M
 refusal-number-spec =
@@ -266,9 +208,7 @@ refusal-number-spec =
     (tie.spec
     enum-told enum-told-2 enum-told-3 enum-told-4 enum-told-5 enum-told-6 enum-told-7 enum-told-8 enum-told-9 enum-told-10 enum-told-11 enum-told-12
     enum-told-13 enum-told-14 enum-told-15 enum-told-16 enum-told-17 enum-told-18 enum-told-19 enum-told-20 enum-told-21 enum-told-22 enum-told-23
-    enum-told-24 enum-told-25 enum-told-26 enum-told-27 enum-told-28 enum-told-29 enum-told-30 enum-told-31 enum-told-32 enum-told-33 enum-told-34
-    enum-told-35 enum-told-36 enum-told-37 enum-told-38 enum-told-39 enum-told-40 enum-told-41 enum-told-42
-    returns returns-2 returns-3 returns-4 returns-5 returns-6 returns-7 returns-8 returns-9 returns-10 returns-11 returns-12
-    returns-13 returns-14 returns-15 returns-16 returns-17 returns-18 returns-19 returns-20 returns-21 returns-22 returns-23 returns-24 returns-25
-    returns-26 returns-27 returns-28 returns-29 returns-30 returns-31 returns-32 returns-33 returns-34 returns-35 returns-36 returns-37
-    returns-38 returns-39 returns-40 returns-41 returns-42)
+    enum-told-24 enum-told-25 enum-told-26 enum-told-27 enum-told-28 enum-told-29 enum-told-30 later-number-requires
+    returns returns-2 returns-3 returns-4 returns-5 returns-6 returns-7 returns-8 returns-9 returns-10 returns-11 returns-12 returns-13 returns-14
+    returns-15 returns-16 returns-17 returns-18 returns-19 returns-20 returns-21 returns-22 returns-23 returns-24 returns-25 returns-26 returns-27
+    returns-28 returns-29 returns-30 returns-31)
