@@ -16,7 +16,7 @@ use Rattle.model.specs.Report.{sameBytes, testAll}
 use Rattle.model.specs.Encode.{headerBytes, netBytes, gateBytes, outputBytes, testBytes}
 use Rattle.model.specs.Examples.{Q, twice, hazard, spread, chain}
 use Rattle.model.proofs.ListLaws.{allOf-at}
-use Rattle.model.proofs.ExamplesHold.{same}
+use Rattle.model.proofs.SameAnswers.{same}
 use Rattle.all_pairs.specs.AllPairs.{pairsWith, pairsFrom, allPairs}
 use Rattle.all_pairs.specs.Exhaust.{pairsOn, exhaustCall, exhaustAnswer, exhaustStore}
 use Rattle.all_pairs.specs.ExhaustExamples.{Example, noExample, sevens, enough, totalsShown, storeShown, run, holding, seven, examples}

@@ -10,7 +10,7 @@ use Rattle.model.specs.Base.{refused, allOf}
 use Rattle.model.specs.Encode.{headerBytes, netBytes, gateBytes, outputBytes}
 use Rattle.model.proofs.BoolLaws.{and-left, and-right}
 use Rattle.model.proofs.ListLaws.{allOf-at}
-use Rattle.model.proofs.ExamplesHold.{same, same-answer}
+use Rattle.model.proofs.SameAnswers.{same, same-answer}
 use Rattle.bench_lines.specs.Text.{withoutReturn, lastLine, linesFrom, linesOf, nameByte, word, wordThen, signThen}
 use Rattle.bench_lines.specs.Text.{tokensFrom}
 use Rattle.bench_lines.specs.Text.{tokensOf, place, isIn, kindNames, ioNames, ending, pinsFrom, gateFrom, ioOf, ioFrom}

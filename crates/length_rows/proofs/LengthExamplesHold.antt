@@ -13,7 +13,7 @@ use Rattle.model.specs.Store.{storeRuns, storeOf}
 use Rattle.model.specs.Encode.{headerBytes, netBytes, gateBytes, outputBytes}
 use Rattle.model.specs.Examples.{chain, withOutputs, outputsBytes}
 use Rattle.model.proofs.ListLaws.{allOf-at}
-use Rattle.model.proofs.ExamplesHold.{same}
+use Rattle.model.proofs.SameAnswers.{same}
 use Rattle.length_rows.specs.Lengths.{row, lengthOf, pathsUpTo, heldUpTo, rowsOf, lengthsCall}
 use Rattle.length_rows.specs.LengthExamples.{Example, noExample, rowsAnswered, upTo, run, holding, inverters, one63, examples}
 

@@ -1,4 +1,5 @@
--- What the classes mean for one another: robust faults are among the non-robust ones, also in reports, and a steady net has one value.
+-- What the classes mean for one another: robust faults are among the non-robust ones, also in reports, and a steady net has one value; a hazard
+-- shows that equal values do not make a net steady.
 -- Assumes nothing.
 use mathlib.Core.Path.{_≡_, refl, ap, sym, _∙_, subst}
 use mathlib.Core.Bool.{Bool, true, false, _&&_, _||_, not, Bool·beq, and-false, or-true}
@@ -20,6 +21,23 @@ use Rattle.model.specs.Classes.{judgedIn, names, ClassesTrue}
 use Rattle.model.proofs.BoolLaws.{and-left, and-right, both, or-cases, or-left, or-right, beq→}
 use Rattle.model.proofs.ListLaws.{allOf-head, allOf-tail}
 use Rattle.model.proofs.ReportsHold.{demand-3}
+
+-- A hazard: OR of a net that rises and one that falls is 1 under both vectors, and not steady
+abbrev rises : Evaluation
+rises = record { underV1 = false; underV2 = true; steady = false }
+
+abbrev falls : Evaluation
+falls = record { underV1 = true; underV2 = false; steady = false }
+
+abbrev atOne : Evaluation
+atOne = record { underV1 = true; underV2 = true; steady = false }
+
+pub hazard-not-steady : gateEvaluation or (rises ∷ falls ∷ []) ≡ atOne
+hazard-not-steady = refl
+
+-- and beside it a pin of AND that falls is open in class 1 and not robustly
+pub hazard-shuts : (isOpen nonRobust and (falls ∷ atOne ∷ []) 0 ≡ true) × (isOpen robust and (falls ∷ atOne ∷ []) 0 ≡ false)
+hazard-shuts = (refl, refl)
 
 -- a test that passes wherever another one does
 module _ {A : Type 0} (f g : A → Bool) (h : (x : A) → T (f x) → T (g x)) where

@@ -7,7 +7,7 @@ use Prim.Native.Nat.{ℕ, suc, _≤_, _<_}
 use native.Mathlib.Omega.{arith}
 use lib.Dec.{T, leb, eqb, leb→le, le→leb, ltb→lt, lt→ltb, lit≤}
 use lib.ListN.{length}
-use Rattle.model.specs.Base.{value, Rule, checks}
+use Rattle.model.specs.Base.{refused, value, _>>_, Rule, checks}
 use Rattle.model.specs.Netlist.{Netlist, pathTotal}
 use Rattle.model.specs.Path.{Edge, rising, falling}
 use Rattle.model.specs.Detect.{Class, Test, detectsNumber}
@@ -17,7 +17,7 @@ use Rattle.model.specs.Store.{ByEdge, byEdge, ofEdge, storeWords, maxRun
 use Rattle.model.specs.Store.{testsTaken, runsOfTests, firstWord}
 use Rattle.model.specs.Calls.{Tested, storeLeft, tested, testStage, stageRules, testsRule, workRules, heldThen, newThen, runsThen}
 use Rattle.model.proofs.BoolLaws.{both, and-left, and-right, or-left}
-use Rattle.model.proofs.AnswerLaws.{AllPass, checks→, →checks, then-first, then-second, value-inj, pass-first, pass-second, pass-both}
+use Rattle.model.proofs.AnswerLaws.{AllPass, checks→, →checks, checks-both, then-first, then-second, value-inj, pass-first, pass-second, pass-both}
 use Rattle.model.proofs.RunLaws.{runs-separated, runs-test, runs-same, runs-none, separated→, →separated, runs-of-runs}
 use Rattle.model.proofs.RunSizeLaws.{runs-size, howMany-same}
 use Rattle.model.proofs.StoreLaws.{runs-store, tests-store, length-store, length-runsAt, store-passes, store-runs, empty-store, at-both}
@@ -114,6 +114,17 @@ pub stage-taken : (N : Netlist) (c : Class) (rec ws : List ℕ) → AllPass (sta
     → testStage N c rec ws ≡ value (tested N (testsTaken ws) (runsByEdge ws) (testOf N c rec))
 unfolding testStage
 stage-taken N c rec ws p = rw (→checks (stageRules N c rec ws) p) refl
+
+-- what the rules of the store refuse, the stage refuses, however many tests are taken: 86 comes after 42
+pub store-refused : (N : Netlist) (c : Class) (rec ws : List ℕ) (n : ℕ) → checks (testRules N rec) ≡ value tt
+    → checks (storeRules (pathTotal N) ws) ≡ refused n → testStage N c rec ws ≡ refused n
+unfolding testStage
+store-refused N c rec ws n p q =
+    let rest : List Rule = testsRule ws ∷ workRules N (runsByEdge ws) (testOf N c rec) in
+    let stores : checks (storeRules (pathTotal N) ws ++ rest) ≡ refused n = checks-both (storeRules (pathTotal N) ws) rest ∙ ap (λ a. a >> checks rest) q in
+    let whole : checks (stageRules N c rec ws) ≡ refused n =
+    checks-both (testRules N rec) (storeRules (pathTotal N) ws ++ rest) ∙ ap (λ a. a >> checks (storeRules (pathTotal N) ws ++ rest)) p ∙ stores in
+    ap (λ a. a >> value (tested N (testsTaken ws) (runsByEdge ws) (testOf N c rec))) whole
 
 module _ (N : Netlist) (c : Class) (rec ws : List ℕ) (D : Sets) (x : Holding N ws D) where
   abbrev works : List Rule

@@ -24,7 +24,7 @@ pub mod ReportLaws
 pub mod PieceLaws
 pub mod FileLaws
 pub mod ReportNames
-pub mod ExamplesHold
+pub mod SameAnswers
 pub mod CountedHolds
 pub mod ReportsHold
 pub mod WiresHold

@@ -14,7 +14,8 @@ use Rattle.model.specs.Store.{storeRuns}
 use Rattle.model.specs.Calls.{testCall, testStage, tested}
 use Rattle.model.specs.Encode.{headerBytes, netBytes, gateBytes, outputBytes, testBytes}
 use Rattle.model.specs.Examples.{row, reply, faultIf, faultList, enoughWork, Q, detectsNone, detectsFalling, detectsRising, chain, spread, aRises}
-use Rattle.model.proofs.ExamplesHold.{same, right, noRow, rows-hold}
+use Rattle.model.proofs.SameAnswers.{same}
+use Rattle.starred.proofs.ExamplesHold.{right, noRow, rows-hold}
 use Rattle.starred.specs.Starred.{doubling, starred}
 
 all-right : T (allOf right starred)

@@ -1,5 +1,6 @@
-// Document 01's table of starred examples (specs/Starred), and that every row holds (proofs/StarredHold).
-// It stands apart from `model` because the check computes its rows, which takes longer than all laws of `model`.
+// Document 01's table of starred examples (specs/Starred) and that every row holds (proofs/StarredHold); that the small examples of document 02,
+// which are tables of `model`, hold (proofs/ExamplesHold). They stand apart from `model` because the check computes their rows, which takes longer
+// than all laws of `model`.
 ghost use mathlib.Core.Path.{_≡_};
 ghost use lib.ListN.{length};
 ghost use Rattle.starred.specs.Starred.{starred};

@@ -13,7 +13,7 @@ use Rattle.model.specs.Store.{storeRuns, storeOf}
 use Rattle.model.specs.Encode.{headerBytes, netBytes, gateBytes, outputBytes}
 use Rattle.model.specs.Examples.{withOutputs, outputsBytes}
 use Rattle.model.proofs.ListLaws.{allOf-at}
-use Rattle.model.proofs.ExamplesHold.{same}
+use Rattle.model.proofs.SameAnswers.{same}
 use Rattle.viewer_places.specs.Viewer.{seen, seenHeld, viewerTotalsCall, viewerRunsCall, viewerRunsStore, viewerFaultCall}
 use Rattle.viewer_places.specs.ViewerExamples.{Example, noExample, run, holding, answered, two, three, full, spanning, asked, examples}
 

@@ -1,41 +1,28 @@
--- Every row of the tables of small examples holds, computed from the definitions.
+-- Every row of the tables of small examples (model/specs/Examples) holds, computed from the definitions.
 -- Assumes nothing.
-use mathlib.Core.Path.{_≡_, ap}
-use mathlib.Core.Bool.{Bool, false}
+use mathlib.Core.Path.{_≡_}
+use mathlib.Core.Bool.{Bool}
 use mathlib.Core.List.{List, []}
 use Prim.Native.Nat.{ℕ, _<_}
-use lib.Dec.{T, eqb, eqb→eq}
+use lib.Dec.{T}
 use lib.ListN.{length, getD}
-use Rattle.model.specs.Base.{Answer, refused, value, allOf}
+use Rattle.model.specs.Base.{refused, allOf}
 use Rattle.model.specs.Netlist.{counts, outputCount, pathTotal}
 use Rattle.model.specs.Path.{pathOf, pathAt, split, faultNumber}
 use Rattle.model.specs.Detect.{inNetSet, detects, allOpen, hasEdge, openPin, evaluate, detectsNumber}
 use Rattle.model.specs.Runs.{runsOf, runsFrom, addNumber, workingRuns, inRuns, size, howMany, howManyFrom, separatedRuns}
 use Rattle.model.specs.Read.{readNetlist, readGates, readOutputs, testOf}
 use Rattle.model.specs.Store.{storeRuns, storeOf}
 use Rattle.model.specs.Calls.{testCall, testStage, testStore, tested}
-use Rattle.model.specs.Report.{sameBytes, reportHead, reportRecord, writerCall, testAll, auditCall}
+use Rattle.model.specs.Report.{reportHead, reportRecord, writerCall, testAll, auditCall}
 use Rattle.model.specs.Demand3.{afterCalls}
 use Rattle.model.specs.Encode.{headerBytes, netBytes, gateBytes, outputBytes, testBytes}
 use Rattle.model.specs.SinglePin.{readGatesBy, readNetlistBy}
 use Rattle.model.specs.Examples.{Row, row, further, requested, robustRows, unchangedRows, countedRows, runsOfThree, reply, faultIf, faultList, enoughWork, firstRuns, netCounts}
 use Rattle.model.specs.Examples.{Q, detectsNone, detectsFalling, detectsRising, chain, spread, aRises, reportOfThree, outputsBytes, oneGate, besideOnePin, bRises, withOutputs, halves}
 use Rattle.model.specs.Examples.{twice, aFalls, hazard, riseAndFall, carry, carryTest, callIn, steadyOf, equalPair, tooManyRuns, twoBytes}
 use Rattle.model.proofs.ListLaws.{allOf-at}
-use Rattle.model.proofs.AnswerLaws.{same→}
-
-unfoldable pub same : Answer (List ℕ) → Answer (List ℕ) → Bool
-same (refused m) (refused n) = eqb m n
-same (refused m) (value ys) = false
-same (value xs) (refused n) = false
-same (value xs) (value ys) = sameBytes xs ys
-
-pub same-answer : (a b : Answer (List ℕ)) → T (same a b) → a ≡ b
-unfolding same
-same-answer (refused m) (refused n) t = ap refused (eqb→eq m n t)
-same-answer (refused m) (value ys) t = absurd t
-same-answer (value xs) (refused n) t = absurd t
-same-answer (value xs) (value ys) t = ap value (same→ xs ys t)
+use Rattle.model.proofs.SameAnswers.{same, same-answer}
 
 unfoldable pub right : Row → Bool
 right r = same (reply (r .netlist) (r .question)) (r .answer)
