@@ -15,7 +15,8 @@ use Rattle.model.proofs.ListLaws.{any-map}
 use Rattle.block.specs.Words.{WordIs, bitsAt, wordsAt, firstWords, GateIs}
 use Rattle.block.specs.Table.{GateRow}
 use Rattle.block.specs.Block.{liveNet, activePin, LiveWords}
-use Rattle.block.specs.Lists.{packBits, keepIf, keep, gateEntry, liveEntries, entries, pushIf, entryOf, Pushed}
+use Rattle.packed_pins.specs.Packed.{packBits}
+use Rattle.block.specs.Lists.{keepIf, keep, gateEntry, liveEntries, entries, pushIf, entryOf, Pushed}
 use Rattle.block.specs.NetStates.{EdgeActive}
 use Rattle.block.specs.declared.inner.gates.Gate.{Gate}
 use Rattle.block.proofs.LiveLaws.{live-gate}

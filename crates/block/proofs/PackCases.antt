@@ -14,9 +14,8 @@ use lib.ListN.{getD}
 use mir.Val.{Fits}
 use mir.Syntax.{w32}
 use Rattle.model.specs.Base.{bit, numbersFrom}
-use Rattle.packed_pins.specs.Packed.{oneWhere}
+use Rattle.packed_pins.specs.Packed.{oneWhere, packBits}
 use Rattle.block.specs.Words.{bitsAt, wordsAt, firstWords}
-use Rattle.block.specs.Lists.{packBits}
 
 one-eqb : (d : ℕ) → d < 2 → d ≡ oneWhere (eqb d 1) + 2 * 0
 one-eqb zero h = refl

@@ -9,15 +9,10 @@ use Rattle.model.specs.Base.{numbersFrom}
 use Rattle.model.specs.Netlist.{Netlist, pinsOf}
 use Rattle.model.specs.Path.{Edge}
 use Rattle.model.specs.Detect.{Test}
-use Rattle.packed_pins.specs.Packed.{oneWhere}
+use Rattle.packed_pins.specs.Packed.{oneWhere, packBits}
 use Rattle.block.specs.Words.{wordsAt, bitsAt, firstWords}
 use Rattle.block.specs.Block.{liveNet, activePin}
 use Rattle.block.specs.Layout.{listSize, listsSize}
-
--- values packed into a number, the first in the lowest bit
-abbrev pub packBits : List Bool → ℕ
-packBits [] = 0
-packBits (v ∷ vs) = oneWhere v + 2 * packBits vs
 
 -- those of the list that pass the test
 abbrev pub keepIf : Bool → ℕ → List ℕ → List ℕ

@@ -10,10 +10,10 @@ use borrow.Author.Needs.{needs}
 use lib.ListN.{length, getD, set, take, drop, length-set}
 use lib.Seq.{getD-set-same, getD-set-other}
 use Rattle.model.specs.Netlist.{outputCount}
-use Rattle.netlist.specs.Tables.{outputIn}
+use Rattle.netlist.specs.Tables.{outputIn, outputAt}
 use Rattle.netlist.proofs.OutputLaws.{output-here, output-long}
 use Rattle.block.specs.Words.{Filled}
-use Rattle.block_marks.specs.PlaceParts.{pathsTo, pinsAt, pinPaths, GateFits, PinsPlaced, GatesFit, GatesPlaced, netAt, outputPaths, OutputsFit, OutputsPlaced}
+use Rattle.block_marks.specs.PlaceParts.{pathsTo, pinsAt, pinPaths, GateFits, PinsPlaced, GatesFit, GatesPlaced, outputPaths, OutputsFit, OutputsPlaced}
 use Rattle.block_marks.proofs.OneMoreLaws.{one-more, fill-more}
 use Rattle.block_marks.specs.Layout.{placeTableSize, outputOffsetsAt, outputNetsAt}
 
@@ -104,7 +104,7 @@ module _ {part : List ℕ} {inputs outputs : ℕ} {counts : List ℕ} (f : Outpu
       subst (λ n. OutputsPlaced part inputs n counts before after) e (d .placed)
 
   module _ (l : o < outputs) {net : ℕ} (en : net ≡ outputIn (take (length part - 4 * o) (drop (4 * o) part))) where
-    net-is : net ≡ netAt part o
+    net-is : net ≡ outputAt part o
     net-is = output-here part o net en
 
     pub output-net : net < 512
@@ -128,7 +128,7 @@ module _ {part : List ℕ} {inputs outputs : ℕ} {counts : List ℕ} (f : Outpu
               (λ i h. old (outputOffsetsAt + i) (λ q. omega arith) (λ q. apart (outputOffsetsAt + i) (outputNetsAt + o) (omega (arith, few)) q) ∙ d .placed .offsets i h)
               (getD-set-other (set after (outputOffsetsAt + o) offset) (outputNetsAt + o) (outputOffsetsAt + o) net 0 (λ q. omega arith)
               ∙ getD-set-same after (outputOffsetsAt + o) offset 0 (omega (arith, long)) ∙ d .sum);
-          nets = one-more (λ i. getD next (outputNetsAt + i) 0 ≡ netAt part i) o
+          nets = one-more (λ i. getD next (outputNetsAt + i) 0 ≡ outputAt part i) o
               (λ i h. old (outputNetsAt + i) (λ q. omega (arith, few)) (λ q. omega arith) ∙ d .placed .nets i h)
               (getD-set-same (set after (outputOffsetsAt + o) offset) (outputNetsAt + o) net 0 (omega (arith, length-set after (outputOffsetsAt + o) offset, long)) ∙ net-is);
         };

@@ -3,9 +3,9 @@
 use mathlib.Core.Path.{_≡_}
 use mathlib.Core.List.{List}
 use Prim.Native.Nat.{ℕ, zero, suc, _+_, _*_, _^_, _≤_, _<_}
-use lib.ListN.{length, getD, drop}
+use lib.ListN.{length, getD}
 use Rattle.model.specs.Netlist.{Netlist, outputCount}
-use Rattle.netlist.specs.Tables.{CircuitTables, outputIn}
+use Rattle.netlist.specs.Tables.{CircuitTables, outputAt}
 use Rattle.netlist.specs.declared.inner.Shape.{Shape}
 use Rattle.block.specs.Table.{CircuitTable}
 use Rattle.block.specs.Words.{Filled}
@@ -44,18 +44,15 @@ pub record GatesPlaced (counts table : List ℕ) (low high : ℕ) (places : List
   pub room : length places ≡ placeTableSize
   pub each : (net p : ℕ) → low ≤ net → net < high → p < pinsAt table net → getD places (8 * net + p) 0 ≡ pathsTo (pinPaths counts table net) p
 
--- the net of output o, and the paths that it has
-abbrev pub netAt : List ℕ → ℕ → ℕ
-netAt part o = outputIn (drop (4 * o) part)
-
+-- the paths that output o has
 abbrev pub outputPaths : List ℕ → ℕ → List ℕ → ℕ → ℕ
-outputPaths part inputs counts o = outputCount inputs counts (netAt part o)
+outputPaths part inputs counts o = outputCount inputs counts (outputAt part o)
 
 -- outputs at nets, with no more than 2^62 paths
 pub record OutputsFit (part : List ℕ) (inputs outputs : ℕ) (counts : List ℕ) : Type 0 where
   pub few : outputs ≤ 64
   pub inside : 4 * outputs ≤ length part
-  pub atNets : (o : ℕ) → o < outputs → netAt part o < 512
+  pub atNets : (o : ℕ) → o < outputs → outputAt part o < 512
   pub fits : (o : ℕ) → o ≤ outputs → pathsTo (outputPaths part inputs counts) o ≤ 2 ^ 62
 
 -- the places of the first outputs
@@ -63,7 +60,7 @@ pub record OutputsPlaced (part : List ℕ) (inputs outputs : ℕ) (counts before
   pub sameLength : length after ≡ length before
   pub same : (i : ℕ) → i < outputOffsetsAt → getD after i 0 ≡ getD before i 0
   pub offsets : (o : ℕ) → o < outputs → getD after (outputOffsetsAt + o) 0 ≡ pathsTo (outputPaths part inputs counts) o
-  pub nets : (o : ℕ) → o < outputs → getD after (outputNetsAt + o) 0 ≡ netAt part o
+  pub nets : (o : ℕ) → o < outputs → getD after (outputNetsAt + o) 0 ≡ outputAt part o
 
 -- the tables of one netlist
 pub record PlacesOf (N : Netlist) (file counts : List ℕ) (shape : Shape) (table : List ℕ) : Type 0 where

@@ -3,43 +3,20 @@
 use mathlib.Core.Path.{_≡_, refl, ap, sym, _∙_}
 use mathlib.Core.Bool.{Bool, true, false, _||_}
 use mathlib.Core.List.{List, [], _∷_, map}
-use Prim.Native.Nat.{ℕ, zero, suc, _+_, _-_, _*_, _/_, _%_, _^_, _≤_, _<_}
-use native.Mathlib.Nat.{pow-suc, lt-of-lt-of-le}
+use Prim.Native.Nat.{ℕ, zero, suc, _+_, _-_, _*_, _^_, _≤_, _<_}
+use native.Mathlib.Nat.{lt-of-lt-of-le}
 use native.Mathlib.Omega.{arith}
-use lib.Dec.{eqb}
 use lib.ListN.{length, getD, length-map}
 use lib.Pow.{pow-mono}
 use Rattle.model.specs.Base.{anyOf, bit, numbersFrom}
 use Rattle.model.proofs.BoolLaws.{cases}
 use Rattle.model.proofs.ListLaws.{getD-map-in, length-numbersFrom, numbersFrom-at}
-use Rattle.packed_pins.specs.Packed.{oneWhere}
-use Rattle.records.proofs.BitLaws.{zero-bit}
-use Rattle.block.specs.Lists.{packBits, keepIf, keep}
-use Rattle.block.proofs.WordBitLaws.{half-bit, first-bit}
+use Rattle.packed_pins.specs.Packed.{oneWhere, packBits}
+use Rattle.packed_pins.proofs.PackBitsLaws.{bits-at, bits-small}
+use Rattle.block.specs.Lists.{keepIf, keep}
 use Rattle.block_runs.proofs.BitRunLaws.{past-word}
 
 -- ---- packed values
-
-odd-one : (v : Bool) (n : ℕ) → eqb ((oneWhere v + 2 * n) % 2) 1 ≡ v
-odd-one true n = let e : (1 + 2 * n) % 2 ≡ 1 = omega arith in ap (λ x. eqb x 1) e
-odd-one false n = let e : (0 + 2 * n) % 2 ≡ 0 = omega arith in ap (λ x. eqb x 1) e
-
-half-rest : (v : Bool) (n : ℕ) → (oneWhere v + 2 * n) / 2 ≡ n
-half-rest true n = omega arith
-half-rest false n = omega arith
-
-packed-bit : (vs : List Bool) (p : ℕ) → bit (packBits vs) p ≡ getD vs p false
-packed-bit [] p = zero-bit p
-packed-bit (v ∷ vs) zero = first-bit (oneWhere v + 2 * packBits vs) ∙ odd-one v (packBits vs)
-packed-bit (v ∷ vs) (suc p) = half-bit (oneWhere v + 2 * packBits vs) p ∙ ap (λ n. bit n p) (half-rest v (packBits vs)) ∙ packed-bit vs p
-
-packed-small : (vs : List Bool) → packBits vs < 2 ^ length vs
-packed-small [] = omega arith
-packed-small (v ∷ vs) = double v (packBits vs) (2 ^ length vs) (2 ^ suc (length vs)) (pow-suc 2 (length vs)) (packed-small vs)
-  where
-    double : (v : Bool) (n a b : ℕ) → b ≡ a * 2 → n < a → oneWhere v + 2 * n < b
-    double true n a b e h = omega arith
-    double false n a b e h = omega arith
 
 packed-some : (g : ℕ → Bool) (ns : List ℕ) → anyOf g ns ≡ true → 0 < packBits (map g ns)
 packed-some g [] e = absurd (mathlib.Core.Bool.false≢true e)
@@ -58,12 +35,12 @@ module _ (g : ℕ → Bool) (n : ℕ) where
   many = length-map (numbersFrom 0 n) g ∙ length-numbersFrom 0 n
 
   pub pack-small : packBits (map g (numbersFrom 0 n)) < 2 ^ n
-  pack-small = rw many at (packed-small (map g (numbersFrom 0 n)))
+  pack-small = rw many at (bits-small (map g (numbersFrom 0 n)))
 
   pub pack-bit : (p : ℕ) → p < n → bit (packBits (map g (numbersFrom 0 n))) p ≡ g p
   pack-bit p h =
       let e : 0 + p ≡ p = omega arith in
-      packed-bit (map g (numbersFrom 0 n)) p ∙ getD-map-in g (numbersFrom 0 n) p 0 false (rw (length-numbersFrom 0 n) h)
+      bits-at (map g (numbersFrom 0 n)) p ∙ getD-map-in g (numbersFrom 0 n) p 0 false (rw (length-numbersFrom 0 n) h)
       ∙ ap g (numbersFrom-at n 0 p h ∙ e)
 
   pub pack-past : (p : ℕ) → n ≤ p → bit (packBits (map g (numbersFrom 0 n))) p ≡ false

@@ -25,7 +25,8 @@ use Rattle.intervals.specs.Nets.{setRuns}
 use Rattle.place_runs.specs.RunsOfPlaces.{Places, pathsBefore, placeRuns, firstRuns}
 use Rattle.intervals.proofs.DetectedLaws.{gate-set, pins-all}
 use Rattle.block.specs.Block.{liveNet, activePin}
-use Rattle.block.specs.Lists.{packBits, gateEntry}
+use Rattle.packed_pins.specs.Packed.{packBits}
+use Rattle.block.specs.Lists.{gateEntry}
 use Rattle.block.specs.Table.{GateRow, CircuitTable}
 use Rattle.block.proofs.LiveLaws.{live-gate, dead-runs, live-runs}
 use Rattle.block.proofs.LowBitLaws.{low-there}

@@ -11,8 +11,8 @@ use borrow.Author.Needs.{needs}
 use lib.Bits.{bitAnd, and-mask, mask-lt}
 use lib.Dec.{eqb}
 use lib.Pow.{shl-exact, pow-mono}
-use Rattle.packed_pins.specs.Packed.{oneWhere}
-use Rattle.drawing.specs.Drawing.{nextState, stateAfter, topBit, drawn, wordOf}
+use Rattle.packed_pins.specs.Packed.{oneWhere, packBits}
+use Rattle.drawing.specs.Drawing.{nextState, stateAfter, topBit, drawn}
 use Rattle.drawing.specs.DrawnVector.{DrawnTrue}
 
 -- the next power of 2
@@ -51,15 +51,14 @@ after-next zero s h = absurd (omega arith)
 after-next (suc n) s h = let e : suc n - 1 ≡ n = omega arith in rw e refl
 
 word-next : (n s : ℕ) → 0 < n
-    → wordOf (drawn n s) ≡ oneWhere (topBit (nextState s)) + 2 * wordOf (drawn (n - 1) (nextState s))
-unfolding wordOf
-word-next n s h = ap wordOf (drawn-next n s h)
+    → packBits (drawn n s) ≡ oneWhere (topBit (nextState s)) + 2 * packBits (drawn (n - 1) (nextState s))
+word-next n s h = ap packBits (drawn-next n s h)
 
 -- what is drawn, and what is left to draw, give the whole
 pub record Drawing (inputs state vector last input : ℕ) : Type 0 where
   pub most : input ≤ inputs
   pub small : vector < 2 ^ input
-  pub whole : vector + wordOf (drawn (inputs - input) last) * 2 ^ input ≡ wordOf (drawn inputs state)
+  pub whole : vector + packBits (drawn (inputs - input) last) * 2 ^ input ≡ packBits (drawn inputs state)
   pub steps : stateAfter (inputs - input) last ≡ stateAfter inputs state
 
 pub draw-first : (inputs state : ℕ) → Drawing inputs state 0 state 0
@@ -68,7 +67,7 @@ draw-first inputs state =
     record {
       most = omega arith;
       small = omega arith;
-      whole = let w : wordOf (drawn (inputs - 0) state) ≡ wordOf (drawn inputs state) = ap (λ k. wordOf (drawn k state)) n in omega arith;
+      whole = let w : packBits (drawn (inputs - 0) state) ≡ packBits (drawn inputs state) = ap (λ k. packBits (drawn k state)) n in omega arith;
       steps = ap (λ k. stateAfter k state) n;
     }
 
@@ -101,15 +100,15 @@ module _ (inputs state vector last input : ℕ) (d : Drawing inputs state vector
   draw-next =
       let left : 0 < inputs - input = omega arith in
       let n : inputs - input - 1 ≡ inputs - (input + 1) = omega arith in
-      let rest : ℕ = wordOf (drawn (inputs - (input + 1)) next) in
+      let rest : ℕ = packBits (drawn (inputs - (input + 1)) next) in
       let one : ℕ = oneWhere (topBit next) in
-      let w : wordOf (drawn (inputs - input) last) ≡ one + 2 * rest =
+      let w : packBits (drawn (inputs - input) last) ≡ one + 2 * rest =
       word-next (inputs - input) last left
-      ∙ ap (λ k. oneWhere (topBit (nextState last)) + 2 * wordOf (drawn k (nextState last))) n
-      ∙ ap (λ k. oneWhere (topBit k) + 2 * wordOf (drawn (inputs - (input + 1)) k)) (sym stepped) in
+      ∙ ap (λ k. oneWhere (topBit (nextState last)) + 2 * packBits (drawn k (nextState last))) n
+      ∙ ap (λ k. oneWhere (topBit k) + 2 * packBits (drawn (inputs - (input + 1)) k)) (sym stepped) in
       let p : 2 ^ (input + 1) ≡ 2 * 2 ^ input = pow-next input in
       let c : (one + 2 * rest) * 2 ^ input ≡ one * 2 ^ input + rest * (2 * 2 ^ input) = carry one rest (2 ^ input) in
-      let t : wordOf (drawn (inputs - input) last) * 2 ^ input ≡ one * 2 ^ input + rest * 2 ^ (input + 1) =
+      let t : packBits (drawn (inputs - input) last) * 2 ^ input ≡ one * 2 ^ input + rest * 2 ^ (input + 1) =
       ap (λ k. k * 2 ^ input) w ∙ c ∙ ap (λ k. one * 2 ^ input + rest * k) (sym p) in
       let h = d .whole in
       record {
@@ -121,8 +120,8 @@ module _ (inputs state vector last input : ℕ) (d : Drawing inputs state vector
             ∙ d .steps;
       }
 
-none-left : (s : ℕ) → wordOf (drawn 0 s) ≡ 0
-unfolding wordOf drawn
+none-left : (s : ℕ) → packBits (drawn 0 s) ≡ 0
+unfolding drawn
 none-left s = refl
 
 pub no-steps : (s : ℕ) → stateAfter 0 s ≡ s
@@ -133,9 +132,9 @@ module _ (inputs state vector last input : ℕ) (d : Drawing inputs state vector
   pub draw-last : DrawnTrue (record { vector = vector; state = last }) inputs state
   draw-last =
       let n : inputs - input ≡ 0 = omega arith in
-      let e : wordOf (drawn (inputs - input) last) ≡ 0 = ap (λ k. wordOf (drawn k last)) n ∙ none-left last in
+      let e : packBits (drawn (inputs - input) last) ≡ 0 = ap (λ k. packBits (drawn k last)) n ∙ none-left last in
       let w = d .whole in
-      let z : wordOf (drawn (inputs - input) last) * 2 ^ input ≡ 0 * 2 ^ input = ap (λ k. k * 2 ^ input) e in
+      let z : packBits (drawn (inputs - input) last) * 2 ^ input ≡ 0 * 2 ^ input = ap (λ k. k * 2 ^ input) e in
       record { vectorIs = omega arith; stateIs = sym (no-steps last) ∙ ap (λ k. stateAfter k last) (sym n) ∙ d .steps }
 
 pub ruleset draw-cases = (draw-first, draw-fits, draw-next, draw-last, needs)

@@ -1,11 +1,10 @@
--- The generator: the state and its steps, the vector that is drawn, and that vector as a number.
+-- The generator: the state and its steps, and the vector that is drawn.
 -- Names: s is a state, v a vector (a value for each input, input 0 first).
 -- Assumes nothing.
 use mathlib.Core.Bool.{Bool}
 use mathlib.Core.List.{List, [], _∷_}
 use Prim.Native.Nat.{ℕ, zero, suc, _+_, _*_, _%_, _^_}
 use Rattle.model.specs.Base.{bit}
-use Rattle.packed_pins.specs.Packed.{oneWhere}
 
 -- A step replaces state s by 1664525 times s plus 1013904223, modulo 2^32
 unfoldable pub nextState : ℕ → ℕ
@@ -24,8 +23,3 @@ topBit s = bit s 31
 unfoldable pub drawn : ℕ → ℕ → List Bool
 drawn zero s = []
 drawn (suc n) s = topBit (nextState s) ∷ drawn n (nextState s)
-
--- a vector as a number, input j in bit j
-unfoldable pub wordOf : List Bool → ℕ
-wordOf [] = 0
-wordOf (b ∷ v) = oneWhere b + 2 * wordOf v

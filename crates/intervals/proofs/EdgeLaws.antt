@@ -16,7 +16,7 @@ use Rattle.model.proofs.NetLaws.{output-count-same}
 use Rattle.model.proofs.NumberLaws.{length-outputCounts, outputCounts-is}
 use Rattle.model.proofs.ReadLaws.{legal, limits}
 use Rattle.model.proofs.WellFormed.{WellFormed}
-use Rattle.netlist.specs.Tables.{outputIn}
+use Rattle.netlist.specs.Tables.{outputAt}
 use Rattle.netlist.specs.declared.inner.Shape.{Shape}
 use Rattle.netlist.proofs.TableLaws.{few-outputs, count-at, outputs-inside, output-is, output-below}
 use Rattle.runs.specs.RunLists.{run, onlyIf}
@@ -27,7 +27,7 @@ use Rattle.run_union.proofs.Adding.{answer-fits}
 use Rattle.run_union.proofs.Adding.{adds-count}
 use Rattle.intervals.specs.Edges.{Case, EdgeAt, SomeEdgeAt, detected, working, Detects}
 use Rattle.intervals.specs.Nets.{setRuns, inputRuns, Stand, Kept, NetsAt, SomeNetsAt, NetsMade}
-use Rattle.place_runs.specs.RunsOfPlaces.{outputAt, outputPlaces, outputRuns, runsIn, NetReady, OutputsReady}
+use Rattle.place_runs.specs.RunsOfPlaces.{outputPlaces, outputRuns, runsIn, NetReady, OutputsReady}
 use Rattle.place_runs.proofs.AddedLaws.{as-adds, adds-kept, full-count}
 use Rattle.intervals.proofs.PlaceRunLaws.{paths-most}
 use Rattle.intervals.proofs.StandLaws.{stand-same, stand-runs, stand-net}
@@ -89,7 +89,7 @@ module _ {file ps cs masks : List ℕ} {edges : ℕ} {shape : Shape} {ws₀ ws�
         many = a .tables .outputsAre ∙ sym (length-outputCounts N w)
 
         net-is : (o : ℕ) → o < shape .outputs → outputAt part o ≡ outputNet N o
-        net-is o h = ap (λ x. outputIn (drop (4 * o) x)) e ∙ output-is (a .tables) o h
+        net-is o h = ap (λ x. outputAt x o) e ∙ output-is (a .tables) o h
 
         below : (o : ℕ) → o < shape .outputs → outputNet N o < nets N
         below o h = omega (arith, output-below (a .tables) o h, a .tables .netsAre)

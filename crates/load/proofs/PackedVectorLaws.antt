@@ -24,8 +24,8 @@ use Rattle.model.proofs.ListLaws.{getD-map-in, length-numbersFrom, numbersFrom-
 use Rattle.model.proofs.ReportLaws.{littleEndian-back}
 use Rattle.records.proofs.BitLaws.{word-bit}
 use Rattle.load.specs.Load.{Pair, packed, recordBytes}
-use Rattle.drawing.specs.Drawing.{wordOf}
-use Rattle.load.proofs.VectorWordLaws.{word-is, word-small}
+use Rattle.packed_pins.specs.Packed.{packBits}
+use Rattle.packed_pins.proofs.PackBitsLaws.{bits-at, bits-small}
 use Rattle.load.proofs.SizeLaws.{length-packed, Wide, length-record}
 
 -- the bytes of a number are bytes
@@ -43,11 +43,11 @@ byte-bits (suc n) =
     let q : 2 ^ (8 * suc n) ≡ 256 * 2 ^ (8 * n) = ap (λ k. 2 ^ k) e ∙ pow-add 2 8 (8 * n) in
     p ∙ ap (λ k. 256 * k) (byte-bits n) ∙ sym q
 
-word-held : (v : List Bool) → wordOf v < 256 ^ vectorBytes (length v)
+word-held : (v : List Bool) → packBits v < 256 ^ vectorBytes (length v)
 word-held v =
     let m : 2 ^ length v ≤ 2 ^ (8 * vectorBytes (length v)) =
     pow-mono {i = length v} {j = 8 * vectorBytes (length v)} (omega arith) in
-    omega (arith, word-small v, byte-bits (vectorBytes (length v)))
+    omega (arith, bits-small v, byte-bits (vectorBytes (length v)))
 
 -- Input j of a packed vector, whatever bytes follow it
 pub packed-bit : (v : List Bool) (rest : List ℕ) (j : ℕ) → j / 8 < vectorBytes (length v)
@@ -55,9 +55,9 @@ pub packed-bit : (v : List Bool) (rest : List ℕ) (j : ℕ) → j / 8 < vectorB
 packed-bit v rest j h =
     let inside : j / 8 < length (packed v) = omega (arith, length-packed v) in
     ap (λ k. bit k (j % 8)) (List·getD-append (packed v) rest 0 (j / 8) inside)
-    ∙ sym (word-bit (packed v) (bytes-small (vectorBytes (length v)) (wordOf v)) j inside)
-    ∙ ap (λ k. bit k j) (littleEndian-back (vectorBytes (length v)) (wordOf v) (word-held v))
-    ∙ word-is v j
+    ∙ sym (word-bit (packed v) (bytes-small (vectorBytes (length v)) (packBits v)) j inside)
+    ∙ ap (λ k. bit k j) (littleEndian-back (vectorBytes (length v)) (packBits v) (word-held v))
+    ∙ bits-at v j
 
 -- so the vector is read back
 pub packed-back : (v : List Bool) (rest : List ℕ) → vector (length v) (packed v ++ rest) ≡ v

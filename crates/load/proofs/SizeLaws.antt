@@ -12,7 +12,8 @@ use Rattle.model.specs.Path.{Edge, rising, falling}
 use Rattle.model.specs.Read.{vectorBytes}
 use Rattle.model.proofs.FieldLaws.{length-littleEndian}
 use Rattle.load.specs.Load.{Pair, inputTest, testsFrom, loadTests, packed}
-use Rattle.drawing.specs.Drawing.{nextState, stateAfter, drawn, wordOf}
+use Rattle.packed_pins.specs.Packed.{packBits}
+use Rattle.drawing.specs.Drawing.{nextState, stateAfter, drawn}
 use Rattle.load.specs.Load.{recordBytes, fileBytes, loadRecords, vectorRecords}
 use Rattle.load.specs.Answers.{recordSize, vectorSize}
 use Rattle.load.proofs.VectorSteps.{length-drawn}
@@ -22,7 +23,7 @@ pub size-small : (inputs bytes : ℕ) → inputs ≤ 64 → bytes ≤ 8 → inpu
 size-small inputs bytes h l = mul-le-mul {n₁ = inputs} {m₁ = 2 * (2 + 2 * bytes)} {n₂ = 64} {m₂ = 36} h (omega arith)
 
 pub length-packed : (v : List Bool) → length (packed v) ≡ vectorBytes (length v)
-length-packed v = length-littleEndian (vectorBytes (length v)) (wordOf v)
+length-packed v = length-littleEndian (vectorBytes (length v)) (packBits v)
 
 -- a test whose vectors have so many inputs
 pub record Wide (n : ℕ) (t : Pair) : Type 0 where

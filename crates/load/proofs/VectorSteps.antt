@@ -18,13 +18,14 @@ use Rattle.model.specs.Read.{vectorBytes}
 use Rattle.records.proofs.ByteLaws.{sets-append}
 use Rattle.model.proofs.FieldLaws.{length-littleEndian}
 use Rattle.load.specs.Load.{Pair, finalValue, invertedAt, inputTest, testsFrom, loadTests}
+use Rattle.packed_pins.specs.Packed.{packBits}
 use Rattle.drawing.specs.Drawing.{nextState, drawn}
-use Rattle.drawing.specs.Drawing.{wordOf}
 use Rattle.load.specs.Load.{packed, recordBytes, fileBytes, loadRecords}
 use Rattle.drawing.specs.DrawnVector.{DrawnTrue}
 use Rattle.load.specs.Answers.{vectorSize}
 use Rattle.drawing.specs.declared.inner.Drawn.{Drawn}
-use Rattle.load.proofs.VectorWordLaws.{word-small, lowered-is, raised-is}
+use Rattle.packed_pins.proofs.PackBitsLaws.{bits-small}
+use Rattle.load.proofs.VectorWordLaws.{lowered-is, raised-is}
 
 pub length-drawn : (n s : ℕ) → length (drawn n s) ≡ n
 unfolding drawn
@@ -44,11 +45,11 @@ test-is v j e h =
     ap (λ (x : List Bool). record { v1 = x; v2 = set v j (finalValue e) }) (inverted-set v j (finalValue e) h)
 
 packed-set : (v : List Bool) (j : ℕ) (b : Bool) (bytes word : ℕ) → bytes ≡ vectorBytes (length v)
-    → word ≡ wordOf (set v j b) → packed (set v j b) ≡ littleEndian bytes word
+    → word ≡ packBits (set v j b) → packed (set v j b) ≡ littleEndian bytes word
 packed-set v j b bytes word p q = ap₂ littleEndian (ap vectorBytes (length-set v j b) ∙ sym p) (sym q)
 
-module _ (v : List Bool) (j bytes low high : ℕ) (inside : j < length v) (size : bytes ≡ vectorBytes (length v)) (lowIs : low ≡ wordOf (set v j false))
-    (highIs : high ≡ wordOf (set v j true)) where
+module _ (v : List Bool) (j bytes low high : ℕ) (inside : j < length v) (size : bytes ≡ vectorBytes (length v)) (lowIs : low ≡ packBits (set v j false))
+    (highIs : high ≡ packBits (set v j true)) where
   rising-bytes : recordBytes (inputTest v j rising) ≡ testBytes (littleEndian bytes low) (littleEndian bytes high)
   unfolding recordBytes
   rising-bytes =
@@ -148,10 +149,10 @@ module _ (inputs state bytes at : ℕ) (found : List ℕ) where
         inside : input < length (drawn inputs state)
         inside = omega (arith, length-drawn inputs state)
 
-        low-word : low ≡ wordOf (set (drawn inputs state) input false)
+        low-word : low ≡ packBits (set (drawn inputs state) input false)
         low-word = lowered-is (drawn inputs state) input inside (d .vector) (t .vectorIs) low lowIs
 
-        high-word : low + bit ≡ wordOf (set (drawn inputs state) input true)
+        high-word : low + bit ≡ packBits (set (drawn inputs state) input true)
         high-word =
             ap (λ k. low + k) bitIs ∙ raised-is (drawn inputs state) input inside (d .vector) (t .vectorIs) low lowIs
 
@@ -159,7 +160,7 @@ module _ (inputs state bytes at : ℕ) (found : List ℕ) where
         write-fits =
             let v : List Bool = set (drawn inputs state) input true in
             let l : length (set (drawn inputs state) input true) ≡ inputs = length-set (drawn inputs state) input true ∙ length-drawn inputs state in
-            let s : wordOf v < 2 ^ length v = word-small v in
+            let s : packBits v < 2 ^ length v = bits-small v in
             let p : 2 ^ length v ≤ 2 ^ 64 = pow-mono {i = length v} {j = 64} (omega arith) in
             omega (arith, high-word)
 

@@ -10,7 +10,8 @@ use Rattle.model.specs.Base.{littleEndian}
 use Rattle.model.specs.Encode.{testBytes}
 use Rattle.model.specs.Path.{Edge, rising, falling}
 use Rattle.model.specs.Read.{vectorBytes}
-use Rattle.drawing.specs.Drawing.{stateAfter, drawn, wordOf}
+use Rattle.packed_pins.specs.Packed.{packBits}
+use Rattle.drawing.specs.Drawing.{stateAfter, drawn}
 
 -- the value of an input after its edge
 abbrev pub finalValue : Edge → Bool
@@ -41,7 +42,7 @@ loadTests n s = testsFrom (drawn n s) 0 n
 
 -- a vector in whole bytes: input j is bit j mod 8 of byte j / 8, and spare bits are zero (Passes.antt says so by document 01's own reading)
 abbrev pub packed : List Bool → List ℕ
-packed v = littleEndian (vectorBytes (length v)) (wordOf v)
+packed v = littleEndian (vectorBytes (length v)) (packBits v)
 
 -- the record of a test, and the records of tests end to end
 unfoldable pub recordBytes : Pair → List ℕ

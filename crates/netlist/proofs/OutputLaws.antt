@@ -18,7 +18,7 @@ use Rattle.model.proofs.WellFormed.{ascendingNets}
 use Rattle.records.proofs.PartLaws.{part-rest}
 use Rattle.gate_records.specs.GateReading.{sizeAt}
 use Rattle.netlist.specs.Places.{outputsFrom}
-use Rattle.netlist.specs.Tables.{outputIn}
+use Rattle.netlist.specs.Tables.{outputIn, outputAt}
 use Rattle.netlist.proofs.PlaceLaws.{long-file, few-nets, next-at}
 
 pub below : (n least : ℕ) (us : List ℕ) → T (ascendingNets n least us) → T (allOf (λ p. ltb p n) us)
@@ -107,7 +107,7 @@ unfolding outputsFrom
 length-outputs zero bs = refl
 length-outputs (suc n) bs = ap suc (length-outputs n (drop 4 bs))
 
-pub outputs-at : (n : ℕ) (part : List ℕ) (o : ℕ) → o < n → getD (outputsFrom n part) o 0 ≡ outputIn (drop (4 * o) part)
+pub outputs-at : (n : ℕ) (part : List ℕ) (o : ℕ) → o < n → getD (outputsFrom n part) o 0 ≡ outputAt part o
 unfolding outputsFrom
 outputs-at zero part o h = absurd (not-suc-le-zero h)
 outputs-at (suc n) part zero h = refl
@@ -117,7 +117,7 @@ outputs-at (suc n) part (suc o) h =
 
 -- the part of an output's record, as the code makes it
 module _ (part : List ℕ) (o : ℕ) where
-  pub output-here : (net : ℕ) → net ≡ outputIn (take (length part - 4 * o) (drop (4 * o) part)) → net ≡ outputIn (drop (4 * o) part)
+  pub output-here : (net : ℕ) → net ≡ outputIn (take (length part - 4 * o) (drop (4 * o) part)) → net ≡ outputAt part o
   output-here net e = e ∙ ap outputIn (part-rest (4 * o) part)
 
   pub output-long : (outputs : ℕ) → 4 * outputs ≤ length part → o < outputs → 4 ≤ length (take (length part - 4 * o) (drop (4 * o) part))

@@ -16,7 +16,7 @@ use Rattle.model.proofs.NetLaws.{length-counts}
 use Rattle.model.proofs.NumberLaws.{pin-lower}
 use Rattle.model.proofs.ReadLaws.{parts, legal, limits, length-netFields, pins-fit}
 use Rattle.netlist.specs.Places.{outputsFrom}
-use Rattle.netlist.specs.Tables.{CircuitTables, GatePart, kindIn, pinCountIn, outputIn, gatePart}
+use Rattle.netlist.specs.Tables.{CircuitTables, GatePart, kindIn, pinCountIn, outputAt, gatePart}
 use Rattle.netlist.specs.declared.inner.Shape.{Shape}
 use Rattle.records.proofs.PartLaws.{part-rest}
 use Rattle.netlist.proofs.PinLaws.{fields-at}
@@ -98,7 +98,7 @@ module _ {N : Netlist} {file ps cs : List ℕ} {shape : Shape} (t : CircuitTable
   outputs-read = sym (outputs file N (parts file N (t .legal)) .outputs-are
       ∙ ap (λ m. outputsFrom m (drop (length file - 4 * m) file)) (sym (t .outputsAre)))
 
-  pub output-is : (o : ℕ) → o < shape .outputs → outputIn (drop (4 * o) (drop (length file - 4 * shape .outputs) file)) ≡ outputNet N o
+  pub output-is : (o : ℕ) → o < shape .outputs → outputAt (drop (length file - 4 * shape .outputs) file) o ≡ outputNet N o
   output-is o h = sym (outputs-at (shape .outputs) (drop (length file - 4 * shape .outputs) file) o h) ∙ ap (λ (x : List ℕ). getD x o 0) outputs-read
 
   pub output-below : (o : ℕ) → o < shape .outputs → outputNet N o < shape .nets

@@ -64,3 +64,7 @@ pub record GatePart (part : List ℕ) (N : Netlist) (net : ℕ) : Type 0 where
 -- the net of the output's record (4F 55) with which a part begins
 abbrev pub outputIn : List ℕ → ℕ
 outputIn part = field 2 2 part
+
+-- the net of output o, where the outputs' records make a part
+abbrev pub outputAt : List ℕ → ℕ → ℕ
+outputAt part o = outputIn (drop (4 * o) part)

@@ -1,8 +1,8 @@
--- The values at a gate's pins packed into a byte, pin 0 in the lowest bit.
+-- Values packed into a number; a gate's pins packed into a byte, pin 0 in the lowest bit.
 -- Assumes nothing.
 use mathlib.Core.Bool.{Bool, true, false}
 use mathlib.Core.List.{List, [], _∷_}
-use Prim.Native.Nat.{ℕ, zero, suc, _-_, _/_, _%_, _^_, _≤_, _<_}
+use Prim.Native.Nat.{ℕ, zero, suc, _+_, _-_, _*_, _/_, _%_, _^_, _≤_, _<_}
 use lib.Bits.{bitAnd}
 use lib.Dec.{T, eqb}
 use Rattle.model.specs.Detect.{odd}
@@ -17,6 +17,11 @@ bitsIn (suc n) b = eqb (b % 2) 1 ∷ bitsIn n (b / 2)
 abbrev pub oneWhere : Bool → ℕ
 oneWhere true = 1
 oneWhere false = 0
+
+-- values packed into a number, the first in the lowest bit
+abbrev pub packBits : List Bool → ℕ
+packBits [] = 0
+packBits (v ∷ vs) = oneWhere v + 2 * packBits vs
 
 -- an odd number of ones in a byte
 unfoldable pub parityOf : ℕ → Bool

@@ -20,7 +20,7 @@ use Rattle.model.proofs.BoolLaws.{true→T, bool-cases}
 use Rattle.model.proofs.NumberLaws.{output-net, number-bounds, numbers-bounds}
 use Rattle.model.proofs.ReadLaws.{legal, limits}
 use Rattle.model.proofs.WellFormed.{WellFormed}
-use Rattle.netlist.specs.Tables.{CircuitTables, SomeTables, outputIn}
+use Rattle.netlist.specs.Tables.{CircuitTables, SomeTables, outputIn, outputAt}
 use Rattle.netlist.specs.declared.inner.Shape.{Shape}
 use Rattle.records.proofs.PartLaws.{part-rest}
 use Rattle.netlist.proofs.OutputLaws.{output-here}
@@ -70,7 +70,7 @@ module _ (file ps cs : List ℕ) (shape : Shape) (known : SomeTables file ps cs 
     pub place-net : (net : ℕ) → net ≡ outputIn (take (length outs - 4 * place) (drop (4 * place) outs)) → net < shape .nets
     place-net net en =
         let is : net ≡ outputNet (known .circuit) place =
-        output-here outs place net en ∙ ap (λ (x : List ℕ). outputIn (drop (4 * place) x)) eo ∙ output-is t place there in
+        output-here outs place net en ∙ ap (λ (x : List ℕ). outputAt x place) eo ∙ output-is t place there in
         omega (arith, is, output-below t place there)
 
     pub place-sum : sumOf (outputCountsIn outs place (shape .inputs) cs) ≤ 2 ^ 62
@@ -124,7 +124,7 @@ module _ (file ps cs : List ℕ) (shape : Shape) (ws : List ℕ) where
 
           net-is : net ≡ start
           net-is =
-              output-here outs place net en ∙ ap (λ (x : List ℕ). outputIn (drop (4 * place) x)) ee ∙ output-is t place there
+              output-here outs place net en ∙ ap (λ (x : List ℕ). outputAt x place) ee ∙ output-is t place there
               ∙ ap (outputNet N) eo
 
           here : getD ws 0 0 < length (N .outputs)

@@ -13,7 +13,7 @@ use Rattle.model.specs.Netlist.{outputCount}
 use Rattle.model.specs.Path.{countsBefore}
 use Rattle.model.proofs.ListLaws.{getD-map-in}
 use Rattle.netlist.specs.Places.{outputsFrom}
-use Rattle.netlist.specs.Tables.{outputIn}
+use Rattle.netlist.specs.Tables.{outputIn, outputAt}
 use Rattle.netlist.proofs.OutputLaws.{length-outputs, outputs-at, output-here, output-long}
 use Rattle.path_picks.specs.Picks.{RecordsOfOutputs, outputCountsIn, pickOutput}
 use Rattle.path_picks.proofs.SplitLaws.{Passed, passed-none, passed-here, passed-last, passed-on, before-next, before-small, before-whole}
@@ -24,7 +24,7 @@ module _ (part : List ℕ) (n inputs : ℕ) (cs : List ℕ) where
   unfolding outputCountsIn
   length-counts = length-map (outputsFrom n part) (outputCount inputs cs) ∙ length-outputs n part
 
-  pub counts-at : (o : ℕ) → o < n → getD (outputCountsIn part n inputs cs) o 0 ≡ outputCount inputs cs (outputIn (drop (4 * o) part))
+  pub counts-at : (o : ℕ) → o < n → getD (outputCountsIn part n inputs cs) o 0 ≡ outputCount inputs cs (outputAt part o)
   unfolding outputCountsIn
   counts-at o h =
       getD-map-in (outputCount inputs cs) (outputsFrom n part) o 0 0 (omega (arith, length-outputs n part))
@@ -52,7 +52,7 @@ module _ (part : List ℕ) (n : ℕ) (g : RecordsOfOutputs part n) (o : ℕ) (th
   output-room = output-long part o n (g .inside) there
 
   module _ (net : ℕ) (en : net ≡ outputIn (take (length part - 4 * o) (drop (4 * o) part))) where
-    net-is : net ≡ outputIn (drop (4 * o) part)
+    net-is : net ≡ outputAt part o
     net-is = output-here part o net en
 
     pub output-few : net < 512
@@ -70,7 +70,7 @@ module _ (part : List ℕ) (n : ℕ) (g : RecordsOfOutputs part n) (o : ℕ) (th
         unfolding pickOutput
         output-taken h =
             let f = passed-here (outputCountsIn part n inputs cs) i o rest listed left (omega (arith, count-is)) in
-            λ k. record { pin = f .place-is k; net = (net-is ∙ ap (λ j. outputIn (drop (4 * j) part)) (f .place-is)) k; number = f .number-is k }
+            λ k. record { pin = f .place-is k; net = (net-is ∙ ap (λ j. outputAt part j) (f .place-is)) k; number = f .number-is k }
 
         pub output-again : count < rest → Passed (outputCountsIn part n inputs cs) i (o + 1) (rest - count)
         output-again h = rw count-is (passed-on (outputCountsIn part n inputs cs) i o rest listed left (omega (arith, count-is)))
@@ -89,7 +89,7 @@ module _ (part : List ℕ) (n : ℕ) (g : RecordsOfOutputs part n) (o : ℕ) (th
     output-end inputs cs i rest left h =
         let xs = outputCountsIn part n inputs cs in
         let f = passed-last xs i o rest (omega (arith, length-counts part n inputs cs)) left (omega (arith, length-counts part n inputs cs)) in
-        λ k. record { pin = f .place-is k; net = (net-is ∙ ap (λ j. outputIn (drop (4 * j) part)) (f .place-is)) k; number = f .number-is k }
+        λ k. record { pin = f .place-is k; net = (net-is ∙ ap (λ j. outputAt part j) (f .place-is)) k; number = f .number-is k }
 
 pub total-end : (part : List ℕ) (n inputs : ℕ) (cs : List ℕ) (o total : ℕ) → o ≤ n → n ≤ o → total ≡ countsBefore o (outputCountsIn part n inputs cs)
     → total ≡ sumOf (outputCountsIn part n inputs cs)

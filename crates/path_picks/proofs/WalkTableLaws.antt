@@ -12,7 +12,7 @@ use Rattle.model.proofs.NetLaws.{count-gate}
 use Rattle.model.proofs.NumberLaws.{length-pinCounts, pinCounts-at}
 use Rattle.model.proofs.ReadLaws.{legal, limits}
 use Rattle.netlist.specs.Places.{outputsFrom}
-use Rattle.netlist.specs.Tables.{CircuitTables, GatePart, gatePart, pinCountIn, pinIn, outputIn}
+use Rattle.netlist.specs.Tables.{CircuitTables, GatePart, gatePart, pinCountIn, pinIn, outputAt}
 use Rattle.netlist.specs.declared.inner.Shape.{Shape}
 use Rattle.netlist.proofs.TableLaws.{gate-part, count-at, few-nets, outputs-inside, outputs-read, output-is, output-below, counts-of-outputs}
 use Rattle.path_picks.specs.Picks.{PinsIn, pinCountsIn, RecordsOfOutputs, outputCountsIn}
@@ -25,7 +25,7 @@ module _ {N : Netlist} {file ps cs : List ℕ} {shape : Shape} (t : CircuitTable
     outputs-before n h = record {
       inside = omega (arith, ap (length {A = ℕ}) e, length-drop (length file - 4 * shape .outputs) file, outputs-inside t);
       low = λ o there.
-          let net : outputIn (drop (4 * o) outs) ≡ outputNet N o = ap (λ (x : List ℕ). outputIn (drop (4 * o) x)) e ∙ output-is t o (omega arith) in
+          let net : outputAt outs o ≡ outputNet N o = ap (λ (x : List ℕ). outputAt x o) e ∙ output-is t o (omega arith) in
           omega (arith, net, output-below t o (omega arith), few-nets t);
     }
 

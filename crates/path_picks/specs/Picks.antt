@@ -7,7 +7,7 @@ use Rattle.model.specs.Netlist.{maxNets, atNets, outputCount}
 use Rattle.model.specs.Path.{split}
 use Rattle.model.specs.Read.{netFields}
 use Rattle.netlist.specs.Places.{outputsFrom}
-use Rattle.netlist.specs.Tables.{pinCountIn, pinIn, outputIn}
+use Rattle.netlist.specs.Tables.{pinCountIn, pinIn, outputAt}
 use Rattle.path_picks.specs.declared.inner.pins.Pick.{Pick}
 
 -- the part begins with a gate's record: at least one pin, all in the part, each at one of 512 nets
@@ -29,7 +29,7 @@ pickPin part cs i =
 -- the part begins with `n` outputs' records, each at one of 512 nets
 pub record RecordsOfOutputs (part : List ℕ) (n : ℕ) : Type 0 where
   pub inside : 4 * n ≤ length part
-  pub low : (o : ℕ) → o < n → outputIn (drop (4 * o) part) < maxNets
+  pub low : (o : ℕ) → o < n → outputAt part o < maxNets
 
 -- how many paths end at each of them
 unfoldable pub outputCountsIn : List ℕ → ℕ → ℕ → List ℕ → List ℕ
@@ -39,4 +39,4 @@ outputCountsIn part n inputs cs = map (outputCount inputs cs) (outputsFrom n par
 unfoldable pub pickOutput : List ℕ → ℕ → ℕ → List ℕ → ℕ → Pick
 pickOutput part n inputs cs i =
     let chosen = split (outputCountsIn part n inputs cs) i in
-    record { pin = chosen .0; net = outputIn (drop (4 * chosen .0) part); number = chosen .1 }
+    record { pin = chosen .0; net = outputAt part (chosen .0); number = chosen .1 }

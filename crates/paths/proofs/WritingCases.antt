@@ -17,7 +17,7 @@ use Rattle.model.proofs.NumberLaws.{Splits, splits, length-outputCounts, output
 use Rattle.model.proofs.PathCallLaws.{path-fits}
 use Rattle.model.proofs.ReadLaws.{legal, limits}
 use Rattle.model.proofs.WellFormed.{WellFormed}
-use Rattle.netlist.specs.Tables.{CircuitTables, SomeTables, outputIn}
+use Rattle.netlist.specs.Tables.{CircuitTables, SomeTables, outputAt}
 use Rattle.netlist.specs.declared.inner.Shape.{Shape}
 use Rattle.netlist.proofs.TableLaws.{few-outputs, some-output, few-nets, outputs-inside, output-is, output-below, count-at}
 use Rattle.path_picks.specs.Picks.{RecordsOfOutputs, outputCountsIn, pickOutput}
@@ -77,7 +77,7 @@ module _ (file ps cs : List ℕ) (shape : Shape) (k : ℕ) (r : Wanted file ps c
         pub net-is : o .net ≡ outputNet N (o .pin)
         unfolding pickOutput
         net-is =
-            ap (λ (x : Pick). x .net) ep ∙ ap₂ (λ (x : List ℕ) j. outputIn (drop (4 * j) x)) eo (sym (ap (λ (x : Pick). x .pin) ep))
+            ap (λ (x : Pick). x .net) ep ∙ ap₂ (λ (x : List ℕ) j. outputAt x j) eo (sym (ap (λ (x : Pick). x .pin) ep))
             ∙ output-is u (o .pin) (omega (arith, place, u .outputsAre))
 
         low-net : o .net < shape .nets

@@ -4,12 +4,12 @@ use Prim.Native.Nat.{ℕ, zero, suc, _+_, _-_, _*_, _≤_, _<_, _^_}
 use mathlib.Core.Bool.{Bool}
 use mathlib.Core.List.{List, []}
 use lib.Dec.{leb}
-use lib.ListN.{length, getD, drop}
+use lib.ListN.{length, getD}
 use Rattle.model.specs.Base.{bit}
 use Rattle.model.specs.Netlist.{outputCount}
 use Rattle.model.specs.Runs.{Run}
 use Rattle.model.specs.Store.{maxRuns}
-use Rattle.netlist.specs.Tables.{pinCountIn, pinIn, outputIn}
+use Rattle.netlist.specs.Tables.{pinCountIn, pinIn, outputAt}
 use Rattle.runs.specs.RunLists.{Sound, onlyIf, addRuns, shiftRuns, runsInWords}
 
 -- a gate's pins, or the outputs: the net at each place, whether the place is open, from the place and its net, and how many paths a net has there
@@ -48,9 +48,6 @@ abbrev pub gateRuns : List ℕ → ℕ → List ℕ → List ℕ → List ℕ �
 gateRuns part mask counts starts ws = firstRuns (gatePlaces part mask counts) (runsIn starts ws) (pinCountIn part)
 
 -- the outputs, whose records make a part: one at an input net, a wire without a gate, has no path
-abbrev pub outputAt : List ℕ → ℕ → ℕ
-outputAt part o = outputIn (drop (4 * o) part)
-
 abbrev pub outputPlaces : List ℕ → ℕ → List ℕ → Places
 outputPlaces part inputs counts = record { netOf = outputAt part; opens = λ o net. leb inputs net; paths = outputCount inputs counts }
 

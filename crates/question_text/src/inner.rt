@@ -9,9 +9,6 @@ ghost use Rattle.question_text.specs.Pieces.{lastText, ByteReady, PieceR
 use crate::inner::answer_lines::put_answer;
 use crate::inner::numbers::byte_after;
 
-// The most bytes of an answer.
-pub const ANSWER_BYTES: usize = 128;
-
 // What the bytes of a line state: nothing where there are none, a number, or something else.
 pub enum Stated {
     Nothing,

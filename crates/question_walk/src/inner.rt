@@ -13,10 +13,8 @@ use question_text::inner::Stated;
 use question_text::inner::put_answers;
 use question_text::inner::put_last;
 
-// The most bytes that are read at a time, and the bytes that the answers to so many may take.
+// The most bytes that are read at a time.
 pub const PIECE_BYTES: usize = 512;
-
-pub const OUT_BYTES: usize = 65536;
 
 // No input is longer: it is the largest size that the system tells of a file.
 const MOST_BYTES: u64 = 0x7FFF_FFFF_FFFF_FFFF;

@@ -4,7 +4,8 @@ ghost use mathlib.Core.List.{[], _∷_};
 ghost use Prim.Native.Nat.{_+_, _*_, _≤_, _<_};
 ghost use Rattle.model.specs.Base.{bit};
 ghost use Rattle.block.specs.Words.{bitsAt, firstWords};
-ghost use Rattle.block.specs.Lists.{packBits, ListRoom, entryOf, Pushed};
+ghost use Rattle.packed_pins.specs.Packed.{packBits};
+ghost use Rattle.block.specs.Lists.{ListRoom, entryOf, Pushed};
 use crate::inner::layout::LIST_SIZE;
 use records::inner;
 
