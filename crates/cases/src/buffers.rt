@@ -9,20 +9,6 @@ pub(crate) fn netlist_buffer() -> [u8; 16384]
     [0; 16384]
 }
 
-// The bytes of a record in cells.
-pub(crate) fn record_cells() -> [u64; 128]
-    ensures { λ r. ⌜ 128 ≡ length r ⌝ }
-{
-    [0; 128]
-}
-
-// A record.
-pub(crate) fn record_buffer() -> [u8; 128]
-    ensures { λ r. ⌜ 128 ≡ length r ⌝ }
-{
-    [0; 128]
-}
-
 // The cells of a script.
 pub(crate) fn cells_buffer() -> [u64; 131072]
     ensures { λ r. ⌜ 131072 ≡ length r ⌝ }

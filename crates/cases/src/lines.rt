@@ -2,22 +2,22 @@
 ghost use mathlib.Core.Path.{_≡_};
 ghost use Prim.Native.Nat.{_+_, min};
 use crate::verbs::ask_call;
-use script::inner::answers::Answer;
-use script::inner::answers::Tally;
-use script::inner::answers::compare;
-use script::inner::answers::next;
-use script::inner::answers::stated_answer;
-use script::inner::answers::unknown;
-use script::inner::answers::wrong_line;
-use script::inner::cells::Length;
 use script::inner::memory::ask_memory;
 use script::inner::memory::set_memory;
 use script::inner::pages::Lengths;
 use script::inner::pages::MEMORIES;
 use script::inner::pages::length_at;
 use script::inner::pages::page_of;
-use script::inner::words::find_byte;
-use script::inner::words::key_of;
+use script_lines::inner::answers::Answer;
+use script_lines::inner::answers::Tally;
+use script_lines::inner::answers::compare;
+use script_lines::inner::answers::next;
+use script_lines::inner::answers::stated_answer;
+use script_lines::inner::answers::unknown;
+use script_lines::inner::answers::wrong_line;
+use script_lines::inner::numbers::Length;
+use script_lines::inner::words::find_byte;
+use script_lines::inner::words::key_of;
 use tree_questions::inner::asking::ask_tree;
 
 // What a line leaves: the lengths of the memory, and the tally.

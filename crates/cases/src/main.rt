@@ -2,18 +2,15 @@
 // another, or that is not understood, with its number; the last line has the number of comparisons and of wrong lines. The head of cases.txt says
 // how its lines are written.
 mod buffers;
-mod calls;
 mod lines;
-mod names;
-mod storing;
 mod verbs;
 
 ghost use mathlib.Core.Path.{_≡_};
 ghost use lib.ListN.{length};
 use crate::buffers::cells_buffer;
 use crate::buffers::words_buffer;
-use script::inner::answers;
-use script::inner::answers::Tally;
+use script_lines::inner::answers;
+use script_lines::inner::answers::Tally;
 
 // The bytes of the longest script, and one more.
 const SCRIPT_BYTES: usize = 131072;

@@ -1,11 +1,9 @@
 // The calls by their verbs: each is handed memory of the lengths set.
 use crate::buffers::netlist_buffer;
-use crate::storing::ask_storing;
-use case_questions::inner::reading::ask_reading;
-use case_questions::inner::viewing::ask_viewing;
-use case_questions::inner::writing::ask_writing;
-use script::inner::answers::Answer;
-use script::inner::answers::unknown;
+use case_reading::inner::reading::ask_reading;
+use case_storing::inner::storing::ask_storing;
+use case_writing::inner::viewing::ask_viewing;
+use case_writing::inner::writing::ask_writing;
 use script::inner::copies::load_bytes;
 use script::inner::pages::Lengths;
 use script::inner::pages::NETLIST_PLACE;
@@ -20,6 +18,8 @@ use script::inner::pages::TESTS_START;
 use script::inner::pages::WORK_PLACE;
 use script::inner::pages::length_at;
 use script::inner::pages::part;
+use script_lines::inner::answers::Answer;
+use script_lines::inner::answers::unknown;
 
 // The call that a line names, on store and working memory of the lengths set.
 fn ask_lent(

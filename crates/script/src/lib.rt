@@ -1,3 +1,3 @@
-// Scripts of calls: the words, numbers and bytes on a line, memory that lines set and ask about, answers compared and counted.
+// The memories of a script by their names: lines set them and ask about them, and the calls are handed parts of them.
 // Only the test program calls it.
 pub mod inner;

@@ -1,20 +1,9 @@
 // Lines that set the memory of a name, and lines that ask about it.
-use crate::inner::answers::Answer;
-use crate::inner::answers::unknown;
-use crate::inner::cells::Length;
-use crate::inner::cells::ask;
-use crate::inner::cells::change;
-use crate::inner::cells::length_of;
-use crate::inner::cells::same_places;
-use crate::inner::cells::wrong;
 use crate::inner::names::CHAIN;
 use crate::inner::names::KEEP;
 use crate::inner::names::KEPT;
 use crate::inner::names::STORE;
 use crate::inner::names::WORK;
-use crate::inner::netlists::add_chain;
-use crate::inner::numbers::are;
-use crate::inner::numbers::numbers_in;
 use crate::inner::pages::Lengths;
 use crate::inner::pages::NETLIST_PLACE;
 use crate::inner::pages::Page;
@@ -22,8 +11,19 @@ use crate::inner::pages::STORE_WORDS;
 use crate::inner::pages::length_at;
 use crate::inner::pages::page_of;
 use crate::inner::pages::part;
-use crate::inner::words::after_word;
-use crate::inner::words::key_of;
+use script_cells::inner::cells::ask;
+use script_cells::inner::cells::change;
+use script_cells::inner::cells::same_places;
+use script_cells::inner::netlists::add_chain;
+use script_lines::inner::answers::Answer;
+use script_lines::inner::answers::unknown;
+use script_lines::inner::numbers::Length;
+use script_lines::inner::numbers::are;
+use script_lines::inner::numbers::length_of;
+use script_lines::inner::numbers::numbers_in;
+use script_lines::inner::numbers::wrong;
+use script_lines::inner::words::after_word;
+use script_lines::inner::words::key_of;
 
 // A line that sets the memory of a page: the netlist also by a chain of gates.
 fn change_page(what: &[u8], page: Page, length: usize, cells: &mut [u64]) -> Length {

@@ -9,21 +9,21 @@ use crate::inner::names::SEARCH;
 use crate::inner::names::TOTAL;
 use crate::inner::names::TREE;
 use crate::inner::names::TURNS;
-use script::inner::answers::Answer;
-use script::inner::answers::accepted;
-use script::inner::answers::unknown;
-use script::inner::numbers::Numbers;
-use script::inner::numbers::are;
-use script::inner::numbers::number_at;
-use script::inner::numbers::numbers_in;
 use script::inner::pages::Lengths;
 use script::inner::pages::TREE_PLACE;
 use script::inner::pages::TREE_START;
 use script::inner::pages::end_of;
 use script::inner::pages::length_at;
 use script::inner::pages::part;
-use script::inner::words::after_word;
-use script::inner::words::key_of;
+use script_lines::inner::answers::Answer;
+use script_lines::inner::answers::accepted;
+use script_lines::inner::answers::unknown;
+use script_lines::inner::numbers::Numbers;
+use script_lines::inner::numbers::are;
+use script_lines::inner::numbers::number_at;
+use script_lines::inner::numbers::numbers_in;
+use script_lines::inner::words::after_word;
+use script_lines::inner::words::key_of;
 
 // A number and a step; the greatest of 64 bits stays.
 fn above(number: u64, step: u64) -> u64 {

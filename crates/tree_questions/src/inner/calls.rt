@@ -1,12 +1,12 @@
 // The public calls on a tree, each with its answer as numbers.
 use faults::PathNo;
-use script::inner::answers::Answer;
-use script::inner::answers::accepted;
-use script::inner::answers::no_words;
-use script::inner::answers::one;
-use script::inner::answers::refused_by;
-use script::inner::answers::two;
-use script::inner::answers::with;
+use script_lines::inner::answers::Answer;
+use script_lines::inner::answers::accepted;
+use script_lines::inner::answers::no_words;
+use script_lines::inner::answers::one;
+use script_lines::inner::answers::refused_by;
+use script_lines::inner::answers::two;
+use script_lines::inner::answers::with;
 use tree::TreeAsked;
 use tree::TreeChanged;
 use tree::TreeEmptied;

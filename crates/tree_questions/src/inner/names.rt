@@ -1,4 +1,4 @@
-// The calls' words as numbers: the letters of a word, two hexadecimal digits each, as `script` gives them.
+// The calls' words as numbers: the letters of a word, two hexadecimal digits each, as `script_lines` gives them.
 
 pub(crate) const TREE: u64 = 0x74726565;
 

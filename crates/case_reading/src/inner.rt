@@ -1,0 +1,4 @@
+mod by_length;
+mod calls;
+mod names;
+pub mod reading;

@@ -1,0 +1,4 @@
+mod buffers;
+mod calls;
+mod names;
+pub mod storing;

@@ -1,0 +1,4 @@
+mod calls;
+mod names;
+pub mod viewing;
+pub mod writing;
