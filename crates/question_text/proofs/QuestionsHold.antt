@@ -19,7 +19,7 @@ use Rattle.question_text.specs.Questions.{withDigit, digitAfter, byteAft
 use Rattle.question_text.specs.Pieces.{placeAfter, lineAfter, pieceText, lastText, piecesText}
 use Rattle.question_text.specs.declared.inner.Stated.{Stated}
 use Rattle.question_text.specs.declared.inner.Stated.the-variants as stated
-use Rattle.question_text.proofs.PieceLaws.{place-end, place-other, line-end, line-other, text-end, text-other, place-more, line-more, text-more}
+use Rattle.question_text.proofs.AnsweredPieceLaws.{place-end, place-other, line-end, line-other, text-end, text-other, place-more, line-more, text-more}
 
 -- ---- what a line states, byte by byte
 

@@ -20,9 +20,9 @@ use Rattle.tree_words.specs.TreeLayout.{treeRuns, levelsIn}
 use Rattle.tree_words.specs.Calls.{Asked}
 use Rattle.tree_filling.specs.TreesOfStore.{fillCall, FillTrue, TreesReady}
 use Rattle.tree_filling.specs.declared.FillAnswer.the-variants as fill
-use Rattle.tree_filling.proofs.FillCases.{Found, found-all, filled-runs, trees-ready}
+use Rattle.tree_filling.proofs.TreeFillCases.{Found, found-all, filled-runs, trees-ready}
 use Rattle.question_text.specs.Questions.{treeOf, faultAsked}
-use Rattle.question_text.proofs.FaultCases.{asked-refused, asked-visited}
+use Rattle.question_text.proofs.AskedFaultCases.{asked-refused, asked-visited}
 
 module _ (netlist store up up′ down down′ : List ℕ) (paths : ℕ) (f : FillTrue (fill.Filled paths) netlist store up up′ down down′) where
   filled : fillCall netlist store up down ≡ value paths

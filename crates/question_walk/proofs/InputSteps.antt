@@ -16,7 +16,7 @@ use Rattle.question_text.specs.Pieces.{placeAfter, lineAfter, lastText, ByteRea
 use Rattle.question_text.specs.declared.inner.Asking.{Asking}
 use Rattle.question_text.specs.declared.inner.Stated.{Stated}
 use Rattle.question_text.specs.declared.inner.Stated.the-variants as stated
-use Rattle.question_text.proofs.PieceLaws.{place-more, line-more, place-most}
+use Rattle.question_text.proofs.AnsweredPieceLaws.{place-more, line-more, place-most}
 use Rattle.question_walk.specs.InputWalk.{pieceBytes, outBytes, InputTaken, InputAnswered}
 use Rattle.question_walk.specs.declared.inner.Taken.{Taken}
 

@@ -1,2 +1,2 @@
 -- The parts of the lines, and how long they are.
-pub mod LineCases
+pub mod UndetectedLineCases

@@ -1,7 +1,7 @@
 -- `ask::answer_store` is safe: trees that were filled can be asked.
 -- Assumes nothing.
 use native.Mathlib.Omega.{arith}
-use Rattle.tree_filling.proofs.FillCases.{trees-ready}
+use Rattle.tree_filling.proofs.TreeFillCases.{trees-ready}
 use borrow.Author.Needs.{needs}
 use Rattle.ask.proofs.answer_store.Statement.{statement}
 use Rattle.ask.proofs.answer_store.Tie as tie

@@ -1,6 +1,6 @@
 -- `tree_filling::fill_trees` meets its contract: lent memory, the netlist, then what stands on its number of paths.
 -- Assumes nothing.
-use Rattle.tree_filling.proofs.FillCases.{trees-cases}
+use Rattle.tree_filling.proofs.TreeFillCases.{trees-cases}
 use borrow.Author.Needs.{needs}
 use Rattle.tree_filling.proofs.fill_trees.Statement.{statement}
 use Rattle.tree_filling.proofs.fill_trees.Tie as tie

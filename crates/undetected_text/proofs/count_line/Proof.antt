@@ -2,7 +2,7 @@
 -- Assumes nothing.
 use mathlib.Core.Path.{_∙_}
 use Rattle.undetected_text.specs.UndetectedText.{countText}
-use Rattle.undetected_text.proofs.LineCases.{count-short}
+use Rattle.undetected_text.proofs.UndetectedLineCases.{count-short}
 use Rattle.text.proofs.LineLaws.{first-part, then-part, onLine-alone}
 use borrow.Author.Needs.{needs}
 use Rattle.undetected_text.proofs.count_line.Statement.{statement}

@@ -2,7 +2,7 @@
 -- Assumes nothing.
 use mathlib.Core.Path.{_∙_}
 use Rattle.undetected_text.specs.UndetectedText.{faultText}
-use Rattle.undetected_text.proofs.LineCases.{fault-short, fault-parts}
+use Rattle.undetected_text.proofs.UndetectedLineCases.{fault-short, fault-parts}
 use Rattle.text.proofs.LineLaws.{first-part, then-part, as-part, onLine-alone}
 use borrow.Author.Needs.{needs}
 use Rattle.undetected_text.proofs.fault_line.Statement.{statement}

@@ -1,7 +1,7 @@
 -- `view_text::put_view` meets its contract: the lines of the viewer's answer and of the second store are his text.
 -- Assumes nothing.
 use borrow.Author.Needs.{needs}
-use Rattle.view_text.proofs.ViewCases.{answer-sound, view-put, view-answer}
+use Rattle.view_text.proofs.ShownViewCases.{answer-sound, view-put, view-answer}
 use Rattle.view_text.proofs.put_view.Statement.{statement}
 use Rattle.view_text.proofs.put_view.Tie as tie
 

@@ -3,7 +3,7 @@
 use Prim.Native.Nat.{_-_}
 use lib.ListN.{length}
 use borrow.Author.Needs.{needs}
-use Rattle.question_text.proofs.PieceSteps.{AnsweringPiece, piece-start, piece-ready, piece-next, piece-done}
+use Rattle.question_text.proofs.AnswerSteps.{AnsweringPiece, piece-start, piece-ready, piece-next, piece-done}
 use Rattle.question_text.proofs.inner.put_answers.Statement.{statement}
 use Rattle.question_text.proofs.inner.put_answers.Tie as tie
 

@@ -1,6 +1,6 @@
 -- `question_text::inner::put_last` meets its contract: no text where the last line has no byte, else its answer.
 -- Assumes nothing.
-use Rattle.question_text.proofs.PieceSteps.{last-cases}
+use Rattle.question_text.proofs.AnswerSteps.{last-cases}
 use borrow.Author.Needs.{needs}
 use Rattle.question_text.proofs.inner.put_last.Statement.{statement}
 use Rattle.question_text.proofs.inner.put_last.Tie as tie

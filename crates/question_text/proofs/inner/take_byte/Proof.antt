@@ -1,7 +1,7 @@
 -- `question_text::inner::take_byte` meets its contract: the end of a line brings its answer, another byte goes on with the line.
 -- Assumes nothing.
 use native.Mathlib.Omega.{arith}
-use Rattle.question_text.proofs.PieceSteps.{byte-end, byte-other}
+use Rattle.question_text.proofs.AnswerSteps.{byte-end, byte-other}
 use borrow.Author.Needs.{needs}
 use Rattle.question_text.proofs.inner.take_byte.Statement.{statement}
 use Rattle.question_text.proofs.inner.take_byte.Tie as tie

@@ -1,6 +1,6 @@
 -- `tree_filling::filling::fill_both` meets its contract: the checks of the words, then each edge's runs in a tree.
 -- Assumes nothing.
-use Rattle.tree_filling.proofs.FillCases.{both-cases}
+use Rattle.tree_filling.proofs.TreeFillCases.{both-cases}
 use borrow.Author.Needs.{needs}
 use Rattle.tree_filling.proofs.filling.fill_both.Statement.{statement}
 use Rattle.tree_filling.proofs.filling.fill_both.Tie as tie

@@ -2,7 +2,7 @@
 -- Assumes nothing.
 use borrow.Author.Needs.{needs}
 use Rattle.view_text.specs.ViewText.{answerText}
-use Rattle.view_text.proofs.ViewCases.{none-shown, refusal-put, store-put}
+use Rattle.view_text.proofs.ShownViewCases.{none-shown, refusal-put, store-put}
 use Rattle.view_text.proofs.lines.put_answer.Statement.{statement}
 use Rattle.view_text.proofs.lines.put_answer.Tie as tie
 

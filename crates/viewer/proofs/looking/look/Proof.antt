@@ -1,6 +1,6 @@
 -- `viewer::looking::look` meets its contract: what the netlist refuses, then the rest on its tables.
 -- Assumes nothing.
-use Rattle.viewer.proofs.LookCases.{look-cases}
+use Rattle.viewer.proofs.ViewerLookCases.{look-cases}
 use borrow.Author.Needs.{needs}
 use Rattle.viewer.proofs.looking.look.Statement.{statement}
 use Rattle.viewer.proofs.looking.look.Tie as tie

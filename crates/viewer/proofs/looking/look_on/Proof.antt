@@ -1,6 +1,6 @@
 -- `viewer::looking::look_on` meets its contract: what the store's words or the places refuse, then the stretches.
 -- Assumes nothing.
-use Rattle.viewer.proofs.LookCases.{look-cases}
+use Rattle.viewer.proofs.ViewerLookCases.{look-cases}
 use borrow.Author.Needs.{needs}
 use Rattle.viewer.proofs.looking.look_on.Statement.{statement}
 use Rattle.viewer.proofs.looking.look_on.Tie as tie

@@ -1,6 +1,6 @@
 -- `question_text::inner::answer_lines::put_answer` meets its contract, case by case of what the line states.
 -- Assumes nothing.
-use Rattle.question_text.proofs.LineCases.{line-cases}
+use Rattle.question_text.proofs.AnswerLineCases.{line-cases}
 use borrow.Author.Needs.{needs}
 use Rattle.question_text.proofs.inner.answer_lines.put_answer.Statement.{statement}
 use Rattle.question_text.proofs.inner.answer_lines.put_answer.Tie as tie

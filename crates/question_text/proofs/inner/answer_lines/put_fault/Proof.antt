@@ -3,7 +3,7 @@
 use mathlib.Core.Bool.{true, false}
 use native.Mathlib.Omega.{arith}
 use Rattle.text.proofs.DecimalLaws.{at-most-20}
-use Rattle.question_text.proofs.LineCases.{fault-refused, fault-answered}
+use Rattle.question_text.proofs.AnswerLineCases.{fault-refused, fault-answered}
 use borrow.Author.Needs.{needs}
 use Rattle.question_text.proofs.inner.answer_lines.put_fault.Statement.{statement}
 use Rattle.question_text.proofs.inner.answer_lines.put_fault.Tie as tie

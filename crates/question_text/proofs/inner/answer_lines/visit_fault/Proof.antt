@@ -1,6 +1,6 @@
 -- `question_text::inner::answer_lines::visit_fault` meets its contract: the tree of the edge is asked for the path number.
 -- Assumes nothing.
-use Rattle.question_text.proofs.FaultCases.{fault-cases}
+use Rattle.question_text.proofs.AskedFaultCases.{fault-cases}
 use borrow.Author.Needs.{needs}
 use Rattle.question_text.proofs.inner.answer_lines.visit_fault.Statement.{statement}
 use Rattle.question_text.proofs.inner.answer_lines.visit_fault.Tie as tie

@@ -1,6 +1,6 @@
 -- `question_text::inner::numbers::byte_after` meets its contract: a byte that is no digit, and a digit by what the line states so far.
 -- Assumes nothing.
-use Rattle.question_text.proofs.NumberCases.{number-cases}
+use Rattle.question_text.proofs.LineNumberCases.{number-cases}
 use borrow.Author.Needs.{needs}
 use Rattle.question_text.proofs.inner.numbers.byte_after.Statement.{statement}
 use Rattle.question_text.proofs.inner.numbers.byte_after.Tie as tie

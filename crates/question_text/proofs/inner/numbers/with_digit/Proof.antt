@@ -1,6 +1,6 @@
 -- `question_text::inner::numbers::with_digit` meets its contract: ten times the number and the digit, where both steps stay within 64 bits.
 -- Assumes nothing.
-use Rattle.question_text.proofs.NumberCases.{number-cases}
+use Rattle.question_text.proofs.LineNumberCases.{number-cases}
 use borrow.Author.Needs.{needs}
 use Rattle.question_text.proofs.inner.numbers.with_digit.Statement.{statement}
 use Rattle.question_text.proofs.inner.numbers.with_digit.Tie as tie

@@ -22,7 +22,7 @@ use Rattle.question_text.specs.Questions.{faultAsked, heldText, askedLin
 use Rattle.question_text.specs.Pieces.{FaultVisited}
 use Rattle.question_text.specs.declared.inner.Stated.{Stated}
 use Rattle.question_text.specs.declared.inner.Stated.the-variants as stated
-use Rattle.question_text.proofs.FaultCases.{asked-refused, asked-visited}
+use Rattle.question_text.proofs.AskedFaultCases.{asked-refused, asked-visited}
 
 -- ---- the answer to a number
 

@@ -18,7 +18,7 @@ use Rattle.question_text.specs.Pieces.{placeAfter, lineAfter, pieceText,
 use Rattle.question_text.specs.declared.inner.Asking.{Asking}
 use Rattle.question_text.specs.declared.inner.Stated.{Stated}
 use Rattle.question_text.specs.declared.inner.Stated.the-variants as stated
-use Rattle.question_text.proofs.PieceLaws.{place-end, place-other, line-end, line-other, text-end, text-other, place-more, line-more, text-more, place-most}
+use Rattle.question_text.proofs.AnsweredPieceLaws.{place-end, place-other, line-end, line-other, text-end, text-other, place-more, line-more, text-more, place-most}
 
 -- ---- one byte
 
