@@ -14,18 +14,18 @@ use Rattle.model.specs.Store.{storeRuns, storeOf}
 use Rattle.model.specs.Calls.{testStage, tested}
 use Rattle.model.specs.Report.{sameBytes, testAll}
 use Rattle.model.specs.Encode.{headerBytes, netBytes, gateBytes, outputBytes, testBytes}
-use Rattle.model.specs.Examples.{Q, twice, hazard, spread, chain}
+use Rattle.model.specs.Examples.{Q, twice, hazard, spread, chain, holding}
 use Rattle.model.proofs.ListLaws.{allOf-at}
 use Rattle.model.proofs.SameAnswers.{same}
 use Rattle.all_pairs.specs.AllPairs.{pairsWith, pairsFrom, allPairs}
 use Rattle.all_pairs.specs.Exhaust.{pairsOn, exhaustCall, exhaustAnswer, exhaustStore}
-use Rattle.all_pairs.specs.ExhaustExamples.{Example, noExample, sevens, enough, totalsShown, storeShown, run, holding, seven, examples}
+use Rattle.all_pairs.specs.ExhaustExamples.{Example, noExample, sevens, enough, totalsShown, storeShown, seven, examples}
 
 unfoldable right : Example → Bool
 right x = same (totalsShown (x .netlist) (x .class)) (x .answer) && sameBytes (storeShown (x .netlist) (x .class)) (x .left)
 
 all-right : T (allOf right examples)
-unfolding right same examples sevens enough totalsShown storeShown run holding seven Q twice hazard spread chain
+unfolding right same examples sevens enough totalsShown storeShown holding seven Q twice hazard spread chain
     headerBytes netBytes gateBytes outputBytes testBytes readNetlist readGates readOutputs counts outputCount pathTotal pathOf pathAt split
     pairsWith pairsFrom allPairs pairsOn exhaustCall exhaustAnswer exhaustStore testAll testStage tested testOf
     detectsNumber detects allOpen hasEdge openPin evaluate workingRuns inNetSet

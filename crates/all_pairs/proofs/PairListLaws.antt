@@ -1,10 +1,11 @@
 -- The list of all pairs: each pair of different vectors is in it, all are legal, and how many they are.
 -- Assumes nothing.
-use mathlib.Core.Path.{_≡_, refl, ap, sym, _∙_, subst}
+use mathlib.Core.Path.{_≡_, refl, ap, ap₂, sym, _∙_, subst}
 use mathlib.Core.Logic.{_⊎_, inl, inr, ⊎-elim}
 use mathlib.Core.Bool.{Bool, true, false, _&&_, _||_}
 use mathlib.Core.List.{List, [], _∷_, _++_}
 use Prim.Native.Nat.{ℕ, zero, suc, _+_, _*_, _-_, _^_, _≤_, _<_}
+use native.Mathlib.Nat.{suc-add}
 use native.Mathlib.Omega.{arith}
 use lib.Dec.{T, leb, eqb, leb→le, eqb→eq}
 use lib.ListN.{length, getD}
@@ -25,6 +26,20 @@ with-equal a b n e = rw (e, pairsWith) refl
 pub with-other : (a b n : ℕ) → eqb a b ≡ false → pairsWith a b (suc n) ≡ pairRecord a b ∷ pairsWith a (suc b) n
 unfolding pairsWith
 with-other a b n e = rw (e, pairsWith) refl
+
+-- one more V2
+pub with-one : (n a b : ℕ) → pairsWith a b (n + 1) ≡ pairsWith a b n ++ pairsWith a (b + n) 1
+unfolding pairsWith
+with-one zero a b = ap (λ (k : ℕ). pairsWith a k 1) (omega arith)
+with-one (suc n) a b =
+    let ih = with-one n a (suc b) in
+    let p : pairsWith a b (suc n + 1) ≡ pairsWith a b (suc (n + 1)) = ap (pairsWith a b) (suc-add n 1) in
+    let q : pairsWith a (suc b + n) 1 ≡ pairsWith a (b + suc n) 1 = ap (λ (k : ℕ). pairsWith a k 1) (omega arith) in
+    ⊎-elim
+    (λ (e : eqb a b ≡ true). p ∙ with-equal a b (n + 1) e ∙ ih ∙ ap₂ (λ (x y : List (List ℕ)). x ++ y) (sym (with-equal a b n e)) q)
+    (λ (e : eqb a b ≡ false).
+    p ∙ with-other a b (n + 1) e ∙ ap (λ (x : List (List ℕ)). pairRecord a b ∷ x) ih ∙ ap₂ (λ (x y : List (List ℕ)). x ++ y) (sym (with-other a b n e)) q)
+    (bool-cases (eqb a b))
 
 -- what passes for one of them passes for some
 any-append : {A : Type 0} (f : A → Bool) (xs ys : List A) → T (anyOf f xs) ⊎ T (anyOf f ys) → T (anyOf f (xs ++ ys))
@@ -92,7 +107,7 @@ legal-one N f (r ∷ rs) p t =
     ⊎-elim (λ u. record { rec = r; passes = p .0; is = u }) (λ u. legal-one N f rs (p .1) u) (or-cases (f r) (anyOf f rs) t)
 
 module _ (N : Netlist) (low : 1 ≤ N .inputs) (high : N .inputs ≤ 6) where
-  legal-with : (n a b : ℕ) → a < 2 ^ N .inputs → b + n ≤ 2 ^ N .inputs → AllLegal N (pairsWith a b n)
+  pub legal-with : (n a b : ℕ) → a < 2 ^ N .inputs → b + n ≤ 2 ^ N .inputs → AllLegal N (pairsWith a b n)
   unfolding pairsWith
   legal-with zero a b h l = tt
   legal-with (suc n) a b h l =

@@ -7,16 +7,16 @@ use mathlib.Core.Bool.{Bool, true, false, _||_}
 use mathlib.Core.List.{List, [], _∷_, map}
 use Prim.Native.Nat.{ℕ, zero, suc, _+_, _*_, _-_, _/_, _%_, _^_, _≤_, _<_}
 use native.Mathlib.Omega.{arith}
-use native.Mathlib.Nat.{pow-succ', div-one, div-div-eq-div-mul}
+use native.Mathlib.Nat.{pow-succ', div-one, div-div-eq-div-mul, zero-add}
 use lib.Dec.{T, eqb}
 use lib.ListN.{length, getD, drop, length-map}
 use Rattle.model.specs.Base.{allOf, numbersFrom, bit}
 use Rattle.model.specs.Netlist.{Netlist}
-use Rattle.model.specs.Detect.{Test}
+use Rattle.model.specs.Detect.{Class, Test}
 use Rattle.model.specs.Read.{testRules, testOf, vector, inputBit, vectorBytes, spareZero, someChange, v1Part, v2Part, recordLength}
 use Rattle.model.specs.Encode.{testBytes}
 use Rattle.model.proofs.BoolLaws.{both, eq→eqb, or-cases}
-use Rattle.model.proofs.ListLaws.{allOf-at, length-numbersFrom, numbersFrom-at}
+use Rattle.model.proofs.ListLaws.{getD-map-in, allOf-at, length-numbersFrom, numbersFrom-at}
 use Rattle.model.proofs.AnswerLaws.{AllPass}
 use Rattle.all_pairs.specs.AllPairs.{pairRecord}
 
@@ -55,7 +55,7 @@ map-all : {A : Type 0} (f g : ℕ → A) (ls : List ℕ) → ((l : ℕ) → f l 
 map-all f g [] h = refl
 map-all f g (l ∷ ls) h = ap₂ (λ a r. a ∷ r) (h l) (map-all f g ls h)
 
-map-below : {A : Type 0} (f g : ℕ → A) (n k : ℕ) → ((l : ℕ) → l < k + n → f l ≡ g l) → map f (numbersFrom k n) ≡ map g (numbersFrom k n)
+pub map-below : {A : Type 0} (f g : ℕ → A) (n k : ℕ) → ((l : ℕ) → l < k + n → f l ≡ g l) → map f (numbersFrom k n) ≡ map g (numbersFrom k n)
 map-below f g zero k h = refl
 map-below f g (suc n) k h = ap₂ (λ a r. a ∷ r) (h k (omega arith)) (map-below f g n (suc k) (λ l m. h l (omega arith)))
 
@@ -87,21 +87,43 @@ module _ (N : Netlist) (low : 1 ≤ N .inputs) (high : N .inputs ≤ 6) where
   one-byte : vectorBytes (N .inputs) ≡ 1
   one-byte = omega arith
 
-  pub pair-length : recordLength N ≡ 4
+  pair-length : recordLength N ≡ 4
   pair-length = omega (arith, one-byte)
+
+  -- the vectors of a pair's record
+  first-of : (a b : ℕ) → vector (N .inputs) (v1Part N (pairRecord a b)) ≡ map (bit a) (numbersFrom 0 (N .inputs))
+  unfolding testBytes
+  first-of a b = vector-of (N .inputs) a (b ∷ []) (omega arith)
+
+  second-of : (a b : ℕ) → vector (N .inputs) (v2Part N (pairRecord a b)) ≡ map (bit b) (numbersFrom 0 (N .inputs))
+  unfolding testBytes
+  second-of a b = ap (λ n. vector (N .inputs) (drop (2 + n) (0x54 ∷ 0x50 ∷ a ∷ b ∷ []))) one-byte ∙ vector-of (N .inputs) b [] (omega arith)
+
+  module _ (c : Class) (a b j : ℕ) (h : j < N .inputs) where
+    bit-at : (x : ℕ) → getD (map (bit x) (numbersFrom 0 (N .inputs))) j false ≡ bit x j
+    bit-at x =
+        getD-map-in (bit x) (numbersFrom 0 (N .inputs)) j 0 false (rw (length-numbersFrom 0 (N .inputs)) h)
+        ∙ ap (bit x) (numbersFrom-at (N .inputs) 0 j h ∙ zero-add j)
+
+    pub first-bit : bit a j ≡ getD (testOf N c (pairRecord a b) .v1) j false
+    unfolding testOf
+    first-bit = sym (ap (λ (v : List Bool). getD v j false) (first-of a b) ∙ bit-at a)
+
+    pub second-bit : bit b j ≡ getD (testOf N c (pairRecord a b) .v2) j false
+    unfolding testOf
+    second-bit = sym (ap (λ (v : List Bool). getD v j false) (second-of a b) ∙ bit-at b)
 
   -- each pair of vectors is the test of its record
   pub pair-is : (t : Test) → length (t .v1) ≡ N .inputs → length (t .v2) ≡ N .inputs
       → testOf N (t .class) (pairRecord (asNumber (t .v1)) (asNumber (t .v2))) ≡ t
-  unfolding testOf testBytes
+  unfolding testOf
   pair-is t l m =
       let a : ℕ = asNumber (t .v1) in
       let b : ℕ = asNumber (t .v2) in
       let p : vector (N .inputs) (v1Part N (pairRecord a b)) ≡ t .v1 =
-      vector-of (N .inputs) a (b ∷ []) (omega arith) ∙ ap (λ n. map (bit a) (numbersFrom 0 n)) (sym l) ∙ bits-back (t .v1) in
+      first-of a b ∙ ap (λ n. map (bit a) (numbersFrom 0 n)) (sym l) ∙ bits-back (t .v1) in
       let q : vector (N .inputs) (v2Part N (pairRecord a b)) ≡ t .v2 =
-      ap (λ n. vector (N .inputs) (drop (2 + n) (0x54 ∷ 0x50 ∷ a ∷ b ∷ []))) one-byte
-      ∙ vector-of (N .inputs) b [] (omega arith) ∙ ap (λ n. map (bit b) (numbersFrom 0 n)) (sym m) ∙ bits-back (t .v2) in
+      second-of a b ∙ ap (λ n. map (bit b) (numbersFrom 0 n)) (sym m) ∙ bits-back (t .v2) in
       λ i. record { v1 = p i; v2 = q i; class = t .class }
 
   -- the number of inputs is one of six

@@ -23,8 +23,3 @@ pairsFrom m a (suc n) = pairsWith a 0 m ++ pairsFrom m (suc a) n
 -- every legal pair of `i` inputs, V1 counted upward and V2 upward within it
 unfoldable pub allPairs : ℕ → List (List ℕ)
 allPairs i = pairsFrom (2 ^ i) 0 (2 ^ i)
-
--- records end to end, as in a test file
-unfoldable pub endToEnd : List (List ℕ) → List ℕ
-endToEnd [] = []
-endToEnd (r ∷ rs) = r ++ endToEnd rs

@@ -4,11 +4,11 @@ use mathlib.Core.List.{List, [], _∷_, _++_}
 use Prim.Native.Nat.{ℕ}
 use lib.ListN.{replicate}
 use Rattle.model.specs.Base.{Answer, refused, value, _>>=_}
-use Rattle.model.specs.Runs.{Run}
-use Rattle.model.specs.Store.{storeWords, emptyStore, storeOf}
+use Rattle.model.specs.Runs.{run}
+use Rattle.model.specs.Store.{storeWords, emptyStore}
 use Rattle.model.specs.Calls.{workWords}
 use Rattle.model.specs.Encode.{headerBytes, gateBytes, outputBytes}
-use Rattle.model.specs.Examples.{Q, twice, hazard, spread}
+use Rattle.model.specs.Examples.{Q, twice, hazard, spread, holding}
 use Rattle.all_pairs.specs.Exhaust.{exhaustAnswer, exhaustStore}
 
 -- a netlist and a class, the answer as rising and falling totals, and the store left
@@ -34,13 +34,6 @@ totalsShown netlist class = exhaustAnswer netlist class sevens enough >>= λ t. 
 
 unfoldable pub storeShown : List ℕ → ℕ → List ℕ
 storeShown netlist class = exhaustStore netlist class sevens enough
-
-unfoldable pub run : ℕ → ℕ → Run
-run a b = record { low = a; high = b }
-
--- a store after so many tests, with these runs
-unfoldable pub holding : ℕ → List Run → List Run → List ℕ
-holding tests rs fs = storeOf tests (record { onRising = rs; onFalling = fs })
 
 -- seven inputs
 unfoldable pub seven : List ℕ

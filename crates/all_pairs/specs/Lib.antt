@@ -1,5 +1,5 @@
 -- All pairs of a small block: their records, the call that applies them, what is claimed of it, and examples.
 pub mod AllPairs
 pub mod Exhaust
-pub mod PairFile
+pub mod HeldPairs
 pub mod ExhaustExamples

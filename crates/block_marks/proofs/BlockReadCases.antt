@@ -8,8 +8,7 @@ use Prim.Native.Nat.{ℕ, _+_, _-_, _*_, _≤_, _<_}
 use native.Mathlib.Nat.{mul-add, mul-zero, mul-one}
 use native.Mathlib.Omega.{arith}
 use borrow.Author.Needs.{needs}
-use lib.ListN.{length, getD, set, take, drop, length-set}
-use lib.Seq.{getD-set-same, getD-set-other}
+use lib.ListN.{length, getD, set, take, drop}
 use Rattle.model.specs.Base.{value, checks, bit}
 use Rattle.model.specs.Netlist.{Netlist}
 use Rattle.model.specs.Detect.{Class}
@@ -19,35 +18,9 @@ use Rattle.test_records.specs.Records.{recordOf, RecordTrue, VectorsTrue}
 use Rattle.test_records.specs.declared.inner.RecordAnswer.{RecordAnswer}
 use Rattle.test_records.specs.declared.inner.RecordAnswer.the-variants as record-answer
 use Rattle.test_records.specs.declared.inner.Vectors.{Vectors}
+use Rattle.test_records.proofs.VectorWordLaws.{both-room, new-first, new-second, old-first, old-second}
 use Rattle.block_marks.specs.Marks.{VectorsOf, recordAt, testAt, BlockRead}
 use Rattle.block_marks.proofs.OneMoreLaws.{one-more}
-
--- two words written at their places, the others as before
-module _ (vs : List ℕ) (n a b : ℕ) (room : length vs ≡ 128) (few : n < 64) where
-  abbrev both : List ℕ
-  both = set (set vs n a) (64 + n) b
-
-  both-room : length both ≡ 128
-  both-room = length-set (set vs n a) (64 + n) b ∙ length-set vs n a ∙ room
-
-  new-first : getD both n 0 ≡ a
-  new-first =
-      getD-set-other (set vs n a) (64 + n) n b 0 (apart n) ∙ getD-set-same vs n a 0 (omega arith)
-    where
-      apart : (n : ℕ) → n ≡ 64 + n → ⊥
-      apart n e = omega arith
-
-  new-second : getD both (64 + n) 0 ≡ b
-  new-second = getD-set-same (set vs n a) (64 + n) b 0 (omega (arith, length-set vs n a))
-
-  old-word : (t : ℕ) → (t ≡ n → ⊥) → (t ≡ 64 + n → ⊥) → getD both t 0 ≡ getD vs t 0
-  old-word t p q = getD-set-other (set vs n a) (64 + n) t b 0 q ∙ getD-set-other vs n t a 0 p
-
-  old-first : (t : ℕ) → t < n → getD both t 0 ≡ getD vs t 0
-  old-first t h = old-word t (λ e. omega arith) (λ e. omega arith)
-
-  old-second : (t : ℕ) → t < n → getD both (64 + t) 0 ≡ getD vs (64 + t) 0
-  old-second t h = old-word (64 + t) (λ e. omega arith) (λ e. omega arith)
 
 -- the first n records of a netlist's file, which end at byte `at`
 pub record ReadFor (N : Netlist) (tests vectors : List ℕ) (at n : ℕ) : Type 0 where

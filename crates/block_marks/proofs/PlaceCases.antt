@@ -117,7 +117,8 @@ module _ {part : List ℕ} {inputs outputs : ℕ} {counts : List ℕ} (f : Outpu
       pub output-fits : offset + paths < 2 ^ 64
       output-fits = omega (arith, paths-is, d .sum, paths-next (outputPaths part inputs counts) o, f .fits (o + 1) (omega arith))
 
-      pub outputs-more : length before ≡ placeTableSize → OutputsDone part inputs outputs counts before (set (set after (outputOffsetsAt + o) offset) (outputNetsAt + o) net) (offset + paths) (o + 1)
+      pub outputs-more : length before ≡ placeTableSize
+          → OutputsDone part inputs outputs counts before (set (set after (outputOffsetsAt + o) offset) (outputNetsAt + o) net) (offset + paths) (o + 1)
       outputs-more room = record {
         within = omega arith;
         sum = ap₂ (λ x y. x + y) (d .sum) paths-is ∙ sym (paths-next (outputPaths part inputs counts) o);

@@ -12,9 +12,9 @@ use lib.Count.{trailingZeros, under}
 use lib.Dec.{eqb}
 use lib.Pow.{pow-mono}
 use Rattle.model.specs.Base.{bit}
-use Rattle.model.specs.Runs.{Run}
+use Rattle.model.specs.Runs.{Run, run}
 use Rattle.model.proofs.BoolLaws.{and-left, T→true, true→T, cases, equal-or-not}
-use Rattle.runs.specs.RunLists.{run, Sound, onlyIf, addRuns, shiftRuns}
+use Rattle.runs.specs.RunLists.{Sound, onlyIf, addRuns, shiftRuns}
 use Rattle.runs.proofs.MemberLaws.{member, run-path, runsOf-unique}
 use Rattle.run_union.proofs.AddRunLaws.{Asc, sound-asc, addRuns-sound, addRuns-member}
 use Rattle.records.proofs.BitLaws.{zero-bit, and-bit}

@@ -9,9 +9,9 @@ use native.Mathlib.Omega.{arith}
 use lib.Dec.{T, leb, leb→le}
 use lib.ListN.{length}
 use Rattle.model.specs.Base.{bit}
-use Rattle.model.specs.Runs.{Run, inRun, inRuns}
+use Rattle.model.specs.Runs.{Run, inRun, inRuns, run}
 use Rattle.model.proofs.BoolLaws.{and-left, and-right, both, cases, or-cases, or-left, or-right, true→T, le-true}
-use Rattle.runs.specs.RunLists.{run, Sound, onlyIf, addRun, addRuns, shiftRun, shiftRuns, runAt, runsInWords}
+use Rattle.runs.specs.RunLists.{Sound, onlyIf, addRun, addRuns, shiftRun, shiftRuns, runAt, runsInWords}
 use Rattle.runs.specs.Answers.{RunInside}
 use Rattle.runs.proofs.InsideSteps.{inside-member}
 use Rattle.run_union.proofs.AddRunLaws.{joined-one, joined-two}

@@ -11,11 +11,11 @@ use lib.Dec.{leb}
 use lib.ListN.{length, set, length-set}
 use lib.Seq.{getD-set-same, getD-set-other, drop-set-lt}
 use Rattle.model.specs.Base.{bit}
-use Rattle.model.specs.Runs.{Run}
+use Rattle.model.specs.Runs.{Run, run}
 use Rattle.model.specs.Store.{maxRuns}
 use Rattle.model.proofs.ReadLaws.{legal, Limits, limits}
 use Rattle.model.proofs.WellFormed.{WellFormed}
-use Rattle.runs.specs.RunLists.{run, onlyIf, runAt}
+use Rattle.runs.specs.RunLists.{onlyIf, runAt}
 use Rattle.runs.specs.Answers.{Adds}
 use Rattle.runs.specs.declared.inner.Added.{Added}
 use Rattle.runs.specs.declared.inner.Added.the-variants.{Count, Full}

@@ -17,7 +17,8 @@ use mir.Syntax.{w64}
 use Rattle.model.specs.Base.{bit}
 use Rattle.model.specs.Store.{maxRuns}
 use Rattle.model.proofs.BoolLaws.{equal-or-not}
-use Rattle.runs.specs.RunLists.{run, Sound, RunWithin, shiftRun, runAt, runsInWords}
+use Rattle.model.specs.Runs.{run}
+use Rattle.runs.specs.RunLists.{Sound, RunWithin, shiftRun, runAt, runsInWords}
 use Rattle.runs.specs.Answers.{RunInside}
 use Rattle.runs.proofs.RunWordLaws.{sound-at}
 use Rattle.records.proofs.BitLaws.{zero-bit}

@@ -7,10 +7,10 @@ use Prim.Native.Nat.{ℕ, zero, suc, _-_, _^_, _≤_, _<_}
 use native.Mathlib.Omega.{arith}
 use lib.ListN.{length}
 use Rattle.model.specs.Detect.{hasEdge}
-use Rattle.model.specs.Runs.{Run}
+use Rattle.model.specs.Runs.{Run, run}
 use Rattle.model.proofs.BoolLaws.{cases}
 use Rattle.model.proofs.ReadLaws.{legal}
-use Rattle.runs.specs.RunLists.{run, Sound, onlyIf, shiftRuns, runsInWords}
+use Rattle.runs.specs.RunLists.{Sound, onlyIf, shiftRuns, runsInWords}
 use Rattle.intervals.specs.Edges.{Case}
 use Rattle.intervals.specs.Nets.{runsBefore}
 use Rattle.intervals.proofs.DetectedLaws.{input-set}

@@ -16,8 +16,9 @@ use mir.Syntax.{w64}
 use Rattle.model.specs.Base.{bit}
 use Rattle.model.specs.Store.{maxRuns}
 use Rattle.model.proofs.BoolLaws.{cases}
+use Rattle.model.specs.Runs.{run}
 use Rattle.packed_pins.specs.Packed.{oneWhere}
-use Rattle.runs.specs.RunLists.{run, onlyIf}
+use Rattle.runs.specs.RunLists.{onlyIf}
 use Rattle.intervals.specs.Nets.{inputRuns, runsBefore}
 use Rattle.intervals.proofs.StandLaws.{runs-next}
 use Rattle.block.proofs.PackCases.{bit-number, bit-small}

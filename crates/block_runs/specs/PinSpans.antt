@@ -6,9 +6,9 @@ use mathlib.Core.List.{List, [], _++_}
 use Prim.Native.Nat.{ℕ, zero, suc, _+_, _*_, _/_, _%_, _^_, _≤_, _<_}
 use lib.ListN.{length, getD, set}
 use Rattle.model.specs.Base.{bit}
-use Rattle.model.specs.Runs.{Run}
+use Rattle.model.specs.Runs.{Run, run}
 use Rattle.model.specs.Store.{maxRuns}
-use Rattle.runs.specs.RunLists.{run, Sound, onlyIf, addRuns, shiftRuns, runAt, runsInWords}
+use Rattle.runs.specs.RunLists.{Sound, onlyIf, addRuns, shiftRuns, runAt, runsInWords}
 use Rattle.intervals.specs.Edges.{Case}
 use Rattle.intervals.specs.Nets.{Kept}
 use Rattle.block_runs.specs.Spans.{firstOf, endOf, shiftOf, standing, ListedAt}

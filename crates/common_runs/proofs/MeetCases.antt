@@ -6,8 +6,8 @@ use mathlib.Core.List.{List, [], _∷_, _++_, append-assoc, append-nil}
 use native.Mathlib.Omega.{arith}
 use borrow.Author.Needs.{needs}
 use lib.ListN.{length, getD, set}
-use Rattle.model.specs.Runs.{Run}
-use Rattle.runs.specs.RunLists.{run, runAt, runsInWords, writeRuns}
+use Rattle.model.specs.Runs.{Run, run}
+use Rattle.runs.specs.RunLists.{runAt, runsInWords, writeRuns}
 use Rattle.runs.proofs.RunWordLaws.{runs-next, runs-snoc}
 use Rattle.run_union.proofs.RunWriteLaws.{runs-write, runs-write-before}
 use Rattle.common_runs.specs.Meets.{overlap, meets}

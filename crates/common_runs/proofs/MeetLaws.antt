@@ -6,10 +6,10 @@ use mathlib.Core.Bool.{Bool, true, false, _&&_, _||_, and-false}
 use mathlib.Core.List.{List, [], _∷_, _++_}
 use native.Mathlib.Omega.{arith}
 use borrow.Author.Tests.{le-leb, lt-leb, lt-ltb, le-ltb}
-use Rattle.model.specs.Runs.{Run, Separated, runsOf}
+use Rattle.model.specs.Runs.{Run, Separated, runsOf, run}
 use Rattle.model.proofs.BoolLaws.{cases}
 use Rattle.model.proofs.RunLaws.{separated-weaken}
-use Rattle.runs.specs.RunLists.{run, Sound}
+use Rattle.runs.specs.RunLists.{Sound}
 use Rattle.runs.proofs.MemberLaws.{inside, member, member-in, inside-in, inside-lt, inside-gt, below, runsOf-unique}
 use Rattle.runs.proofs.RunCutLaws.{member-append}
 use Rattle.common_runs.specs.Meets.{overlap, meetInto, meets, inBoth}

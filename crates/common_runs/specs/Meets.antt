@@ -4,8 +4,7 @@ use Prim.Native.Nat.{ℕ, max, min}
 use mathlib.Core.Bool.{Bool, _&&_, cond}
 use mathlib.Core.List.{List, [], _∷_, _++_}
 use lib.Dec.{leb, ltb}
-use Rattle.model.specs.Runs.{Run, inRuns}
-use Rattle.runs.specs.RunLists.{run}
+use Rattle.model.specs.Runs.{Run, inRuns, run}
 
 -- what two runs have in common: one run or none
 unfoldable pub overlap : Run → Run → List Run

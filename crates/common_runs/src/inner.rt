@@ -3,7 +3,8 @@ ghost use mathlib.Core.Path.{_≡_};
 ghost use mathlib.Core.List.{_++_};
 ghost use Prim.Native.Nat.{_+_, _*_, _≤_, _<_, max, min};
 ghost use lib.ListN.{length};
-ghost use Rattle.runs.specs.RunLists.{run, runsInWords};
+ghost use Rattle.model.specs.Runs.{run};
+ghost use Rattle.runs.specs.RunLists.{runsInWords};
 ghost use Rattle.common_runs.specs.Meets.{overlap, meets};
 
 // The larger of two numbers.

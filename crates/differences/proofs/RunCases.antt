@@ -9,9 +9,9 @@ use borrow.Author.Tests.{le-leb, lt-leb}
 use lib.Dec.{leb}
 use lib.ListN.{length, drop, drop-of-length-le}
 use Rattle.model.specs.Base.{field}
-use Rattle.model.specs.Runs.{Run, inRuns}
+use Rattle.model.specs.Runs.{Run, inRuns, run}
 use Rattle.report_runs.specs.ReportRuns.{runsOfBytes, Ascends}
-use Rattle.report_runs.proofs.RunByteLaws.{run, runAt, run-at, run-count}
+use Rattle.report_runs.proofs.RunByteLaws.{runAt, run-at, run-count}
 use Rattle.differences.specs.Differences.{Passed, Reached, Stands}
 use Rattle.differences.specs.declared.inner.walk.Standing.the-variants as standing
 

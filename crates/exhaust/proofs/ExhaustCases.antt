@@ -8,8 +8,7 @@ use native.Mathlib.Omega.{arith}
 use borrow.Author.Needs.{needs}
 use borrow.Author.Tests.{le-leb, lt-leb, eq-eqb, ne-eqb, not-true, not-false}
 use lib.Dec.{T, le→leb, T-not}
-use lib.ListN.{length, take, drop, replicate}
-use lib.Seq.{length-take-le}
+use lib.ListN.{length, replicate}
 use Rattle.model.specs.Base.{Answer, refused, value, _>>=_, checks}
 use Rattle.model.specs.Netlist.{Netlist}
 use Rattle.model.specs.Read.{within, classOf, readNetlist}
@@ -17,43 +16,40 @@ use Rattle.model.specs.Refusals.{refusalNumber}
 use Rattle.model.specs.Store.{ByEdge, byEdge, storeWords, storeRuns, emptyStore}
 use Rattle.model.specs.Runs.{size}
 use Rattle.model.specs.Calls.{workWords, storeRule, workRule, beforeTest}
-use Rattle.model.specs.Report.{fileRecords, testAll}
+use Rattle.model.specs.Report.{testAll}
 use Rattle.model.specs.declared.Refusal.{Refusal}
 use Rattle.model.specs.declared.Refusal.the-variants as why
 use Rattle.model.proofs.AnswerLaws.{not-refused, →checks}
 use Rattle.model.proofs.ReadLaws.{limits}
 use Rattle.model.proofs.RefusalLaws.{refused-inj}
 use Rattle.netlist.specs.Answers.{LoadedTrue}
+use Rattle.netlist.specs.Tables.{CircuitTables, SomeCircuit}
 use Rattle.netlist.specs.declared.SurveyAnswer.the-variants as survey
 use Rattle.netlist.specs.declared.inner.Loaded.{Loaded}
 use Rattle.netlist.proofs.LoadLaws.{loaded-legal, loaded-refused}
 use Rattle.store_words.specs.Sound.{SoundWords}
 use Rattle.store_words.specs.WordAnswers.{totalsIn, totalsBoth}
 use Rattle.store_words.specs.declared.inner.StoreTotals.{StoreTotals}
-use Rattle.coverage.specs.Stage.{MemoryReady}
+use Rattle.block.specs.Layout.{listsSize}
+use Rattle.block.specs.Table.{CircuitTable}
+use Rattle.block_marks.specs.Marks.{PlaceTable}
+use Rattle.block_marks.specs.PlaceParts.{SomePlaces}
+use Rattle.coverage.specs.Stage.{MemoryReady, StageReady}
+use Rattle.coverage.specs.declared.inner.StageAnswer.{StageAnswer}
 use Rattle.coverage.specs.declared.inner.StageAnswer.the-variants as stage
 use Rattle.file_block.specs.RecordsTaken.{leftStore}
-use Rattle.file_block.specs.declared.inner.TakenRecords.{TakenRecords}
 use Rattle.file_block.proofs.MemoryLaws.{of-netlist, emptied, empty-memory, all-memory, memory-sound}
-use Rattle.file_records.specs.FileRecords.{FileTaken, Ready}
+use Rattle.file_block.specs.FileBlocks.{BlocksReady}
+use Rattle.file_records.specs.FileRecords.{Ready}
 use Rattle.file_records.proofs.ReadyLaws.{ready-records}
+use Rattle.file_records.proofs.FileTableCases.{numbers, tables-of, stage-circuit, stage-places, stage-blocks}
 use Rattle.all_pairs.specs.AllPairs.{allPairs}
-use Rattle.all_pairs.specs.PairFile.{pairBytes, Put}
-use Rattle.all_pairs.specs.Exhaust.{mostInputs, fewInputs, pairsOn, exhaustCall, exhaustAnswer, exhaustAfter, exhaustStore, ofWork, PairsWork}
-use Rattle.all_pairs.proofs.PairFileLaws.{pairs-size, pairs-read}
+use Rattle.all_pairs.specs.Exhaust.{fewInputs, pairsOn, exhaustCall, exhaustAnswer, exhaustAfter, exhaustStore, ofWork, PairsWork}
 use Rattle.all_pairs.proofs.OnTheWayLaws.{on-the-way, before-found, emptied-work}
+use Rattle.exhaust.specs.PairsTaken.{PairsTrue, AllTaken}
 use Rattle.exhaust.specs.Answers.{exhaustOf, ExhaustTrue, PairsApplied}
 use Rattle.exhaust.specs.declared.ExhaustAnswer.{ExhaustAnswer}
 use Rattle.exhaust.specs.declared.ExhaustAnswer.the-variants as exhaust
-
--- the file of all pairs lies inside the room for it
-pub pairs-inside : (inputs r : ℕ) (found left : List ℕ) → inputs ≤ mostInputs → pairBytes ≤ length found → length left ≡ length found
-    → Put r found left 0 (allPairs inputs) → r ≤ length left
-pairs-inside inputs r found left few room same p = omega (arith, pairs-size inputs r found left few p)
-
-pub pairs-part : (inputs r : ℕ) (found left : List ℕ) → inputs ≤ mostInputs → pairBytes ≤ length found → length left ≡ length found
-    → Put r found left 0 (allPairs inputs) → r ≡ length (take r left)
-pairs-part inputs r found left few room same p = sym (length-take-le r left (pairs-inside inputs r found left few room same p))
 
 -- the totals of the store that some tests leave
 abbrev summed : Answer (List ℕ) → Answer (ByEdge ℕ)
@@ -63,50 +59,58 @@ module _ (netlist : List ℕ) (loaded : Loaded) (ws work : List ℕ) (ready : Re
   abbrev C : Netlist
   C = ready .circuit
 
-  module _ (class r : ℕ) (found bytes : List ℕ) (room : 16384 ≤ length found) (p : Put r found bytes 0 (allPairs (loaded .shape .inputs)))
-      (t : TakenRecords) (ws′ work′ : List ℕ) (x : FileTaken t netlist (loaded .positions) (loaded .counts) (loaded .shape) class (take r bytes) ws ws′ work work′) where
-    abbrev pairs : Netlist → Answer (List ℕ)
-    pairs N = testAll N (classOf class) (allPairs (N .inputs)) emptyStore
+  abbrev stageReady : StageReady netlist (loaded .positions) (loaded .counts) (loaded .shape) ws work
+  stageReady = ready-records netlist loaded ws work ready
 
-    -- the file that was written is that of all pairs
-    taken-is : testAll C (classOf class) (fileRecords C (take r bytes)) ws ≡ pairs C
-    taken-is =
-        let inputs = ready .tables .inputsAre in
-        let low = limits netlist C (ready .tables .legal) .someInput in
-        let high : C .inputs ≤ 6 = omega (arith, inputs, start .1) in
-        let file = pairs-read C r found bytes low high room (subst (λ (i : ℕ). Put r found bytes 0 (allPairs i)) inputs p) in
-        ap (λ (rs : List (List ℕ)). testAll C (classOf class) rs ws) file ∙ ap (testAll C (classOf class) (allPairs (C .inputs))) (start .0)
+  pub pairs-circuit : SomeCircuit netlist (loaded .positions) (loaded .shape)
+  pairs-circuit = stage-circuit stageReady
 
-    -- from the netlist at hand
-    applied : (a : ExhaustAnswer) → exhaustOf a ≡ summed (pairs C) → ws′ ≡ leftStore (pairs C) → PairsApplied a netlist class ws′ work work′
-    applied a e s = record {
-      answer = of-netlist netlist (ready .tables .legal) (λ N. exhaustOf a ≡ summed (pairs N)) e;
-      store = of-netlist netlist (ready .tables .legal) (λ N. ws′ ≡ leftStore (pairs N)) s;
-      sameLength = x .sameLength;
-      pastWork = x .pastWork;
-    }
+  module _ {table : List ℕ} (filled : (N : Netlist) (cs : List ℕ) → CircuitTables N netlist (loaded .positions) cs (loaded .shape)
+      → CircuitTable N table (loaded .shape .inputs) (loaded .shape .nets)) where
+    pub pairs-places : SomePlaces netlist (loaded .counts) (loaded .shape) table
+    pairs-places = stage-places stageReady filled
 
-    pub pairs-refused : (w : Refusal) → t .answer ≡ stage.Refused w → PairsApplied (exhaust.Refused w) netlist class ws′ work work′
-    pairs-refused w q =
-        let f = x .ofCircuit C (ready .tables) in
-        let e : pairs C ≡ refused (refusalNumber w) = sym taken-is ∙ sym (rw q at (f .answer)) in
-        applied (exhaust.Refused w) (rw e refl) (f .store ∙ ap leftStore taken-is)
+    module _ {places : List ℕ} (placed : (N : Netlist) (ps : List ℕ) → CircuitTables N netlist ps (loaded .counts) (loaded .shape)
+        → CircuitTable N table (loaded .shape .inputs) (loaded .shape .nets) → PlaceTable N places) (class : ℕ) where
+      abbrev pairs : Netlist → Answer (List ℕ)
+      pairs N = testAll N (classOf class) (allPairs (N .inputs)) emptyStore
 
-    module _ (q : t .answer ≡ stage.Taken) where
-      left-is : testAll C (classOf class) (fileRecords C (take r bytes)) ws ≡ value ws′
-      left-is = sym (rw q at (x .ofCircuit C (ready .tables) .answer))
+      pub pairs-blocks : {ups downs : List ℕ} → length ups ≡ listsSize → length downs ≡ listsSize
+          → BlocksReady table places (numbers stageReady filled placed class) ups downs ws work
+      pairs-blocks u d = stage-blocks stageReady filled placed class u d
 
-      pub pairs-sound : SoundWords (2 ^ 62) ws′
-      pairs-sound =
-          memory-sound netlist C (ready .tables .legal) ws′ work′
-          (all-memory C (classOf class) ws work work′ (ready .memory) (x .sameLength) (fileRecords C (take r bytes)) ws′ left-is)
+      module _ {t : StageAnswer} {ws′ work′ : List ℕ} (x : AllTaken t table places (numbers stageReady filled placed class) ws ws′ work work′) where
+        whole : PairsTrue t C (classOf class) emptyStore ws′
+        whole =
+            subst (λ (v : List ℕ). PairsTrue t C (classOf class) v ws′) (start .0)
+            (x .ofCircuit C (tables-of stageReady filled placed class C (ready .tables)) (ready .memory))
 
-      pub pairs-taken : (h : StoreTotals) → totalsIn h ≡ totalsBoth ws′ → PairsApplied (exhaust.Totals (h .rising) (h .falling)) netlist class ws′ work work′
-      pairs-taken h s =
-          let e : pairs C ≡ value ws′ = sym taken-is ∙ left-is in
-          applied (exhaust.Totals (h .rising) (h .falling)) (ap value s ∙ rw e refl) (x .ofCircuit C (ready .tables) .store ∙ ap leftStore taken-is)
+        -- from the netlist at hand
+        applied : (a : ExhaustAnswer) → exhaustOf a ≡ summed (pairs C) → PairsApplied a netlist class ws′ work work′
+        applied a e = record {
+          answer = of-netlist netlist (ready .tables .legal) (λ N. exhaustOf a ≡ summed (pairs N)) e;
+          store = of-netlist netlist (ready .tables .legal) (λ N. ws′ ≡ leftStore (pairs N)) (whole .store);
+          sameLength = x .sameLength;
+          pastWork = x .pastWork;
+        }
 
-pub ruleset pairs-cases = (ready-records, pairs-inside, pairs-part, pairs-refused, pairs-sound, pairs-taken, needs)
+        pub pairs-refused : (w : Refusal) → t ≡ stage.Refused w → PairsApplied (exhaust.Refused w) netlist class ws′ work work′
+        pairs-refused w q =
+            let e : pairs C ≡ refused (refusalNumber w) = sym (rw q at (whole .answer)) in
+            applied (exhaust.Refused w) (rw e refl)
+
+        module _ (q : t ≡ stage.Taken) where
+          left-is : pairs C ≡ value ws′
+          left-is = sym (rw q at (whole .answer))
+
+          pub pairs-sound : SoundWords (2 ^ 62) ws′
+          pairs-sound =
+              memory-sound netlist C (ready .tables .legal) ws′ work
+              (all-memory C (classOf class) ws work work (ready .memory) refl (allPairs (C .inputs)) ws′
+              (ap (testAll C (classOf class) (allPairs (C .inputs))) (start .0) ∙ left-is))
+
+          pub pairs-taken : (h : StoreTotals) → totalsIn h ≡ totalsBoth ws′ → PairsApplied (exhaust.Totals (h .rising) (h .falling)) netlist class ws′ work work′
+          pairs-taken h s = applied (exhaust.Totals (h .rising) (h .falling)) (ap value s ∙ rw left-is refl)
 
 module _ (netlist : List ℕ) (class : ℕ) (ws work : List ℕ) where
   -- working memory that the call did not touch

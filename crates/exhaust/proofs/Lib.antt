@@ -1,3 +1,4 @@
--- The cases of the call with all pairs, and what the value that it returns shows.
+-- All pairs on the tables of a netlist, the cases of the call, and what the value that it returns shows.
+pub mod PairCases
 pub mod ExhaustCases
 pub mod ReturnedHolds

@@ -1,17 +1,20 @@
 // Everything that tests of a small block can show: all pairs of vectors applied to an emptied store.
+mod pairs;
+
 ghost use mathlib.Core.Path.{_≡_};
 ghost use Prim.Native.Nat.{_≤_};
-ghost use lib.ListN.{length};
 ghost use Rattle.model.specs.Store.{emptyStore};
 ghost use Rattle.all_pairs.specs.Exhaust.{mostInputs};
-ghost use Rattle.all_pairs.specs.PairFile.{pairBytes};
 ghost use Rattle.file_records.specs.FileRecords.{Ready};
 ghost use Rattle.exhaust.specs.Answers.{ExhaustTrue, PairsApplied};
 use all_pairs::inner::MOST_INPUTS;
-use all_pairs::inner::PAIR_BYTES;
-use all_pairs::inner::fill_pairs;
+use block::inner::layout::GATE_TABLE_SIZE;
+use block::inner::layout::LISTS_SIZE;
+use block::inner::table::fill_table;
+use block_marks::inner::layout::PLACE_TABLE_SIZE;
+use block_marks::inner::places::fill_places;
 use coverage::inner::StageAnswer;
-use file_records::inner::apply_records;
+use file_block::inner::FileNumbers;
 use model::Refusal;
 use model::STORE_WORDS;
 use model::WORK_WORDS;
@@ -19,6 +22,7 @@ use model::known_class;
 use netlist::SurveyAnswer;
 use netlist::inner::Loaded;
 use netlist::inner::load_by_value;
+use pairs::apply_all_pairs;
 use store_words::inner::totals_of;
 use store_writing::inner::clear;
 
@@ -62,7 +66,7 @@ pub fn exhaust(
     }
 }
 
-// All pairs on a legal netlist of up to 6 inputs, from an empty store.
+// All pairs on a legal netlist of up to 6 inputs, from an empty store: its tables are made once for all of them.
 fn apply_pairs(
     netlist: &[u8],
     loaded: Loaded,
@@ -74,32 +78,22 @@ fn apply_pairs(
     requires { ⌜ (now store ≡ emptyStore) × (loaded .shape .inputs ≤ mostInputs) ⌝ }
     ensures { λ r. ⌜ PairsApplied r (now (netlist .entry)) class (now (store .exit)) (now (work .entry)) (now (work .exit)) ⌝ }
 {
-    let mut records = [0u8; PAIR_BYTES];
-    apply_file(netlist, loaded, class, &mut records, store, work)
-}
-
-// The same with room for the file of their records, which are applied as those of a test file.
-fn apply_file(
-    netlist: &[u8],
-    loaded: Loaded,
-    class: u32,
-    records: &mut [u8],
-    store: &mut [u64],
-    work: &mut [u64],
-) -> ExhaustAnswer
-    requires { ⌜ Ready (now netlist) loaded (now store) (now work) ⌝ }
-    requires { ⌜ (now store ≡ emptyStore) × (loaded .shape .inputs ≤ mostInputs) ⌝ }
-    requires { ⌜ pairBytes ≤ length (now records) ⌝ }
-    ensures { λ r. ⌜ PairsApplied r (now (netlist .entry)) class (now (store .exit)) (now (work .entry)) (now (work .exit)) ⌝ }
-{
+    let positions = loaded.positions;
+    let counts = loaded.counts;
     let shape = loaded.shape;
-    let bytes = fill_pairs(shape.inputs, records);
-    let places = loaded.positions;
-    let positions = &places;
-    let counts = &loaded.counts;
-    let pairs = &records[..bytes];
-    let taken = apply_records(netlist, positions, counts, shape, pairs, class, store, work);
-    let answer = taken.answer;
+    let mut table = [0u16; GATE_TABLE_SIZE];
+    fill_table(netlist, &positions, shape, &mut table);
+    let mut places = [0u64; PLACE_TABLE_SIZE];
+    fill_places(netlist, &counts, shape, &table, &mut places);
+    let numbers = FileNumbers {
+        inputs: shape.inputs,
+        nets: shape.nets,
+        outputs: shape.outputs,
+        class,
+    };
+    let mut ups = [0u32; LISTS_SIZE];
+    let mut downs = [0u32; LISTS_SIZE];
+    let answer = apply_all_pairs(&table, &places, numbers, &mut ups, &mut downs, store, work);
     match answer {
         StageAnswer::Refused(why) => ExhaustAnswer::Refused(why),
         StageAnswer::Taken => {

@@ -10,8 +10,8 @@ use lib.ListN.{length, take, drop, length-drop, length-map}
 use lib.Seq.{drop-drop}
 use Rattle.model.specs.Base.{Answer, refused, value, _>>=_, checks, numbersFrom}
 use Rattle.model.specs.Netlist.{Netlist, pathTotal}
-use Rattle.model.specs.Detect.{Class}
-use Rattle.model.specs.Read.{testRules, recordLength}
+use Rattle.model.specs.Detect.{Class, Test}
+use Rattle.model.specs.Read.{testRules, testOf, recordLength}
 use Rattle.model.specs.Store.{storeRules}
 use Rattle.model.specs.Calls.{Tested, storeLeft, testStage}
 use Rattle.model.specs.Report.{records, fileRecords, testAll}
@@ -19,7 +19,7 @@ use Rattle.model.proofs.AnswerLaws.{checks-both}
 use Rattle.model.proofs.ListLaws.{length-numbersFrom}
 use Rattle.coverage.specs.Stage.{MemoryReady, workStage}
 use Rattle.coverage.proofs.StageLaws.{stage-work, stage-refused}
-use Rattle.block_marks.specs.Marks.{recordAt, testAt}
+use Rattle.block_marks.specs.Marks.{recordAt}
 use Rattle.block_stage.specs.BlockStage.{workAll, oneMoreTest, workTaken}
 use Rattle.file_block.specs.RecordsTaken.{takenOf}
 use Rattle.file_block.proofs.MemoryLaws.{all-memory}
@@ -93,47 +93,51 @@ same-more {x} {y} e f g h = go x h ∙ ap (λ (a : Answer Tested). oneMoreTest a
     go (refused n) h = refl
     go (value d) h = ap (λ k. 1 + k) (h d refl)
 
-module _ (N : Netlist) (c : Class) (part work : List ℕ) where
+-- records by number, and the tests that they are
+module _ (N : Netlist) (c : Class) (rec : ℕ → List ℕ) (work : List ℕ) where
+  abbrev tests : ℕ → Test
+  tests t = testOf N c (rec t)
+
   -- no rule of the place Test refuses n records from record t on
   abbrev Legal : ℕ → ℕ → Type 0
-  Legal t n = (i : ℕ) → t ≤ i → i < t + n → checks (testRules N (recordAt N part i)) ≡ value tt
+  Legal t n = (i : ℕ) → t ≤ i → i < t + n → checks (testRules N (rec i)) ≡ value tt
 
-  stage-same : (rec ws : List ℕ) → checks (testRules N rec) ≡ value tt → MemoryReady N ws work → testStage N c rec ws ≡ workStage N (Rattle.model.specs.Read.testOf N c rec) ws
-  stage-same rec ws l m = stage-work N c rec ws (sym (checks-both (testRules N rec) (storeRules (pathTotal N) ws) ∙ rw (l, m .sound) refl))
+  stage-same : (t : ℕ) (ws : List ℕ) → checks (testRules N (rec t)) ≡ value tt → MemoryReady N ws work → testStage N c (rec t) ws ≡ workStage N (tests t) ws
+  stage-same t ws l m = stage-work N c (rec t) ws (sym (checks-both (testRules N (rec t)) (storeRules (pathTotal N) ws) ∙ rw (l, m .sound) refl))
 
-  next-memory : (rec ws : List ℕ) → MemoryReady N ws work → (d : Tested) → testStage N c rec ws ≡ value d → MemoryReady N (storeLeft d) work
+  next-memory : (t : ℕ) (ws : List ℕ) → MemoryReady N ws work → (d : Tested) → testStage N c (rec t) ws ≡ value d → MemoryReady N (storeLeft d) work
   unfolding testAll
-  next-memory rec ws m d q = all-memory N c ws work work m refl (rec ∷ []) (storeLeft d) (rw q refl)
+  next-memory t ws m d q = all-memory N c ws work work m refl (rec t ∷ []) (storeLeft d) (rw q refl)
 
   later : (t n : ℕ) → Legal t (suc n) → Legal (suc t) n
   later t n h i a b = h i (omega arith) (omega arith)
 
   block-from : (n t : ℕ) (ws : List ℕ) → MemoryReady N ws work → Legal t n
-      → testAll N c (blockRecords N part t n) ws ≡ workAll N (testAt N c part) t n ws
+      → testAll N c (map rec (numbersFrom t n)) ws ≡ workAll N tests t n ws
   unfolding testAll workAll
   block-from zero t ws m h = refl
   block-from (suc n) t ws m h =
-      same-bind (stage-same (recordAt N part t) ws (h t (omega arith) (omega arith)) m)
-      (λ d. testAll N c (blockRecords N part (suc t) n) (storeLeft d)) (λ d. workAll N (testAt N c part) (suc t) n (storeLeft d))
-      (λ d q. block-from n (suc t) (storeLeft d) (next-memory (recordAt N part t) ws m d q) (later t n h))
+      same-bind (stage-same t ws (h t (omega arith) (omega arith)) m)
+      (λ d. testAll N c (map rec (numbersFrom (suc t) n)) (storeLeft d)) (λ d. workAll N tests (suc t) n (storeLeft d))
+      (λ d q. block-from n (suc t) (storeLeft d) (next-memory t ws m d q) (later t n h))
 
   taken-from : (n t : ℕ) (ws : List ℕ) → MemoryReady N ws work → Legal t n
-      → takenOf N c (blockRecords N part t n) ws ≡ workTaken N (testAt N c part) t n ws
+      → takenOf N c (map rec (numbersFrom t n)) ws ≡ workTaken N tests t n ws
   unfolding takenOf workTaken
   taken-from zero t ws m h = refl
   taken-from (suc n) t ws m h =
-      same-more (stage-same (recordAt N part t) ws (h t (omega arith) (omega arith)) m)
-      (λ d. takenOf N c (blockRecords N part (suc t) n) (storeLeft d)) (λ d. workTaken N (testAt N c part) (suc t) n (storeLeft d))
-      (λ d q. taken-from n (suc t) (storeLeft d) (next-memory (recordAt N part t) ws m d q) (later t n h))
+      same-more (stage-same t ws (h t (omega arith) (omega arith)) m)
+      (λ d. takenOf N c (map rec (numbersFrom (suc t) n)) (storeLeft d)) (λ d. workTaken N tests (suc t) n (storeLeft d))
+      (λ d q. taken-from n (suc t) (storeLeft d) (next-memory t ws m d q) (later t n h))
 
-  module _ (n : ℕ) {ws : List ℕ} (m : MemoryReady N ws work) (legal : (i : ℕ) → i < n → checks (testRules N (recordAt N part i)) ≡ value tt) where
+  module _ (n : ℕ) {ws : List ℕ} (m : MemoryReady N ws work) (legal : (i : ℕ) → i < n → checks (testRules N (rec i)) ≡ value tt) where
     all-legal : Legal 0 n
     all-legal i a b = legal i (omega arith)
 
-    pub block-all : testAll N c (blockRecords N part 0 n) ws ≡ workAll N (testAt N c part) 0 n ws
+    pub block-all : testAll N c (map rec (numbersFrom 0 n)) ws ≡ workAll N tests 0 n ws
     block-all = block-from n 0 ws m all-legal
 
-    pub block-taken : takenOf N c (blockRecords N part 0 n) ws ≡ workTaken N (testAt N c part) 0 n ws
+    pub block-taken : takenOf N c (map rec (numbersFrom 0 n)) ws ≡ workTaken N tests 0 n ws
     block-taken = taken-from n 0 ws m all-legal
 
 -- a record that a rule of the place Test refuses ends them

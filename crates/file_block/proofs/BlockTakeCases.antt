@@ -10,36 +10,31 @@ use borrow.Author.Needs.{needs}
 use lib.ListN.{length, getD, drop}
 use Rattle.model.specs.Base.{refused, value, _>>=_, _>>_}
 use Rattle.model.specs.Netlist.{Netlist}
-use Rattle.model.specs.Detect.{Class, Test}
+use Rattle.model.specs.Detect.{Class}
 use Rattle.model.specs.Read.{classOf, recordLength}
 use Rattle.model.specs.Refusals.{refusalNumber}
 use Rattle.model.specs.declared.Refusal.{Refusal}
 use Rattle.model.specs.Report.{fileRecords, testAll}
 use Rattle.model.proofs.BoolLaws.{le-or-lt}
-use Rattle.model.proofs.NumberLaws.{output-net}
 use Rattle.model.proofs.PieceLaws.{testAll-append}
-use Rattle.model.proofs.ReadLaws.{legal, limits}
+use Rattle.model.proofs.ReadLaws.{limits}
 use Rattle.test_records.specs.declared.inner.RecordAnswer.{RecordAnswer}
 use Rattle.test_records.specs.declared.inner.RecordAnswer.the-variants as record-answer
 use Rattle.coverage.specs.Stage.{MemoryReady, stageOf}
 use Rattle.coverage.proofs.StageLaws.{in-class}
 use Rattle.coverage.specs.declared.inner.StageAnswer.{StageAnswer}
 use Rattle.coverage.specs.declared.inner.StageAnswer.the-variants as stage
-use Rattle.block.specs.Block.{BlockOf}
-use Rattle.block.specs.Table.{CircuitTable}
-use Rattle.block_marks.specs.Marks.{PlaceTable, MarksTrue, VectorsOf, testAt, BlockRead}
+use Rattle.block_marks.specs.Marks.{recordAt, testAt, BlockRead}
 use Rattle.block_marks.specs.declared.inner.Batch.{Batch}
-use Rattle.block_stage.specs.BlockStage.{BlockAt, BlockReady, BlockTaken, MemoryKept}
 use Rattle.block_stage.specs.declared.inner.Applied.{Applied}
-use Rattle.block_marks.specs.EdgeMarks.{BatchTables, WorkKept}
 use Rattle.file_block.specs.RecordsTaken.{fileOf, takenOf}
 use Rattle.file_block.specs.FileBlocks.{BlockTables, BlocksReady, BlockTrue, BlockDone}
+use Rattle.file_block.specs.VectorBlocks.{TestsAt, TestsReady, TestsTaken}
 use Rattle.file_block.specs.declared.inner.TakenRecords.{TakenRecords}
 use Rattle.file_block.specs.declared.inner.FileNumbers.{FileNumbers}
 use Rattle.file_block.proofs.MemoryLaws.{all-memory}
 use Rattle.file_block.proofs.TakenRecordLaws.{takenThen, taken-append, taken-most, taken-all}
 use Rattle.file_block.proofs.BlockFileLaws.{blockRecords, length-block, file-block, block-all, block-taken, rest-refused, rest-untaken}
-use Rattle.block_marks.specs.Layout.{outAt}
 
 -- a netlist's numbers
 module _ {N : Netlist} {table places : List ℕ} {file : FileNumbers} (t : BlockTables N table places file) where
@@ -48,14 +43,6 @@ module _ {N : Netlist} {table places : List ℕ} {file : FileNumbers} (t : Block
 
   pub few-inputs : file .inputs ≤ 64
   few-inputs = omega (arith, t .circuit .inputsAre, limits (t .circuit .file) N (t .circuit .legal) .fewInputs)
-
-  few-outputs : file .outputs ≤ 64
-  few-outputs = omega (arith, t .outputsAre, limits (t .circuit .file) N (t .circuit .legal) .fewOutputs)
-
-  out-net : (o : ℕ) → o < file .outputs → outAt places o < 512
-  out-net o h =
-      let l : o < length (N .outputs) = omega (arith, t .outputsAre) in
-      omega (arith, t .placed .outNet o l, output-net N (legal (t .circuit .file) N (t .circuit .legal)) o l, limits (t .circuit .file) N (t .circuit .legal) .fewNets)
 
 module _ {table places : List ℕ} {file : FileNumbers} {ups downs ws work : List ℕ} (s : BlocksReady table places file ups downs ws work) where
   pub block-some : 1 ≤ file .inputs
@@ -77,139 +64,125 @@ module _ {table places : List ℕ} {file : FileNumbers} {ups downs ws work : Lis
     pub block-records : n ≤ 64
     block-records = read-of (s .netlist) (s .tables) .few
 
-    pub block-tables : BatchTables table places batch
-    block-tables = record {
-      circuit = record { circuit = s .netlist; isIn = s .tables .circuit };
-      fewOutputs = few-outputs (s .tables);
-      fewRecords = block-records;
-      outNets = out-net (s .tables);
+    pub read-tests : (N : Netlist) → BlockTables N table places file → TestsAt N (testAt N c part) table places batch vectors
+    read-tests N t = record {
+      circuit = t .circuit;
+      placed = t .placed;
+      outputsAre = t .outputsAre;
+      block = record { few = block-records; inClass = λ i h. in-class N c _ };
+      vectorsAre = read-of N t .vectorsAre c;
     }
 
-    module _ {ups′ downs′ marks : List ℕ} (filled : (N : Netlist) (tests : ℕ → Test) → CircuitTable N table (file .inputs) (file .nets) → PlaceTable N places
-        → length (N .outputs) ≡ file .outputs → BlockOf tests (classOf (file .class)) n → VectorsOf N tests n vectors → MarksTrue N tests n ups′ downs′ marks)
-        {work₁ : List ℕ} (lent : WorkKept work work₁) where
-      pub block-at : (N : Netlist) → BlockTables N table places file → BlockAt N (testAt N c part) table places ups′ downs′ marks batch
-      block-at N t = record {
-        few = block-records;
-        circuit = t .circuit;
-        placed = t .placed;
-        marked = filled N (testAt N c part) (t .circuit) (t .placed) (t .outputsAre)
-            (record { few = block-records; inClass = λ i h. in-class N c _ }) (read-of N t .vectorsAre c);
-      }
+    pub read-ready : TestsReady table places batch vectors ups downs ws work
+    read-ready = record {
+      netlist = s .netlist;
+      tests = testAt (s .netlist) c part;
+      given = read-tests (s .netlist) (s .tables);
+      memory = s .memory;
+      upRoom = s .upRoom;
+      downRoom = s .downRoom;
+    }
 
-      pub still-ready : (N : Netlist) → MemoryReady N ws work → MemoryReady N ws work₁
-      still-ready N m = record { storeLength = m .storeLength; sound = m .sound; workLength = omega (arith, m .workLength, lent .sameLength) }
+    module _ {ups′ downs′ ws′ work′ : List ℕ} {r : Applied} (done : TestsTaken r table places batch vectors ups ups′ downs downs′ ws ws′ work work′) where
+      -- what the block's records answer, and those of the whole part
+      module _ (N : Netlist) (t : BlockTables N table places file) (m : MemoryReady N ws work) where
+        b : BlockRead N part vectors n after
+        b = read-of N t
 
-      pub block-ready : BlockReady table places ups′ downs′ marks batch ws work₁
-      block-ready = record { netlist = s .netlist; tests = testAt (s .netlist) c part; block = block-at (s .netlist) (s .tables); memory = still-ready (s .netlist) (s .memory) }
+        abbrev block : List (List ℕ)
+        block = blockRecords N part 0 n
 
-      module _ {ws′ work′ : List ℕ} {r : Applied} (kept : MemoryKept ws′ work₁ work′)
-          (applied : (N : Netlist) (tests : ℕ → Test) → BlockAt N tests table places ups′ downs′ marks batch → MemoryReady N ws work₁ → BlockTaken r N tests n ws ws′)
-          (sameUps : length ups′ ≡ length ups) (sameDowns : length downs′ ≡ length downs) where
-        -- what the block's records answer, and those of the whole part
-        module _ (N : Netlist) (t : BlockTables N table places file) (m : MemoryReady N ws work) where
-          b : BlockRead N part vectors n after
-          b = read-of N t
+        abbrev rest : List (List ℕ)
+        rest = fileRecords N (drop (recordLength N * n) part)
 
-          abbrev block : List (List ℕ)
-          block = blockRecords N part 0 n
+        answers : testAll N c block ws ≡ (stageOf (r .answer) >> value ws′)
+        answers = block-all N c (recordAt N part) work n m (b .legal) ∙ sym (done .ofTests N (testAt N c part) (read-tests N t) m .answer)
 
-          abbrev rest : List (List ℕ)
-          rest = fileRecords N (drop (recordLength N * n) part)
+        count : r .taken ≡ takenOf N c block ws
+        count = done .ofTests N (testAt N c part) (read-tests N t) m .taken ∙ sym (block-taken N c (recordAt N part) work n m (b .legal))
 
-          answers : testAll N c block ws ≡ (stageOf (r .answer) >> value ws′)
-          answers = block-all N c part work n m (b .legal) ∙ sym (applied N (testAt N c part) (block-at N t) (still-ready N m) .answer)
+        all-of : testAll N c (fileRecords N part) ws ≡ (testAll N c block ws >>= λ left. testAll N c rest left)
+        all-of = ap (λ (rs : List (List ℕ)). testAll N c rs ws) (file-block N part n (b .whole)) ∙ testAll-append N c block rest ws
 
-          count : r .taken ≡ takenOf N c block ws
-          count = applied N (testAt N c part) (block-at N t) (still-ready N m) .taken ∙ sym (block-taken N c part work n m (b .legal))
+        counted : takenOf N c (fileRecords N part) ws ≡ takenThen N c rest (testAll N c block ws) (takenOf N c block ws)
+        counted = ap (λ (rs : List (List ℕ)). takenOf N c rs ws) (file-block N part n (b .whole)) ∙ taken-append N c block rest ws
 
-          all-of : testAll N c (fileRecords N part) ws ≡ (testAll N c block ws >>= λ left. testAll N c rest left)
-          all-of = ap (λ (rs : List (List ℕ)). testAll N c rs ws) (file-block N part n (b .whole)) ∙ testAll-append N c block rest ws
+        taken-few : r .taken ≤ n
+        taken-few = omega (arith, count, taken-most N c block ws, length-block N part 0 n)
 
-          counted : takenOf N c (fileRecords N part) ws ≡ takenThen N c rest (testAll N c block ws) (takenOf N c block ws)
-          counted = ap (λ (rs : List (List ℕ)). takenOf N c rs ws) (file-block N part n (b .whole)) ∙ taken-append N c block rest ws
-
-          taken-few : r .taken ≤ n
-          taken-few = omega (arith, count, taken-most N c block ws, length-block N part 0 n)
-
-          -- the end of the file's records, by the number of a refusal
-          refused-at : {taken : ℕ} {w : Refusal} → taken ≤ n → testAll N c (fileRecords N part) ws ≡ refused (refusalNumber w) → taken ≡ takenOf N c (fileRecords N part) ws
-              → BlockTrue (record { taken = taken; answer = stage.Refused w }) N c part ws ws′ work′
-          refused-at h q e = record {
-            within = le-trans (mul-le-mul-left (recordLength N) h) (b .whole);
-            onward = λ z. (let y : _≡_ {A = ℕ} 0 1 = cc in absurd (omega arith));
-            refuses = λ v z. record { all = q ∙ ap (λ (a : StageAnswer). fileOf a ws) z; counted = e };
-          }
-
-          true-refused : (w : Refusal) → r .answer ≡ stage.Refused w → BlockTrue (record { taken = r .taken; answer = stage.Refused w }) N c part ws ws′ work′
-          true-refused w e =
-              let q : testAll N c block ws ≡ refused (refusalNumber w) = answers ∙ ap (λ (a : StageAnswer). stageOf a >> value ws′) e in
-              refused-at taken-few (all-of ∙ rw q refl) (count ∙ sym (counted ∙ rw q refl))
-
-          module _ (e : r .answer ≡ stage.Taken) where
-            made : testAll N c block ws ≡ value ws′
-            made = answers ∙ ap (λ (a : StageAnswer). stageOf a >> value ws′) e
-
-            all-taken : takenOf N c block ws ≡ n
-            all-taken = taken-all N c block ws ws′ made ∙ length-block N part 0 n
-
-            goes-on : testAll N c (fileRecords N part) ws ≡ testAll N c rest ws′
-            goes-on = all-of ∙ rw made refl
-
-            counts-on : takenOf N c (fileRecords N part) ws ≡ n + takenOf N c rest ws′
-            counts-on = counted ∙ rw (made, all-taken) refl
-
-            true-next : (w : Refusal) → after ≡ record-answer.Refused w → BlockTrue (record { taken = n; answer = stage.Refused w }) N c part ws ws′ work′
-            true-next w o =
-                let z = b .refuses w o in
-                refused-at (omega arith) (goes-on ∙ rest-refused N c part n (z .0) (z .1) ws′)
-                (omega (arith, counts-on, rest-untaken N c part n (z .0) (z .1) ws′))
-
-            some-taken : after ≡ record-answer.Legal → recordLength N ≤ length part → 1 ≤ n
-            some-taken o l = ⊎-elim (λ (h : 1 ≤ n). h) (λ (h : n < 1). absurd (none n h (b .ended o))) (le-or-lt 1 n)
-              where
-                none : (k : ℕ) → k < 1 → (k ≡ 64) ⊎ (length part < recordLength N * (k + 1)) → ⊥
-                none k h x =
-                    let z : k ≡ 0 = omega arith in
-                    ⊎-elim (λ (q : k ≡ 64). omega arith)
-                    (λ (q : length part < recordLength N * (k + 1)). omega (arith, ap (λ i. recordLength N * (i + 1)) z, mul-one (recordLength N))) x
-
-            true-onward : after ≡ record-answer.Legal → BlockTrue (record { taken = n; answer = stage.Taken }) N c part ws ws′ work′
-            true-onward o = record {
-              within = b .whole;
-              onward = λ z. record {
-                some = some-taken o;
-                rest = sym goes-on;
-                counted = sym counts-on;
-                memory = all-memory N c ws work work′ m (kept .sameLength ∙ lent .sameLength) block ws′ made;
-              };
-              refuses = λ v z. (let y : _≡_ {A = ℕ} 0 1 = cc in absurd (omega arith));
-            }
-
-        done : {x : TakenRecords} → x .taken ≤ n → ((N : Netlist) → BlockTables N table places file → MemoryReady N ws work → BlockTrue x N c part ws ws′ work′)
-            → BlockDone x table places file part ups ups′ downs downs′ ws ws′ work work′
-        done h f = record {
-          few = omega (arith, block-records);
-          storeLength = kept .storeLength ∙ sym (s .memory .storeLength);
-          kept = record {
-            sameUps = sameUps;
-            sameDowns = sameDowns;
-            sameLength = kept .sameLength ∙ lent .sameLength;
-            pastWork = kept .pastWork ∙ lent .pastWork;
-          };
-          ofCircuit = f;
+        -- the end of the file's records, by the number of a refusal
+        refused-at : {taken : ℕ} {w : Refusal} → taken ≤ n → testAll N c (fileRecords N part) ws ≡ refused (refusalNumber w) → taken ≡ takenOf N c (fileRecords N part) ws
+            → BlockTrue (record { taken = taken; answer = stage.Refused w }) N c part ws ws′ work′
+        refused-at h q e = record {
+          within = le-trans (mul-le-mul-left (recordLength N) h) (b .whole);
+          onward = λ z. (let y : _≡_ {A = ℕ} 0 1 = cc in absurd (omega arith));
+          refuses = λ v z. record { all = q ∙ ap (λ (a : StageAnswer). fileOf a ws) z; counted = e };
         }
 
-        pub block-refused : {w : Refusal} → r .answer ≡ stage.Refused w
-            → BlockDone (record { taken = r .taken; answer = stage.Refused w }) table places file part ups ups′ downs downs′ ws ws′ work work′
-        block-refused {w} e = done (taken-few (s .netlist) (s .tables) (s .memory)) (λ N t m. true-refused N t m w e)
+        true-refused : (w : Refusal) → r .answer ≡ stage.Refused w → BlockTrue (record { taken = r .taken; answer = stage.Refused w }) N c part ws ws′ work′
+        true-refused w e =
+            let q : testAll N c block ws ≡ refused (refusalNumber w) = answers ∙ ap (λ (a : StageAnswer). stageOf a >> value ws′) e in
+            refused-at taken-few (all-of ∙ rw q refl) (count ∙ sym (counted ∙ rw q refl))
 
-        pub block-next : r .answer ≡ stage.Taken → {w : Refusal} → after ≡ record-answer.Refused w
-            → BlockDone (record { taken = n; answer = stage.Refused w }) table places file part ups ups′ downs downs′ ws ws′ work work′
-        block-next e {w} o = done (omega arith) (λ N t m. true-next N t m e w o)
+        module _ (e : r .answer ≡ stage.Taken) where
+          made : testAll N c block ws ≡ value ws′
+          made = answers ∙ ap (λ (a : StageAnswer). stageOf a >> value ws′) e
 
-        pub block-onward : r .answer ≡ stage.Taken → after ≡ record-answer.Legal
-            → BlockDone (record { taken = n; answer = stage.Taken }) table places file part ups ups′ downs downs′ ws ws′ work work′
-        block-onward e o = done (omega arith) (λ N t m. true-onward N t m e o)
+          all-taken : takenOf N c block ws ≡ n
+          all-taken = taken-all N c block ws ws′ made ∙ length-block N part 0 n
 
-pub ruleset take-cases = (block-some, block-few, block-tables, block-ready, block-refused, block-next, block-onward, needs)
+          goes-on : testAll N c (fileRecords N part) ws ≡ testAll N c rest ws′
+          goes-on = all-of ∙ rw made refl
+
+          counts-on : takenOf N c (fileRecords N part) ws ≡ n + takenOf N c rest ws′
+          counts-on = counted ∙ rw (made, all-taken) refl
+
+          true-next : (w : Refusal) → after ≡ record-answer.Refused w → BlockTrue (record { taken = n; answer = stage.Refused w }) N c part ws ws′ work′
+          true-next w o =
+              let z = b .refuses w o in
+              refused-at (omega arith) (goes-on ∙ rest-refused N c part n (z .0) (z .1) ws′)
+              (omega (arith, counts-on, rest-untaken N c part n (z .0) (z .1) ws′))
+
+          some-taken : after ≡ record-answer.Legal → recordLength N ≤ length part → 1 ≤ n
+          some-taken o l = ⊎-elim (λ (h : 1 ≤ n). h) (λ (h : n < 1). absurd (none n h (b .ended o))) (le-or-lt 1 n)
+            where
+              none : (k : ℕ) → k < 1 → (k ≡ 64) ⊎ (length part < recordLength N * (k + 1)) → ⊥
+              none k h x =
+                  let z : k ≡ 0 = omega arith in
+                  ⊎-elim (λ (q : k ≡ 64). omega arith)
+                  (λ (q : length part < recordLength N * (k + 1)). omega (arith, ap (λ i. recordLength N * (i + 1)) z, mul-one (recordLength N))) x
+
+          true-onward : after ≡ record-answer.Legal → BlockTrue (record { taken = n; answer = stage.Taken }) N c part ws ws′ work′
+          true-onward o = record {
+            within = b .whole;
+            onward = λ z. record {
+              some = some-taken o;
+              rest = sym goes-on;
+              counted = sym counts-on;
+              memory = all-memory N c ws work work′ m (done .kept .sameLength) block ws′ made;
+            };
+            refuses = λ v z. (let y : _≡_ {A = ℕ} 0 1 = cc in absurd (omega arith));
+          }
+
+      ends : {x : TakenRecords} → x .taken ≤ n → ((N : Netlist) → BlockTables N table places file → MemoryReady N ws work → BlockTrue x N c part ws ws′ work′)
+          → BlockDone x table places file part ups ups′ downs downs′ ws ws′ work work′
+      ends h f = record {
+        few = omega (arith, block-records);
+        storeLength = done .storeLength ∙ sym (s .memory .storeLength);
+        kept = done .kept;
+        ofCircuit = f;
+      }
+
+      pub block-refused : {w : Refusal} → r .answer ≡ stage.Refused w
+          → BlockDone (record { taken = r .taken; answer = stage.Refused w }) table places file part ups ups′ downs downs′ ws ws′ work work′
+      block-refused {w} e = ends (taken-few (s .netlist) (s .tables) (s .memory)) (λ N t m. true-refused N t m w e)
+
+      pub block-next : r .answer ≡ stage.Taken → {w : Refusal} → after ≡ record-answer.Refused w
+          → BlockDone (record { taken = n; answer = stage.Refused w }) table places file part ups ups′ downs downs′ ws ws′ work work′
+      block-next e {w} o = ends (omega arith) (λ N t m. true-next N t m e w o)
+
+      pub block-onward : r .answer ≡ stage.Taken → after ≡ record-answer.Legal
+          → BlockDone (record { taken = n; answer = stage.Taken }) table places file part ups ups′ downs downs′ ws ws′ work work′
+      block-onward e o = ends (omega arith) (λ N t m. true-onward N t m e o)
+
+pub ruleset take-cases = (block-some, block-few, read-ready, block-refused, block-next, block-onward, needs)

@@ -2,4 +2,5 @@
 pub mod MemoryLaws
 pub mod TakenRecordLaws
 pub mod BlockFileLaws
+pub mod VectorCases
 pub mod BlockTakeCases

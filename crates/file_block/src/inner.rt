@@ -1,11 +1,14 @@
-// The test stage with up to 64 records of a test file at a time, with the lists of a block in lent memory. Each caller proves what it requires.
+// The test stage with up to 64 tests at a time, from their vectors or from the records of a test file, with the lists of a block in lent memory. Each caller
+// proves what a function requires.
 ghost use Rattle.file_block.specs.FileBlocks.{BlocksReady, BlockDone};
+ghost use Rattle.file_block.specs.VectorBlocks.{TestsReady, TestsTaken};
 use block::inner::layout::GATE_TABLE_SIZE;
 use block_marks::inner::Batch;
 use block_marks::inner::layout::MARKS_SIZE;
 use block_marks::inner::layout::PLACE_TABLE_SIZE;
 use block_marks::inner::marks::fill_block;
 use block_marks::inner::reading::read_block;
+use block_stage::inner::Applied;
 use block_stage::inner::apply_block;
 use coverage::inner::StageAnswer;
 use test_records::inner::RecordAnswer;
@@ -24,6 +27,26 @@ pub struct FileNumbers {
     pub class: u32,
 }
 
+// The place Work with the tests of a block, from their vectors: V1 of test t at place t and V2 at place 64 + t.
+pub fn apply_tests(
+    table: &[u16; GATE_TABLE_SIZE],
+    places: &[u64; PLACE_TABLE_SIZE],
+    batch: Batch,
+    vectors: &[u64; 128],
+    ups: &mut [u32],
+    downs: &mut [u32],
+    store: &mut [u64],
+    work: &mut [u64],
+) -> Applied
+    requires { ⌜ TestsReady (now table) (now places) batch (now vectors) (now ups) (now downs) (now store) (now work) ⌝ }
+    ensures { λ r. ⌜ TestsTaken r (now (table .entry)) (now (places .entry)) batch (now (vectors .entry)) (now (ups .entry)) (now (ups .exit))
+        (now (downs .entry)) (now (downs .exit)) (now (store .entry)) (now (store .exit)) (now (work .entry)) (now (work .exit)) ⌝ }
+{
+    let mut marks = [0u64; MARKS_SIZE];
+    fill_block(table, places, batch, vectors, ups, downs, &mut marks, work);
+    apply_block(table, places, ups, downs, &marks, batch, store, work)
+}
+
 // The test stage with the records of a block, with which a part of the file begins: up to 64 of them, or to the first that is refused.
 pub fn take_block(
     table: &[u16; GATE_TABLE_SIZE],
@@ -40,7 +63,6 @@ pub fn take_block(
         (now (downs .entry)) (now (downs .exit)) (now (store .entry)) (now (store .exit)) (now (work .entry)) (now (work .exit)) ⌝ }
 {
     let mut vectors = [0u64; 128];
-    let mut marks = [0u64; MARKS_SIZE];
     let read = read_block(part, file.inputs, &mut vectors);
     let batch = Batch {
         inputs: file.inputs,
@@ -49,8 +71,7 @@ pub fn take_block(
         records: read.records,
         class: file.class,
     };
-    fill_block(table, places, batch, &vectors, ups, downs, &mut marks, work);
-    let applied = apply_block(table, places, ups, downs, &marks, batch, store, work);
+    let applied = apply_tests(table, places, batch, &vectors, ups, downs, store, work);
     let said = applied.answer;
     match said {
         StageAnswer::Refused(why) => {

@@ -30,10 +30,10 @@ module _ {netlist positions netCounts : List ℕ} {shape : Shape} {ws work : Lis
 
     module _ {places : List ℕ} (placed : (N : Netlist) (ps : List ℕ) → CircuitTables N netlist ps netCounts shape → CircuitTable N table (shape .inputs) (shape .nets)
         → PlaceTable N places) (class : ℕ) where
-      abbrev numbers : FileNumbers
+      abbrev pub numbers : FileNumbers
       numbers = record { inputs = shape .inputs; nets = shape .nets; outputs = shape .outputs; class = class }
 
-      tables-of : (N : Netlist) → CircuitTables N netlist positions netCounts shape → BlockTables N table places numbers
+      pub tables-of : (N : Netlist) → CircuitTables N netlist positions netCounts shape → BlockTables N table places numbers
       tables-of N t = record {
         circuit = filled N netCounts t;
         placed = placed N positions t (filled N netCounts t);

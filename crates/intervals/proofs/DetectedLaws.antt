@@ -15,7 +15,7 @@ use Rattle.records.proofs.BitLaws.{zero-bit}
 use Rattle.model.specs.Netlist.{Netlist, nets, counts, pinsOf, pinNet, pinCounts, pathTotal, outputCount, outputCounts, outputNet}
 use Rattle.model.specs.Path.{countsBefore}
 use Rattle.model.specs.Detect.{openPin, hasEdge, inNetSet, detectsNumber}
-use Rattle.model.specs.Runs.{Run, runsOf, workingRuns}
+use Rattle.model.specs.Runs.{Run, runsOf, workingRuns, run}
 use Rattle.model.specs.Store.{maxRuns}
 use Rattle.model.proofs.BoolLaws.{true→T, and3}
 use Rattle.model.proofs.NetLaws.{count-gate, count-input}
@@ -25,7 +25,7 @@ use Rattle.model.proofs.ReadLaws.{legal, Limits}
 use Rattle.model.proofs.RunLaws.{runs-by, runs-separated}
 use Rattle.model.proofs.WellFormed.{WellFormed, ascendingNets}
 use Rattle.netlist.specs.declared.inner.Shape.{Shape}
-use Rattle.runs.specs.RunLists.{run, Sound, onlyIf, addRuns, shiftRuns, runsInWords}
+use Rattle.runs.specs.RunLists.{Sound, onlyIf, addRuns, shiftRuns, runsInWords}
 use Rattle.runs.specs.declared.inner.Added.the-variants.{Count, Full}
 use Rattle.run_union.proofs.ShiftLaws.{addRuns-part}
 use Rattle.model.proofs.BoolLaws.{cases}

@@ -16,10 +16,11 @@ use Rattle.model.proofs.NetLaws.{output-count-same}
 use Rattle.model.proofs.NumberLaws.{length-outputCounts, outputCounts-is}
 use Rattle.model.proofs.ReadLaws.{legal, limits}
 use Rattle.model.proofs.WellFormed.{WellFormed}
+use Rattle.model.specs.Runs.{run}
 use Rattle.netlist.specs.Tables.{outputAt}
 use Rattle.netlist.specs.declared.inner.Shape.{Shape}
 use Rattle.netlist.proofs.TableLaws.{few-outputs, count-at, outputs-inside, output-is, output-below}
-use Rattle.runs.specs.RunLists.{run, onlyIf}
+use Rattle.runs.specs.RunLists.{onlyIf}
 use Rattle.runs.specs.Answers.{Adds}
 use Rattle.runs.specs.declared.inner.Added.{Added}
 use Rattle.runs.specs.declared.inner.Added.the-variants.{Count, Full}

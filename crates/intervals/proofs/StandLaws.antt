@@ -12,9 +12,9 @@ use lib.Dec.{eqb}
 use lib.ListN.{length, getD, set, drop, length-set}
 use lib.Seq.{getD-set-same, getD-set-other}
 use Rattle.model.specs.Base.{bit}
-use Rattle.model.specs.Runs.{Run}
+use Rattle.model.specs.Runs.{Run, run}
 use Rattle.model.specs.Store.{maxRuns}
-use Rattle.runs.specs.RunLists.{run, Sound, onlyIf, runsInWords, writeRuns}
+use Rattle.runs.specs.RunLists.{Sound, onlyIf, runsInWords, writeRuns}
 use Rattle.model.proofs.BoolLaws.{cases}
 use Rattle.run_union.proofs.RunWriteLaws.{length-writeRuns, runs-write, runs-write-before}
 use Rattle.place_runs.specs.RunsOfPlaces.{runsIn, NetReady}

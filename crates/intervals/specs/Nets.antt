@@ -8,10 +8,10 @@ use Rattle.model.specs.Base.{bit}
 use Rattle.model.specs.Store.{maxRuns}
 use Rattle.model.specs.Netlist.{nets, counts}
 use Rattle.model.specs.Detect.{inNetSet}
-use Rattle.model.specs.Runs.{Run, runsOf}
+use Rattle.model.specs.Runs.{Run, runsOf, run}
 use Rattle.netlist.specs.Tables.{CircuitTables}
 use Rattle.netlist.specs.declared.inner.Shape.{Shape}
-use Rattle.runs.specs.RunLists.{run, onlyIf, runsInWords}
+use Rattle.runs.specs.RunLists.{onlyIf, runsInWords}
 use Rattle.runs.specs.declared.inner.Added.{Added}
 use Rattle.runs.specs.declared.inner.Added.the-variants.{Count, Full}
 use Rattle.simulation.specs.Simulated.{OpenMasks}

@@ -11,17 +11,17 @@ use Rattle.model.specs.Runs.{inRuns, howMany, howManyFrom, separatedRuns}
 use Rattle.model.specs.Read.{readNetlist, readGates, readOutputs}
 use Rattle.model.specs.Store.{storeRuns, storeOf}
 use Rattle.model.specs.Encode.{headerBytes, netBytes, gateBytes, outputBytes}
-use Rattle.model.specs.Examples.{chain, withOutputs, outputsBytes}
+use Rattle.model.specs.Examples.{chain, withOutputs, outputsBytes, holding}
 use Rattle.model.proofs.ListLaws.{allOf-at}
 use Rattle.model.proofs.SameAnswers.{same}
 use Rattle.length_rows.specs.Lengths.{row, lengthOf, pathsUpTo, heldUpTo, rowsOf, lengthsCall}
-use Rattle.length_rows.specs.LengthExamples.{Example, noExample, rowsAnswered, upTo, run, holding, inverters, one63, examples}
+use Rattle.length_rows.specs.LengthExamples.{Example, noExample, rowsAnswered, upTo, inverters, one63, examples}
 
 unfoldable right : Example → Bool
 right x = same (rowsAnswered (x .netlist) (x .store)) (x .answer)
 
 all-right : T (allOf right examples)
-unfolding right same examples rowsAnswered upTo run holding inverters one63 chain withOutputs outputsBytes
+unfolding right same examples rowsAnswered upTo holding inverters one63 chain withOutputs outputsBytes
     headerBytes netBytes gateBytes outputBytes readNetlist readGates readOutputs counts outputCount pathTotal pathOf pathAt split
     inRuns howMany howManyFrom separatedRuns storeRuns storeOf row lengthOf pathsUpTo heldUpTo rowsOf lengthsCall
 all-right = tt

@@ -30,7 +30,8 @@ use Rattle.block_counting.specs.Counts.{Says, SaysAt, storeAt, BlockCounted}
 use Rattle.block_stage.specs.BlockStage.{BlockAt, MemoryKept}
 use Rattle.file_block.specs.FileBlocks.{BlockTables, BlocksReady, RoomKept}
 use Rattle.file_block.specs.declared.inner.FileNumbers.{FileNumbers}
-use Rattle.file_block.proofs.BlockTakeCases.{block-some, batch, read-of, block-records, block-at, still-ready}
+use Rattle.file_block.proofs.VectorCases.{marked-at, still-ready}
+use Rattle.file_block.proofs.BlockTakeCases.{block-some, batch, read-of, block-records, read-tests, read-ready}
 use Rattle.listing_blocks.specs.BlockLines.{NextIs, PartListed, PartDone}
 use Rattle.listing_blocks.proofs.BlockLineLaws.{part-legal, part-refused, memory-at}
 
@@ -112,7 +113,9 @@ module _ {table places : List ℕ} {numbers : FileNumbers} {ups downs ws work : 
           b = read-of s read N t
 
           k : BlockCounted N (testAt N c part) n ws ws′ answers
-          k = counted N (testAt N c part) (block-at s read filled lent N t) (still-ready s read filled lent N m)
+          k =
+              let ready = read-ready s read in
+              counted N (testAt N c part) (marked-at ready filled lent N (testAt N c part) (read-tests s read N t)) (still-ready ready filled lent N m)
 
           memory-left : MemoryReady N ws′ work′
           unfolding b k

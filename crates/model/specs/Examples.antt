@@ -10,7 +10,7 @@ use Rattle.model.specs.Base.{Answer, refused, value, _>>=_, _>>_, checks
 use Rattle.model.specs.Netlist.{Netlist, counts, pathTotal}
 use Rattle.model.specs.Path.{Edge, rising, falling, pathOf, faultNumber}
 use Rattle.model.specs.Detect.{Class, nonRobust, robust, Test, Evaluation, evaluate, detectsNumber}
-use Rattle.model.specs.Runs.{Run, workingRuns}
+use Rattle.model.specs.Runs.{Run, run, workingRuns}
 use Rattle.model.specs.Read.{readNetlist, testRules, testOf}
 use Rattle.model.specs.Store.{ByEdge, headWords, storeWords, maxRuns, testsWord, maxTests, emptyStore, firstWord, storeOf}
 use Rattle.model.specs.Calls.{storeLeft, testCall, wordsOf, workWords}
@@ -211,9 +211,13 @@ robustRows =
     ∷ row Q (audited 0 (0 ∷ []) []) (refused 83)
     ∷ []
 
+-- a store after so many tests, with these runs
+unfoldable pub holding : ℕ → List Run → List Run → List ℕ
+holding tests rs fs = storeOf tests (record { onRising = rs; onFalling = fs })
+
 -- what Q's three tests detect: path 3 rising, paths 2 and 3 falling
 unfoldable pub runsOfThree : ByEdge (List Run)
-runsOfThree = record { onRising = record { low = 3; high = 3 } ∷ []; onFalling = record { low = 2; high = 3 } ∷ [] }
+runsOfThree = record { onRising = run 3 3 ∷ []; onFalling = run 2 3 ∷ [] }
 
 -- Ticket 9, on Q: the writer takes the number of tests from the store; a taken test is counted, and taken again it changes the third word alone; no
 -- tests and a run are 41; the most tests are 86 after 42 and before 50, one more is 40

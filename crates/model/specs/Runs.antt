@@ -14,13 +14,16 @@ pub record Run : Type 0 where
   pub low : ℕ
   pub high : ℕ
 
+abbrev pub run : ℕ → ℕ → Run
+run low high = record { low = low; high = high }
+
 -- the number `k` put before runs of higher numbers: it begins the first of them, or is a run by itself
 unfoldable pub addNumber : ℕ → List Run → List Run
-addNumber k [] = record { low = k; high = k } ∷ []
+addNumber k [] = run k k ∷ []
 addNumber k (r ∷ rs) =
     elim (eqb (r .low) (suc k)) [
-      | true ↦ record { low = k; high = r .high } ∷ rs
-      | false ↦ record { low = k; high = k } ∷ r ∷ rs
+      | true ↦ run k (r .high) ∷ rs
+      | false ↦ run k k ∷ r ∷ rs
     ]
 
 -- the runs of the numbers from `k` on, `n` of them, that pass the test

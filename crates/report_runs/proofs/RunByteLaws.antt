@@ -8,12 +8,9 @@ use native.Mathlib.Numerals.{add-one}
 use lib.ListN.{length, take, drop}
 use lib.Seq.{drop-drop}
 use Rattle.model.specs.Base.{field, fromLittleEndian}
-use Rattle.model.specs.Runs.{Run}
+use Rattle.model.specs.Runs.{Run, run}
 use Rattle.model.specs.Report.{runsIn}
 use Rattle.report_runs.specs.ReportRuns.{runsOfBytes}
-
-abbrev pub run : ℕ → ℕ → Run
-run low high = record { low = low; high = high }
 
 -- the run at a place, as the code reads it
 abbrev pub runAt : List ℕ → ℕ → Run

@@ -9,8 +9,8 @@ use native.Mathlib.Nat.{le-of-suc-le-suc, not-suc-le-zero, le-refl, le-trans}
 use lib.ListN.{length, take}
 use borrow.Author.Tests.{le-leb, lt-leb}
 use Rattle.model.proofs.BoolLaws.{cases}
-use Rattle.model.specs.Runs.{Run, Separated}
-use Rattle.runs.specs.RunLists.{run, joined, addRun, addRuns}
+use Rattle.model.specs.Runs.{Run, Separated, run}
+use Rattle.runs.specs.RunLists.{joined, addRun, addRuns}
 use Rattle.runs.proofs.MemberLaws.{inside, member, inside-in, inside-lt, inside-gt}
 
 -- every run of the list starts at m or lower

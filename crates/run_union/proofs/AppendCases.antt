@@ -7,8 +7,8 @@ use native.Mathlib.Omega.{arith}
 use native.Mathlib.Nat.{not-suc-le-zero}
 use lib.ListN.{length, getD, set, length-append}
 use lib.Seq.{set-getD, take-all, take-at}
-use Rattle.model.specs.Runs.{Run}
-use Rattle.runs.specs.RunLists.{run, addRun, runAt, runsInWords}
+use Rattle.model.specs.Runs.{Run, run}
+use Rattle.runs.specs.RunLists.{addRun, runAt, runsInWords}
 use Rattle.runs.specs.Answers.{Room, Adds}
 use Rattle.runs.specs.declared.inner.Added.{Added}
 use Rattle.runs.specs.declared.inner.Added.the-variants.{Count, Full}

@@ -5,10 +5,7 @@ use mathlib.Core.Bool.{Bool, true, false, _||_, cond}
 use mathlib.Core.List.{List, [], _∷_}
 use lib.Dec.{leb}
 use lib.ListN.{getD, set}
-use Rattle.model.specs.Runs.{Run, inRuns, Separated}
-
-abbrev pub run : ℕ → ℕ → Run
-run l h = record { low = l; high = h }
+use Rattle.model.specs.Runs.{Run, inRuns, Separated, run}
 
 -- Document 01's runs of a set of the numbers 1 to `n`: ascending, neighbours never adjacent or overlapping
 abbrev pub Sound : ℕ → List Run → Type 0

@@ -6,9 +6,9 @@ use Prim.Native.Nat.{ℕ, zero, suc, _+_, _-_, _*_, _≤_, _<_}
 use native.Mathlib.Omega.{arith}
 use lib.ListN.{length, getD, take, drop, set, replicate, length-append, length-drop, length-replicate}
 use lib.Seq.{set-at, length-take-le}
-use Rattle.model.specs.Runs.{Run}
+use Rattle.model.specs.Runs.{Run, run}
 use Rattle.model.specs.Store.{maxRuns, lowsHighs, places}
-use Rattle.runs.specs.RunLists.{run, runAt, runsInWords, writeRuns}
+use Rattle.runs.specs.RunLists.{runAt, runsInWords, writeRuns}
 use Rattle.runs.proofs.MemberLaws.{run-path}
 use Rattle.runs.proofs.RunCutLaws.{take-runs, drop-runs}
 use Rattle.runs.proofs.RunWordLaws.{length-runs}

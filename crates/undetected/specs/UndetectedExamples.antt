@@ -3,8 +3,9 @@
 use mathlib.Core.List.{List, [], _∷_}
 use Prim.Native.Nat.{ℕ}
 use Rattle.model.specs.Base.{numbersFrom}
-use Rattle.model.specs.Runs.{Run}
-use Rattle.model.specs.Store.{emptyStore, storeOf}
+use Rattle.model.specs.Runs.{run}
+use Rattle.model.specs.Examples.{holding}
+use Rattle.model.specs.Store.{emptyStore}
 
 pub record Example : Type 0 where
   pub store : List ℕ
@@ -14,21 +15,14 @@ pub record Example : Type 0 where
 abbrev pub noExample : Example
 noExample = record { store = emptyStore; paths = 0; faults = [] }
 
-unfoldable pub run : ℕ → ℕ → Run
-run a b = record { low = a; high = b }
-
--- a store after one test, with these runs
-unfoldable pub holding : List Run → List Run → List ℕ
-holding rs fs = storeOf 1 (record { onRising = rs; onFalling = fs })
-
 unfoldable pub examples : List Example
 examples =
     -- what all pairs of document 01's Q leave: path 1 at both edges and path 2 rising are not held
-    record { store = holding (run 3 3 ∷ []) (run 2 3 ∷ []); paths = 3; faults = 1 ∷ 2 ∷ 3 ∷ [] }
+    record { store = holding 1 (run 3 3 ∷ []) (run 2 3 ∷ []); paths = 3; faults = 1 ∷ 2 ∷ 3 ∷ [] }
     -- rising paths 2 and 3, falling paths 1 and 3: path 1 rising is fault 1, path 2 falling fault 4
-    ∷ record { store = holding (run 2 3 ∷ []) (run 1 1 ∷ run 3 3 ∷ []); paths = 3; faults = 1 ∷ 4 ∷ [] }
+    ∷ record { store = holding 1 (run 2 3 ∷ []) (run 1 1 ∷ run 3 3 ∷ []); paths = 3; faults = 1 ∷ 4 ∷ [] }
     -- all faults, none, and no path
-    ∷ record { store = holding (run 1 2 ∷ []) (run 1 2 ∷ []); paths = 2; faults = [] }
+    ∷ record { store = holding 1 (run 1 2 ∷ []) (run 1 2 ∷ []); paths = 2; faults = [] }
     ∷ record { store = emptyStore; paths = 2; faults = 1 ∷ 2 ∷ 3 ∷ 4 ∷ [] }
     ∷ noExample
     -- 22 faults, of which 20 are listed

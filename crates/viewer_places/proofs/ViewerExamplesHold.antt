@@ -11,17 +11,17 @@ use Rattle.model.specs.Runs.{runsOf, runsFrom, addNumber, inRuns, howMany, howM
 use Rattle.model.specs.Read.{readNetlist, readGates, readOutputs}
 use Rattle.model.specs.Store.{storeRuns, storeOf}
 use Rattle.model.specs.Encode.{headerBytes, netBytes, gateBytes, outputBytes}
-use Rattle.model.specs.Examples.{withOutputs, outputsBytes}
+use Rattle.model.specs.Examples.{withOutputs, outputsBytes, holding}
 use Rattle.model.proofs.ListLaws.{allOf-at}
 use Rattle.model.proofs.SameAnswers.{same}
 use Rattle.viewer_places.specs.Viewer.{seen, seenHeld, viewerTotalsCall, viewerRunsCall, viewerRunsStore, viewerFaultCall}
-use Rattle.viewer_places.specs.ViewerExamples.{Example, noExample, run, holding, answered, two, three, full, spanning, asked, examples}
+use Rattle.viewer_places.specs.ViewerExamples.{Example, noExample, answered, two, three, full, spanning, asked, examples}
 
 unfoldable right : Example → Bool
 right x = same (answered (x .netlist) (x .store) (x .places) (x .question)) (x .answer)
 
 all-right : T (allOf right examples)
-unfolding right same examples asked answered two three full spanning run holding withOutputs outputsBytes
+unfolding right same examples asked answered two three full spanning holding withOutputs outputsBytes
     headerBytes netBytes gateBytes outputBytes readNetlist readGates readOutputs counts outputCount pathTotal pathOf pathAt split
     runsOf runsFrom addNumber inRuns howMany howManyFrom separatedRuns storeRuns storeOf
     seen seenHeld viewerTotalsCall viewerRunsCall viewerRunsStore viewerFaultCall

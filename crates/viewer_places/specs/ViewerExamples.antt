@@ -5,10 +5,10 @@ use mathlib.Core.List.{List, [], _∷_, _++_}
 use Prim.Native.Nat.{ℕ}
 use lib.ListN.{replicate}
 use Rattle.model.specs.Base.{Answer, refused, value, _>>=_}
-use Rattle.model.specs.Runs.{Run}
-use Rattle.model.specs.Store.{storeOf, storeWords}
+use Rattle.model.specs.Runs.{run}
+use Rattle.model.specs.Store.{storeWords}
 use Rattle.model.specs.Encode.{headerBytes, gateBytes, outputBytes}
-use Rattle.model.specs.Examples.{withOutputs}
+use Rattle.model.specs.Examples.{withOutputs, holding}
 use Rattle.viewer_places.specs.Viewer.{viewerTotalsCall, viewerRunsCall, viewerRunsStore, viewerFaultCall}
 
 -- what is asked: the totals, the words of a second store that held a seven in each, or one fault
@@ -26,12 +26,6 @@ pub record Example : Type 0 where
 -- an example of a refusal
 abbrev pub noExample : Example
 noExample = record { netlist = []; store = []; places = []; question = totals; answer = refused 1 }
-
-unfoldable pub run : ℕ → ℕ → Run
-run a b = record { low = a; high = b }
-
-unfoldable pub holding : ℕ → List Run → List Run → List ℕ
-holding tests rs fs = storeOf tests (record { onRising = rs; onFalling = fs })
 
 abbrev pub asNumber : Bool → ℕ
 asNumber true = 1

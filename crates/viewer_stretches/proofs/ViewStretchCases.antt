@@ -12,7 +12,7 @@ use lib.Seq.{drop-cons}
 use Rattle.model.specs.Base.{value, sumOf}
 use Rattle.model.specs.Netlist.{Netlist, outputCounts, pathTotal}
 use Rattle.model.specs.Path.{countsBefore}
-use Rattle.model.specs.Runs.{Run, runsOf}
+use Rattle.model.specs.Runs.{Run, runsOf, run}
 use Rattle.model.specs.Read.{readNetlist}
 use Rattle.model.proofs.AnswerLaws.{value-inj}
 use Rattle.model.proofs.BoolLaws.{and-right, and3}
@@ -22,7 +22,7 @@ use Rattle.netlist.proofs.TableLaws.{few-outputs, outputs-inside}
 use Rattle.path_picks.specs.Picks.{RecordsOfOutputs, outputCountsIn}
 use Rattle.path_picks.proofs.OutputPicks.{counts-before}
 use Rattle.path_picks.proofs.WalkTableLaws.{outputs-before, output-counts}
-use Rattle.runs.specs.RunLists.{run, addRun, addRuns, runsInWords}
+use Rattle.runs.specs.RunLists.{addRun, addRuns, runsInWords}
 use Rattle.runs.specs.Answers.{Adds, Room}
 use Rattle.runs.specs.declared.inner.Added.{Added}
 use Rattle.runs.specs.declared.inner.Added.the-variants.{Count, Full}

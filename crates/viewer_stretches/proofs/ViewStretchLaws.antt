@@ -10,11 +10,11 @@ use lib.ListN.{length, length-append}
 use borrow.Author.Tests.{lt-ltb, le-ltb}
 use Rattle.model.specs.Netlist.{Netlist, outputCounts, pathTotal}
 use Rattle.model.specs.Path.{countsBefore}
-use Rattle.model.specs.Runs.{Run, runsOf}
+use Rattle.model.specs.Runs.{Run, runsOf, run}
 use Rattle.model.proofs.BoolLaws.{and3, cases}
 use Rattle.model.proofs.WellFormed.{WellFormed}
 use Rattle.model.proofs.NumberLaws.{countsBefore-suc, countsBefore-le, length-outputCounts}
-use Rattle.runs.specs.RunLists.{run, addRun, addRuns}
+use Rattle.runs.specs.RunLists.{addRun, addRuns}
 use Rattle.runs.proofs.MemberLaws.{inside, member, member-in, inside-lt, inside-gt, runsOf-unique}
 use Rattle.runs.proofs.RunCutLaws.{member-append}
 use Rattle.run_union.proofs.AddRunLaws.{joined-one, joined-two, Asc, addRuns-sound, addRuns-member}

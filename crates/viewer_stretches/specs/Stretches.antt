@@ -5,10 +5,10 @@ use Prim.Native.Nat.{ℕ, suc, _+_}
 use lib.Dec.{T, ltb}
 use Rattle.model.specs.Netlist.{Netlist, outputCounts}
 use Rattle.model.specs.Path.{countsBefore}
-use Rattle.model.specs.Runs.{Run}
+use Rattle.model.specs.Runs.{Run, run}
 use Rattle.netlist.specs.Tables.{CircuitTables}
 use Rattle.netlist.specs.declared.inner.Shape.{Shape}
-use Rattle.runs.specs.RunLists.{run, onlyIf}
+use Rattle.runs.specs.RunLists.{onlyIf}
 use Rattle.viewer_places.specs.Viewer.{placesFit}
 
 -- the most outputs of a netlist

@@ -2,7 +2,8 @@
 -- Assumes nothing.
 use mathlib.Core.Path.{refl}
 use native.Mathlib.Omega.{arith}
-use Rattle.file_block.proofs.BlockTakeCases.{block-some, block-few, block-tables, block-ready}
+use Rattle.file_block.proofs.VectorCases.{tests-tables, marked-ready}
+use Rattle.file_block.proofs.BlockTakeCases.{block-some, block-few, read-ready}
 use Rattle.listing_blocks.proofs.PartCases.{part-fits, whole-bytes, part-ended, part-more}
 use borrow.Author.Needs.{needs}
 use Rattle.listing_blocks.proofs.blocks.count_part.Statement.{statement}
@@ -18,7 +19,7 @@ fill-block-requires c κs =
     let at-read = c .before .before .before .before .before in
     let at-vectors = at-read .before in
     let ready = at-vectors .before .before .before .before .before .before .pre in
-    (block-tables ready (at-read .read-block .ensures .1), ready .upRoom, ready .downRoom, refl, ready .memory .workLength)
+    (tests-tables (read-ready ready (at-read .read-block .ensures .1)), ready .upRoom, ready .downRoom, refl, ready .memory .workLength)
 
 count-block-requires : tie.Need-count-block-requires
 count-block-requires c κs =
@@ -27,7 +28,7 @@ count-block-requires c κs =
     let at-read = at-filled .before .before .before .before .before .before in
     let at-vectors = at-read .before in
     let ready = at-vectors .before .before .before .before .before .before .pre in
-    block-ready ready (at-read .read-block .ensures .1) (at-filled .fill-block .ensures .3) (at-filled .fill-block .ensures .4)
+    marked-ready (read-ready ready (at-read .read-block .ensures .1)) (at-filled .fill-block .ensures .3) (at-filled .fill-block .ensures .4)
 
 record-length-requires : tie.Need-record-length-requires
 record-length-requires c κs =
