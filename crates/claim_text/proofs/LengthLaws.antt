@@ -3,6 +3,7 @@
 use Prim.Native.Nat.{ℕ, _≤_}
 use native.Mathlib.Omega.{arith}
 use lib.ListN.{length, length-append}
+use Rattle.faults.specs.Answers.{modelEdge}
 use Rattle.faults.specs.declared.Edge.{Edge}
 use Rattle.text.proofs.DecimalLaws.{at-most-20}
 use Rattle.shares.proofs.ShareLengths.{claimed-short, true-short}
@@ -13,7 +14,7 @@ use Rattle.claim_text.specs.Claims.{claimText, moreText, fieldText, faul
 
 pub claim-short : (k : Kind) (e : Edge) (low high : ℕ) → length (claimText k e low high) ≤ 128
 unfolding claimText
-claim-short k e low high = simp length-append (omega (arith, kind-short k, edge-short e, paths-short low high))
+claim-short k e low high = simp length-append (omega (arith, kind-short k, edge-short (modelEdge e), paths-short low high))
 
 pub more-short : (k : Kind) (count : ℕ) → length (moreText k count) ≤ 128
 unfolding moreText
@@ -27,10 +28,10 @@ field-line-short f claimed truth =
 pub order-short : (e : Edge) (number low high : ℕ) → length (orderText e number low high) ≤ 128
 unfolding orderText
 order-short e number low high =
-    simp length-append (omega (arith, edge-short e, at-most-20 number, at-most-20 low, at-most-20 high))
+    simp length-append (omega (arith, edge-short (modelEdge e), at-most-20 number, at-most-20 low, at-most-20 high))
 
 pub faults-short : (e : Edge) (claimed truth paths : ℕ) → length (faultsText e claimed truth paths) ≤ 128
 unfolding faultsText
 faults-short e claimed truth paths =
     simp length-append
-    (omega (arith, edge-short e, at-most-20 claimed, at-most-20 truth, claimed-short claimed paths, true-short truth paths))
+    (omega (arith, edge-short (modelEdge e), at-most-20 claimed, at-most-20 truth, claimed-short claimed paths, true-short truth paths))

@@ -4,17 +4,18 @@ use mathlib.Core.Bool.{Bool, true, false}
 use mathlib.Core.List.{List, _++_}
 use Prim.Native.Nat.{ℕ, _-_, min}
 use lib.Dec.{ltb}
+use Rattle.faults.specs.Answers.{modelEdge}
 use Rattle.faults.specs.declared.Edge.{Edge}
 use Rattle.text.specs.Decimal.{decimalText}
 use Rattle.text.specs.Lines.{ascii}
 use Rattle.shares.specs.Shares.{claimedShare, trueShare}
-use Rattle.claim_words.specs.ClaimWords.{edgeText, kindText, fieldName, pathsText, pluralText}
+use Rattle.claim_words.specs.ClaimWords.{edgeWord, kindText, fieldName, pathsText, pluralText}
 use Rattle.claim_words.specs.declared.Kind.{Kind}
 use Rattle.claim_words.specs.declared.Field.{Field}
 
 -- `false claim, rising, paths 2 to 3`; `detected, not robustly, rising, path 2`; `missed, falling, path 7`
 unfoldable pub claimText : Kind → Edge → ℕ → ℕ → List ℕ
-claimText k e low high = kindText k ++ ascii ", " ++ edgeText e ++ ascii ", " ++ pathsText low high
+claimText k e low high = kindText k ++ ascii ", " ++ edgeWord (modelEdge e) ++ ascii ", " ++ pathsText low high
 
 -- `and 5 more false claims`
 unfoldable pub moreText : Kind → ℕ → List ℕ
@@ -28,7 +29,7 @@ fieldText f claimed truth =
 -- `rising faults: claimed 2 (66.6 % of 3 paths), true 1 (33.3 %)`
 unfoldable pub faultsText : Edge → ℕ → ℕ → ℕ → List ℕ
 faultsText e claimed truth paths =
-    edgeText e
+    edgeWord (modelEdge e)
     ++ ascii " faults: claimed "
     ++ decimalText claimed
     ++ claimedShare claimed paths
@@ -39,7 +40,7 @@ faultsText e claimed truth paths =
 -- `rising run 5 of the report (9 to 3) is out of order`
 unfoldable pub orderText : Edge → ℕ → ℕ → ℕ → List ℕ
 orderText e number low high =
-    edgeText e
+    edgeWord (modelEdge e)
     ++ ascii " run "
     ++ decimalText number
     ++ ascii " of the report ("

@@ -7,19 +7,18 @@ use Prim.Native.Nat.{ℕ, _≤_}
 use native.Mathlib.Omega.{arith}
 use lib.Dec.{eqb}
 use lib.ListN.{length, length-append}
+use Rattle.model.specs.Path.{Edge, rising, falling}
 use Rattle.model.proofs.BoolLaws.{bool-cases}
-use Rattle.faults.specs.declared.Edge.{Edge}
-use Rattle.faults.specs.declared.Edge.the-variants as edge
 use Rattle.text.proofs.DecimalLaws.{at-most-20}
-use Rattle.claim_words.specs.ClaimWords.{edgeText, kindText, fieldName, pathsText, pluralText}
+use Rattle.claim_words.specs.ClaimWords.{edgeWord, kindText, fieldName, pathsText, pluralText}
 use Rattle.claim_words.specs.declared.Kind.{Kind}
 use Rattle.claim_words.specs.declared.Kind.the-variants as kind
 use Rattle.claim_words.specs.declared.Field.{Field}
 use Rattle.claim_words.specs.declared.Field.the-variants as field
 
-pub edge-short : (e : Edge) → length (edgeText e) ≤ 7
-edge-short edge.Rising = omega arith
-edge-short edge.Falling = omega arith
+pub edge-short : (e : Edge) → length (edgeWord e) ≤ 7
+edge-short rising = omega arith
+edge-short falling = omega arith
 
 pub kind-short : (k : Kind) → length (kindText k) ≤ 22
 kind-short kind.FalseClaim = omega arith

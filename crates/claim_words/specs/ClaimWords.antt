@@ -4,8 +4,7 @@ use mathlib.Core.Bool.{true, false}
 use mathlib.Core.List.{List, _++_}
 use Prim.Native.Nat.{ℕ}
 use lib.Dec.{eqb}
-use Rattle.faults.specs.declared.Edge.{Edge}
-use Rattle.faults.specs.declared.Edge.the-variants as edge
+use Rattle.model.specs.Path.{Edge, rising, falling}
 use Rattle.text.specs.Decimal.{decimalText}
 use Rattle.text.specs.Lines.{ascii}
 use Rattle.claim_words.specs.declared.Kind.{Kind}
@@ -13,9 +12,9 @@ use Rattle.claim_words.specs.declared.Kind.the-variants as kind
 use Rattle.claim_words.specs.declared.Field.{Field}
 use Rattle.claim_words.specs.declared.Field.the-variants as field
 
-abbrev pub edgeText : Edge → List ℕ
-edgeText edge.Rising = ascii "rising"
-edgeText edge.Falling = ascii "falling"
+abbrev pub edgeWord : Edge → List ℕ
+edgeWord rising = ascii "rising"
+edgeWord falling = ascii "falling"
 
 -- what is wrong with numbers of paths
 abbrev pub kindText : Kind → List ℕ

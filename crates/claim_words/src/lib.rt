@@ -1,7 +1,8 @@
 // The words of the lines on a refused report: each puts its text at the end of a line, promised by an equation.
 ghost use mathlib.Core.Path.{_≡_};
+ghost use Rattle.faults.specs.Answers.{modelEdge};
 ghost use Rattle.text.specs.Lines.{textOf, onLine};
-ghost use Rattle.claim_words.specs.ClaimWords.{edgeText, kindText, fieldName, pathsText, pluralText};
+ghost use Rattle.claim_words.specs.ClaimWords.{edgeWord, kindText, fieldName, pathsText, pluralText};
 use faults::Edge;
 use text::Line;
 use text::with_number;
@@ -27,7 +28,7 @@ pub enum Field {
 
 // The line with an edge at its end.
 pub fn with_edge(line: Line, edge: Edge) -> Line
-    ensures { λ r. ⌜ textOf r ≡ onLine (textOf line) (edgeText edge) ⌝ }
+    ensures { λ r. ⌜ textOf r ≡ onLine (textOf line) (edgeWord (modelEdge edge)) ⌝ }
 {
     match edge {
         Edge::Rising => with_text(line, b"rising"),

@@ -6,36 +6,18 @@ use command::is_argument;
 use command::load_argument;
 use command::read_listed_class;
 use console::NETLIST_BYTES;
-use console::empty_line;
 use console::print;
 use console::print_condition;
 use console::print_line;
-use console::with_refusal;
 use exhaust::ExhaustAnswer;
-use exhaust::exhaust;
+use exhaust_text::put_block;
 use faults::FaultNo;
 use faults::path_of;
 use libc::STDERR_FILENO;
 use libc::STDOUT_FILENO;
 use listing_text::inner::OUT_BYTES;
-use listing_text::inner::put_store;
-use model::Refusal;
-use model::STORE_WORDS;
-use model::WORK_WORDS;
-use netlist::SurveyAnswer;
-use netlist::inner::load_by_value;
 use path_text::print_path;
-use undetected::inner::LISTED;
-use undetected::inner::count_undetected;
-use undetected::inner::first_undetected;
-use undetected_text::count_line;
 use undetected_text::fault_line;
-ghost use mathlib.Core.Path.{_≡_};
-ghost use Prim.Native.Nat.{_^_, _≤_};
-ghost use lib.ListN.{length};
-ghost use Rattle.listing_text.specs.StoreText.{outBytes};
-ghost use Rattle.store_words.specs.Sound.{SoundWords};
-ghost use Rattle.exhaust_block.specs.Block.{StoreOfBlock};
 
 fn print_usage(fd: i32) {
     print(fd, b"usage: exhaust_block [CIRCUIT [CLASS]]\n");
@@ -47,21 +29,6 @@ fn print_usage(fd: i32) {
         fd,
         b"Without a class file tests are judged robustly, in class 2.\n",
     );
-}
-
-// Zeros for text, for a store and for working memory.
-fn text_bytes() -> [u8; OUT_BYTES]
-    ensures { λ r. ⌜ outBytes ≡ length r ⌝ }
-{
-    [0; OUT_BYTES]
-}
-
-fn store_words() -> [u64; STORE_WORDS] {
-    [0; STORE_WORDS]
-}
-
-fn work_words() -> [u64; WORK_WORDS] {
-    [0; WORK_WORDS]
 }
 
 // A fault, with its path in gates.
@@ -80,55 +47,22 @@ fn print_faults(netlist: &[u8], list: &[u64]) {
     }
 }
 
-// The number of the faults that a store does not hold, and the first of them.
-fn print_undetected(netlist: &[u8], store: &[u64], paths: u64)
-    requires { ⌜ SoundWords paths (now store) × (paths ≤ 2 ^ 62) ⌝ }
-{
-    print_line(STDOUT_FILENO, count_line(count_undetected(store, paths)));
-    let mut list = [0u64; LISTED];
-    let n = first_undetected(store, paths, &mut list);
-    print_faults(netlist, &list[..n]);
-}
-
-// The runs and totals of a store, then what it does not hold.
-fn print_store(netlist: &[u8], store: &[u64], paths: u64)
-    requires { ⌜ SoundWords paths (now store) × (paths ≤ 2 ^ 62) ⌝ }
-{
-    let mut out = text_bytes();
-    let n = put_store(&mut out, store);
-    print(STDOUT_FILENO, &out[..n]);
-    print_undetected(netlist, store, paths);
-}
-
-// The store that all pairs of a legal netlist left.
-fn print_block(netlist: &[u8], store: &[u64])
-    requires { ⌜ StoreOfBlock (now netlist) (now store) ⌝ }
-{
-    let loaded = load_by_value(netlist);
-    let answer = loaded.answer;
+// What tests of a class can show on a netlist: the text, then the condition of a refusal or the faults that no test detects.
+fn print_block(netlist: &[u8], class: u32) {
+    let mut out = [0u8; OUT_BYTES];
+    let shown = put_block(netlist, class, &mut out);
+    let length = shown.length;
+    print(STDOUT_FILENO, &out[..length]);
+    let answer = shown.answer;
+    let faults = shown.faults;
+    let numbers = faults.numbers;
+    let count = faults.count;
     match answer {
-        SurveyAnswer::Refused(_) => {}
-        SurveyAnswer::Legal => print_store(netlist, store, loaded.total),
-    }
-}
-
-// The line of a refusal, and its condition.
-fn refuse(why: Refusal) {
-    print_line(STDOUT_FILENO, with_refusal(empty_line(), why));
-    print_condition(STDERR_FILENO, why);
-}
-
-// What tests of a class can show on a netlist.
-fn exhaust_netlist(netlist: &[u8], class: u32) {
-    let mut store = store_words();
-    let mut work = work_words();
-    let answer = exhaust(netlist, class, &mut store, &mut work);
-    match answer {
-        ExhaustAnswer::Refused(why) => refuse(why),
+        ExhaustAnswer::Refused(why) => print_condition(STDERR_FILENO, why),
         ExhaustAnswer::Totals {
             rising: _,
             falling: _,
-        } => print_block(netlist, &store),
+        } => print_faults(netlist, &numbers[..count]),
     }
 }
 
@@ -146,6 +80,6 @@ fn main() {
     let length = circuit.bytes;
     let read = read_listed_class(2);
     if circuit.whole && read.whole {
-        exhaust_netlist(&bytes[..length], read.class);
+        print_block(&bytes[..length], read.class);
     }
 }

@@ -2,17 +2,14 @@
 -- Assumes nothing.
 use mathlib.Core.List.{List, _++_}
 use Prim.Native.Nat.{ℕ}
-use Rattle.model.specs.Path.{Edge, rising, falling, edgeOfFault, pathOfFault}
+use Rattle.model.specs.Path.{edgeOfFault, pathOfFault}
 use Rattle.text.specs.Decimal.{decimalText}
 use Rattle.text.specs.Lines.{ascii}
+use Rattle.claim_words.specs.ClaimWords.{edgeWord}
 
 -- `undetected 3`
 unfoldable pub countText : ℕ → List ℕ
 countText n = ascii "undetected " ++ decimalText n
-
-abbrev pub edgeWord : Edge → List ℕ
-edgeWord rising = ascii "rising"
-edgeWord falling = ascii "falling"
 
 -- `fault 3: rising, path 2`
 unfoldable pub faultText : ℕ → List ℕ

@@ -2,7 +2,9 @@
 -- Assumes nothing.
 use borrow.Author.Needs.{needs}
 use mathlib.Core.Path.{ap, sym}
-use Rattle.claim_words.specs.ClaimWords.{edgeText}
+use Rattle.faults.specs.Answers.{modelEdge}
+use Rattle.faults.specs.declared.Edge.{Edge}
+use Rattle.claim_words.specs.ClaimWords.{edgeWord}
 use Rattle.text.proofs.LineLaws.{as-part}
 use Rattle.claim_words.proofs.with_edge.Statement.{statement}
 use Rattle.claim_words.proofs.with_edge.Tie as tie
@@ -26,10 +28,10 @@ with-text-requires-2 : tie.Need-with-text-requires-2
 with-text-requires-2 c κs = search needs
 
 returns : tie.Need-returns
-returns c = as-part _ _ _ _ (c .with-text .ensures) (sym (ap edgeText (c .before .before .enum-told .given .1)))
+returns c = as-part _ _ _ _ (c .with-text .ensures) (sym (ap (λ (d : Edge). edgeWord (modelEdge d)) (c .before .before .enum-told .given .1)))
 
 returns-2 : tie.Need-returns-2
-returns-2 c = as-part _ _ _ _ (c .with-text2 .ensures) (sym (ap edgeText (c .before .before .enum-told2 .given .1)))
+returns-2 c = as-part _ _ _ _ (c .with-text2 .ensures) (sym (ap (λ (d : Edge). edgeWord (modelEdge d)) (c .before .before .enum-told2 .given .1)))
 
 pub with-edge-spec : {M : Type 1} → statement M
 with-edge-spec =

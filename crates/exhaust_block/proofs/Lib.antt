@@ -1,2 +1,0 @@
--- What the program's functions need of each other.
-pub mod BlockCases

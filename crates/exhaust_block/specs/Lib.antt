@@ -1,2 +1,0 @@
--- The store that the program prints.
-pub mod Block

@@ -1,0 +1,3 @@
+-- What all pairs of a netlist show, as text; examples.
+pub mod BlockText
+pub mod BlockExamples
