@@ -6,24 +6,18 @@ ghost use mathlib.Core.Path.{_≡_};
 ghost use lib.ListN.{length};
 ghost use Rattle.tree_words.specs.TreeLayout.{treeWords};
 ghost use Rattle.question_walk.specs.InputWalk.{pieceBytes};
-use command::close_file;
-use command::file_name;
 use command::is_argument;
 use command::load_argument;
-use command::open_file;
 use command::read_class;
 use console::NETLIST_BYTES;
 use console::print;
 use libc::STDERR_FILENO;
 use libc::STDOUT_FILENO;
-use model::REPORT_BYTES;
 use model::STORE_WORDS;
-use model::WORK_WORDS;
+use named_tests::print_refused;
+use named_tests::store_of_tests;
 use question_walk::inner::PIECE_BYTES;
 use question_walk::inner::answer_input;
-use refused_tests::print_refused;
-use report::WriteAnswer;
-use test_file::report_stream;
 use tree_filling::FillAnswer;
 use tree_filling::fill_trees;
 use tree_words::inner::TREE_WORDS;
@@ -66,28 +60,9 @@ fn answer_store(netlist: &[u8], store: &[u64]) {
 
 // The same about the faults that the test file detects, in a class, that the second argument names.
 fn answer_tests(netlist: &[u8], class: u32) {
-    let mut name = io::buffer();
-    let n = file_name(2, b"tests.tp", &mut name);
-    let mut report = [0u8; REPORT_BYTES];
-    let mut space = io::large_buffer();
     let mut store = [0u64; STORE_WORDS];
-    let mut work = [0u64; WORK_WORDS];
-    let opened = open_file(&name[..n]);
-    let reported = report_stream(
-        opened.fd,
-        netlist,
-        class,
-        &mut report,
-        &mut space,
-        &mut store,
-        &mut work,
-    );
-    if close_file(&name[..n], opened, reported.whole) {
-        let answer = reported.answer;
-        match answer {
-            WriteAnswer::Refused(why) => print_refused(why, reported.taken),
-            WriteAnswer::Written(_) => answer_store(netlist, &store),
-        }
+    if store_of_tests(2, netlist, class, &mut store) {
+        answer_store(netlist, &store);
     }
 }
 

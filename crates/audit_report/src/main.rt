@@ -30,11 +30,11 @@ use model::Refusal;
 use model::STORE_WORDS;
 use model::WORK_WORDS;
 use model::known_class;
+use named_tests::report_file;
 use report_bytes::layout::HEAD_BYTES;
 use report_runs::inner::head_of;
 use test_file::Judged;
 use test_file::audit_stream;
-use test_file::report_stream;
 use verdict::class_line;
 use verdict::is_of_record;
 use verdict::verdict_line;
@@ -173,21 +173,9 @@ fn needs_plain(answer: AuditAnswer, class: u32) -> bool {
 fn plain_report(name: &[u8], bytes: u64, netlist: &[u8], plain: &mut [u8]) -> usize
     ensures { λ r. ⌜ Counts r (now (plain .exit)) ⌝ }
 {
-    let mut space = io::large_buffer();
     let mut store = [0u64; STORE_WORDS];
-    let mut work = [0u64; WORK_WORDS];
-    let opened = open_file(name);
-    let reported = report_stream(
-        opened.fd,
-        netlist,
-        NON_ROBUST,
-        plain,
-        &mut space,
-        &mut store,
-        &mut work,
-    );
-    let whole = close_file(name, opened, reported.whole);
-    if !whole {
+    let reported = report_file(name, netlist, NON_ROBUST, plain, &mut store);
+    if !reported.whole {
         return 0;
     }
     if reported.bytes != bytes {

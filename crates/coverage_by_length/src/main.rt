@@ -3,11 +3,8 @@
 // empty, a missing class file as class 1. Where the netlist, the class, the file or a record is refused it prints nothing, and says why on standard
 // error; so where a file can't be read whole. A circuit with a path to an output of more than 63 gates is refused on standard output.
 ghost use Prim.Native.Nat.{_≤_};
-use command::close_file;
-use command::file_name;
 use command::is_argument;
 use command::load_argument;
-use command::open_file;
 use command::read_class;
 use console::NETLIST_BYTES;
 use console::empty_line;
@@ -22,13 +19,9 @@ use lengths::LengthsAnswer;
 use lengths::coverage_by_length;
 use libc::STDERR_FILENO;
 use libc::STDOUT_FILENO;
-use model::REPORT_BYTES;
 use model::Refusal;
 use model::STORE_WORDS;
-use model::WORK_WORDS;
-use refused_tests::print_refused;
-use report::WriteAnswer;
-use test_file::report_stream;
+use named_tests::store_of_tests;
 
 fn print_usage(fd: i32) {
     print(
@@ -76,28 +69,9 @@ fn print_coverage(netlist: &[u8], store: &[u64], picture: bool) {
 
 // The same of the faults that the test file detects, in a class, that an argument names.
 fn cover_tests(netlist: &[u8], class: u32, place: usize, picture: bool) {
-    let mut name = io::buffer();
-    let n = file_name(place, b"tests.tp", &mut name);
-    let mut report = [0u8; REPORT_BYTES];
-    let mut space = io::large_buffer();
     let mut store = [0u64; STORE_WORDS];
-    let mut work = [0u64; WORK_WORDS];
-    let opened = open_file(&name[..n]);
-    let reported = report_stream(
-        opened.fd,
-        netlist,
-        class,
-        &mut report,
-        &mut space,
-        &mut store,
-        &mut work,
-    );
-    if close_file(&name[..n], opened, reported.whole) {
-        let answer = reported.answer;
-        match answer {
-            WriteAnswer::Refused(why) => print_refused(why, reported.taken),
-            WriteAnswer::Written(_) => print_coverage(netlist, &store, picture),
-        }
+    if store_of_tests(place, netlist, class, &mut store) {
+        print_coverage(netlist, &store, picture);
     }
 }
 

@@ -2,5 +2,5 @@
 pub mod buffers;
 pub mod copies;
 pub mod memory;
-mod names;
+pub mod names;
 pub mod pages;

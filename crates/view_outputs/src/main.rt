@@ -2,12 +2,10 @@
 // `view_outputs [CIRCUIT [TESTS [CLASS [PLACES]]]]`, without names the files of the current folder; a missing file counts as empty, a missing class file
 // as class 1. The places of the outputs are decimal, one a line. Where a line is none, or the netlist, the class, the file or a record is refused, it
 // prints nothing, and says why on standard error; so where a file can't be read whole. A list of places that is none is refused on standard output.
-use command::close_file;
 use command::file_name;
 use command::is_argument;
 use command::load_argument;
 use command::load_file;
-use command::open_file;
 use command::read_class;
 use console::NETLIST_BYTES;
 use console::empty_line;
@@ -19,15 +17,11 @@ use console::with_text;
 use libc::STDERR_FILENO;
 use libc::STDOUT_FILENO;
 use listing_text::inner::OUT_BYTES;
-use model::REPORT_BYTES;
 use model::Refusal;
 use model::STORE_WORDS;
-use model::WORK_WORDS;
+use named_tests::store_of_tests;
 use place_lines::PlacesAnswer;
 use place_lines::read_places;
-use refused_tests::print_refused;
-use report::WriteAnswer;
-use test_file::report_stream;
 use view_text::put_view;
 use viewer::ViewAnswer;
 
@@ -68,28 +62,9 @@ fn print_view(netlist: &[u8], store: &[u64], places: &[u16]) {
 
 // The same of what the test file that the second argument names leaves, in a class.
 fn view_tests(netlist: &[u8], class: u32, places: &[u16]) {
-    let mut name = io::buffer();
-    let n = file_name(2, b"tests.tp", &mut name);
-    let mut report = [0u8; REPORT_BYTES];
-    let mut space = io::large_buffer();
     let mut store = [0u64; STORE_WORDS];
-    let mut work = [0u64; WORK_WORDS];
-    let opened = open_file(&name[..n]);
-    let reported = report_stream(
-        opened.fd,
-        netlist,
-        class,
-        &mut report,
-        &mut space,
-        &mut store,
-        &mut work,
-    );
-    if close_file(&name[..n], opened, reported.whole) {
-        let answer = reported.answer;
-        match answer {
-            WriteAnswer::Refused(why) => print_refused(why, reported.taken),
-            WriteAnswer::Written(_) => print_view(netlist, &store, places),
-        }
+    if store_of_tests(2, netlist, class, &mut store) {
+        print_view(netlist, &store, places);
     }
 }
 

@@ -2,11 +2,8 @@
 // those of the current folder; a missing file counts as empty, a missing class file as class 1. Where the netlist, the class, the file or a record is
 // refused it writes no report, and says why on standard error;
 // so where a file can't be read whole.
-use command::close_file;
-use command::file_name;
 use command::is_argument;
 use command::load_argument;
-use command::open_file;
 use command::read_class;
 use console::NETLIST_BYTES;
 use console::print;
@@ -14,11 +11,7 @@ use libc::STDERR_FILENO;
 use libc::STDOUT_FILENO;
 use model::REPORT_BYTES;
 use model::STORE_WORDS;
-use model::WORK_WORDS;
-use refused_tests::print_refused;
-use report::WriteAnswer;
-use test_file::Reported;
-use test_file::report_stream;
+use named_tests::report_of_tests;
 
 fn print_usage(fd: i32) {
     print(fd, b"usage: write_report [CIRCUIT [TESTS [CLASS]]]\n");
@@ -28,37 +21,12 @@ fn print_usage(fd: i32) {
     );
 }
 
-// Writes the report, or the refusal.
-fn print_reported(reported: Reported, report: &[u8]) {
-    let answer = reported.answer;
-    match answer {
-        WriteAnswer::Refused(why) => print_refused(why, reported.taken),
-        WriteAnswer::Written(_) => print(STDOUT_FILENO, report),
-    }
-}
-
 // The report, in a class, of the test file that the second argument names.
-fn report_tests(netlist: &[u8], class: u32) {
-    let mut name = io::buffer();
-    let n = file_name(2, b"tests.tp", &mut name);
-    let mut bytes = [0u8; REPORT_BYTES];
-    let mut space = io::large_buffer();
+fn print_report(netlist: &[u8], class: u32) {
+    let mut report = [0u8; REPORT_BYTES];
     let mut store = [0u64; STORE_WORDS];
-    let mut work = [0u64; WORK_WORDS];
-    let opened = open_file(&name[..n]);
-    let reported = report_stream(
-        opened.fd,
-        netlist,
-        class,
-        &mut bytes,
-        &mut space,
-        &mut store,
-        &mut work,
-    );
-    let length = reported.length;
-    if close_file(&name[..n], opened, reported.whole) {
-        print_reported(reported, &bytes[..length]);
-    }
+    let length = report_of_tests(2, netlist, class, &mut report, &mut store);
+    print(STDOUT_FILENO, &report[..length]);
 }
 
 fn main() {
@@ -75,6 +43,6 @@ fn main() {
     let length = circuit.bytes;
     let read = read_class(3);
     if circuit.whole && read.whole {
-        report_tests(&bytes[..length], read.class);
+        print_report(&bytes[..length], read.class);
     }
 }

@@ -4,10 +4,6 @@ pub(crate) const SURVEY: u64 = 0x737572766579;
 
 pub(crate) const COUNTS: u64 = 0x636f756e7473;
 
-pub(crate) const TOTALS: u64 = 0x746f74616c73;
-
-pub(crate) const HOLDS: u64 = 0x686f6c6473;
-
 pub(crate) const NUMBER: u64 = 0x6e756d626572;
 
 pub(crate) const RISING: u64 = 0x726973696e67;

@@ -4,8 +4,6 @@ pub(crate) const TEST: u64 = 0x74657374;
 
 pub(crate) const FIRST: u64 = 0x6669727374;
 
-pub(crate) const EMPTY: u64 = 0x656d707479;
-
 pub(crate) const AUDIT: u64 = 0x6175646974;
 
 pub(crate) const CLASS: u64 = 0x636c617373;

@@ -1,9 +1,5 @@
 // The calls' words as numbers: the letters of a word, two hexadecimal digits each, as `script_lines` gives them.
 
-pub(crate) const TOTALS: u64 = 0x746f74616c73;
-
-pub(crate) const HOLDS: u64 = 0x686f6c6473;
-
 pub(crate) const FIND: u64 = 0x66696e64;
 
 pub(crate) const WRITE: u64 = 0x7772697465;

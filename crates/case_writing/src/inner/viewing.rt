@@ -1,11 +1,11 @@
 // The calls of a viewer, by their verbs: his places come out of cells, the second store lies in them.
-use crate::inner::names::HOLDS;
 use crate::inner::names::RUNS;
-use crate::inner::names::TOTALS;
 use crate::inner::names::VIEWER;
 use faults::FaultNo;
 use script::inner::buffers::path_buffer;
 use script::inner::copies::load_path;
+use script::inner::names::HOLDS;
+use script::inner::names::TOTALS;
 use script::inner::pages::Lengths;
 use script::inner::pages::PLACES_PLACE;
 use script::inner::pages::PLACES_START;

@@ -1,4 +1,5 @@
-// The words of a script as numbers: the letters of a word, two hexadecimal digits each, as `script_lines` gives them.
+// The words of a script as numbers: the letters of a word, two hexadecimal digits each, as `script_lines` gives them. Those that other crates know, too,
+// are public.
 
 // Memory.
 pub(crate) const NETLIST: u64 = 0x6e65746c697374;
@@ -13,7 +14,7 @@ pub(crate) const WORK: u64 = 0x776f726b;
 
 pub(crate) const PATH: u64 = 0x70617468;
 
-pub(crate) const TREE: u64 = 0x74726565;
+pub const TREE: u64 = 0x74726565;
 
 pub(crate) const VIEW: u64 = 0x76696577;
 
@@ -26,3 +27,10 @@ pub(crate) const CHAIN: u64 = 0x636861696e;
 pub(crate) const KEEP: u64 = 0x6b656570;
 
 pub(crate) const KEPT: u64 = 0x6b657074;
+
+// Verbs of calls that more than one crate has: on a store and on a tree, on a store and of a viewer.
+pub const EMPTY: u64 = 0x656d707479;
+
+pub const HOLDS: u64 = 0x686f6c6473;
+
+pub const TOTALS: u64 = 0x746f74616c73;

@@ -2,13 +2,13 @@
 use crate::inner::calls;
 use crate::inner::names::DELETE;
 use crate::inner::names::EACH;
-use crate::inner::names::EMPTY;
-use crate::inner::names::HOLDS;
 use crate::inner::names::INSERT;
 use crate::inner::names::SEARCH;
 use crate::inner::names::TOTAL;
-use crate::inner::names::TREE;
 use crate::inner::names::TURNS;
+use script::inner::names::EMPTY;
+use script::inner::names::HOLDS;
+use script::inner::names::TREE;
 use script::inner::pages::Lengths;
 use script::inner::pages::TREE_PLACE;
 use script::inner::pages::TREE_START;

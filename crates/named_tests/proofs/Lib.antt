@@ -1,0 +1,2 @@
+-- The cases of the calls.
+pub mod NamedTestCases

@@ -1,0 +1,2 @@
+-- What the calls promise of the test file that an argument names.
+pub mod NamedTests

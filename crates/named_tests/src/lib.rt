@@ -1,0 +1,95 @@
+// The tests of the file that an argument names: their report, and the store that they leave. Where there is no report, standard error says why: the file
+// can't be read whole, or the netlist, the class, the file or a record is refused.
+mod refusing;
+
+ghost use mathlib.Core.Path.{_≡_};
+ghost use lib.ListN.{length};
+ghost use Rattle.io.specs.Counts.{Counts};
+ghost use Rattle.model.specs.Calls.{workWords};
+ghost use Rattle.named_tests.specs.NamedTests.{FileReported, TestsReported, TestsStored};
+use command::close_file;
+use command::file_name;
+use command::open_file;
+use model::REPORT_BYTES;
+use model::WORK_WORDS;
+pub use refusing::print_refused;
+use report::WriteAnswer;
+use test_file::Reported;
+use test_file::report_stream;
+
+// Zeros for working memory: a caller's proof sees the length alone.
+fn no_work() -> [u64; WORK_WORDS]
+    ensures { λ r. ⌜ workWords ≡ length r ⌝ }
+{
+    [0; WORK_WORDS]
+}
+
+// The report, in a class, of the test file of a name. `whole` says whether the program may judge by it: the file was read whole, or is missing and counts
+// as empty.
+pub fn report_file(
+    name: &[u8],
+    netlist: &[u8],
+    test_class: u32,
+    truth: &mut [u8],
+    store: &mut [u64],
+) -> Reported
+    ensures { λ r. ⌜ FileReported r (now (netlist .entry)) «test_class» (now (truth .entry)) (now (truth .exit)) (now (store .entry)) (now (store .exit))
+        × Counts (r .length) (now (truth .exit)) ⌝ }
+{
+    let mut space = io::large_buffer();
+    let mut work = no_work();
+    let opened = open_file(name);
+    let reported = report_stream(
+        opened.fd,
+        netlist,
+        test_class,
+        truth,
+        &mut space,
+        store,
+        &mut work,
+    );
+    let answer = reported.answer;
+    Reported {
+        answer,
+        length: reported.length,
+        bytes: reported.bytes,
+        taken: reported.taken,
+        whole: close_file(name, opened, reported.whole),
+    }
+}
+
+// The report, in a class, of the test file that an argument names, tests.tp where there is no such argument: its length, with its bytes at the start of
+// `truth`; 0 where there is no report.
+pub fn report_of_tests(
+    place: usize,
+    netlist: &[u8],
+    test_class: u32,
+    truth: &mut [u8],
+    store: &mut [u64],
+) -> usize
+    ensures { λ r. ⌜ TestsReported r (now (netlist .entry)) «test_class» (now (truth .entry)) (now (truth .exit)) (now (store .entry)) (now (store .exit))
+        × Counts r (now (truth .exit)) ⌝ }
+{
+    let mut name = io::buffer();
+    let n = file_name(place, b"tests.tp", &mut name);
+    let reported = report_file(&name[..n], netlist, test_class, truth, store);
+    if !reported.whole {
+        return 0;
+    }
+    let answer = reported.answer;
+    match answer {
+        WriteAnswer::Refused(why) => {
+            print_refused(why, reported.taken);
+            0
+        }
+        WriteAnswer::Written(_) => reported.length,
+    }
+}
+
+// The store that the same file leaves, and whether its tests were all taken.
+pub fn store_of_tests(place: usize, netlist: &[u8], test_class: u32, store: &mut [u64]) -> bool
+    ensures { λ r. ⌜ TestsStored r (now (netlist .entry)) «test_class» (now (store .entry)) (now (store .exit)) ⌝ }
+{
+    let mut report = [0u8; REPORT_BYTES];
+    0 < report_of_tests(place, netlist, test_class, &mut report, store)
+}
