@@ -7,7 +7,7 @@ use native.Mathlib.Nat.{suc-add, zero-add}
 use native.Mathlib.Omega.{arith}
 use borrow.Author.Needs.{needs}
 use borrow.Author.Tests.{eq-eqb, ne-eqb}
-use lib.ListN.{length, getD, set}
+use lib.ListN.{length, set}
 use Rattle.model.specs.Base.{numbersFrom, value, checks}
 use Rattle.model.specs.Netlist.{Netlist}
 use Rattle.model.specs.Read.{testRules}
@@ -78,8 +78,8 @@ module _ {first count : ℕ} {vectors : List ℕ} {pairs second : ℕ} (most : c
         room = both-room vectors pairs first second (g .room) l;
       }
 
-pub held-end : (inputs : ℕ) {first count : ℕ} {vectors : List ℕ} {pairs second : ℕ} → (count ≡ 2 ^ inputs) × (count ≤ 64) → HeldSoFar first count vectors pairs second → count ≤ second
-    → (pairs ≤ 64) × (length vectors ≡ 128) × (heldPairs vectors pairs ≡ pairsWith first 0 (2 ^ inputs))
+pub held-end : (inputs : ℕ) {first count : ℕ} {vectors : List ℕ} {pairs second : ℕ} → (count ≡ 2 ^ inputs) × (count ≤ 64)
+    → HeldSoFar first count vectors pairs second → count ≤ second → (pairs ≤ 64) × (length vectors ≡ 128) × (heldPairs vectors pairs ≡ pairsWith first 0 (2 ^ inputs))
 held-end inputs {first} e g h =
     (omega (arith, e .1, g .few, g .within), g .room, g .held ∙ ap (pairsWith first 0) (omega (arith, e .0, g .within)))
 

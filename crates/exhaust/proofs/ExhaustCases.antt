@@ -3,7 +3,7 @@
 use mathlib.Core.Path.{_≡_, refl, ap, sym, _∙_, subst}
 use mathlib.Core.Bool.{Bool, true, false, not}
 use mathlib.Core.List.{List, [], _∷_}
-use Prim.Native.Nat.{ℕ, _+_, _^_, _≤_, _<_}
+use Prim.Native.Nat.{ℕ, _^_, _≤_, _<_}
 use native.Mathlib.Omega.{arith}
 use borrow.Author.Needs.{needs}
 use borrow.Author.Tests.{le-leb, lt-leb, eq-eqb, ne-eqb, not-true, not-false}
@@ -11,19 +11,17 @@ use lib.Dec.{T, le→leb, T-not}
 use lib.ListN.{length, replicate}
 use Rattle.model.specs.Base.{Answer, refused, value, _>>=_, checks}
 use Rattle.model.specs.Netlist.{Netlist}
-use Rattle.model.specs.Read.{within, classOf, readNetlist}
+use Rattle.model.specs.Read.{within, classOf}
 use Rattle.model.specs.Refusals.{refusalNumber}
-use Rattle.model.specs.Store.{ByEdge, byEdge, storeWords, storeRuns, emptyStore}
-use Rattle.model.specs.Runs.{size}
+use Rattle.model.specs.Store.{ByEdge, storeWords, emptyStore}
 use Rattle.model.specs.Calls.{workWords, storeRule, workRule, beforeTest}
 use Rattle.model.specs.Report.{testAll}
 use Rattle.model.specs.declared.Refusal.{Refusal}
 use Rattle.model.specs.declared.Refusal.the-variants as why
 use Rattle.model.proofs.AnswerLaws.{not-refused, →checks}
-use Rattle.model.proofs.ReadLaws.{limits}
 use Rattle.model.proofs.RefusalLaws.{refused-inj}
 use Rattle.netlist.specs.Answers.{LoadedTrue}
-use Rattle.netlist.specs.Tables.{CircuitTables, SomeCircuit}
+use Rattle.netlist.specs.Tables.{SomeTables}
 use Rattle.netlist.specs.declared.SurveyAnswer.the-variants as survey
 use Rattle.netlist.specs.declared.inner.Loaded.{Loaded}
 use Rattle.netlist.proofs.LoadLaws.{loaded-legal, loaded-refused}
@@ -31,18 +29,16 @@ use Rattle.store_words.specs.Sound.{SoundWords}
 use Rattle.store_words.specs.WordAnswers.{totalsIn, totalsBoth}
 use Rattle.store_words.specs.declared.inner.StoreTotals.{StoreTotals}
 use Rattle.block.specs.Layout.{listsSize}
-use Rattle.block.specs.Table.{CircuitTable}
-use Rattle.block_marks.specs.Marks.{PlaceTable}
-use Rattle.block_marks.specs.PlaceParts.{SomePlaces}
 use Rattle.coverage.specs.Stage.{MemoryReady, StageReady}
 use Rattle.coverage.specs.declared.inner.StageAnswer.{StageAnswer}
 use Rattle.coverage.specs.declared.inner.StageAnswer.the-variants as stage
 use Rattle.file_block.specs.RecordsTaken.{leftStore}
 use Rattle.file_block.proofs.MemoryLaws.{of-netlist, emptied, empty-memory, all-memory, memory-sound}
-use Rattle.file_block.specs.FileBlocks.{BlocksReady}
+use Rattle.file_block.specs.FileBlocks.{TablesMade, BlocksReady}
+use Rattle.file_block.specs.declared.inner.FileNumbers.{FileNumbers}
 use Rattle.file_records.specs.FileRecords.{Ready}
 use Rattle.file_records.proofs.ReadyLaws.{ready-records}
-use Rattle.file_records.proofs.FileTableCases.{numbers, tables-of, stage-circuit, stage-places, stage-blocks}
+use Rattle.file_records.proofs.FileTableCases.{stage-tables, stage-blocks}
 use Rattle.all_pairs.specs.AllPairs.{allPairs}
 use Rattle.all_pairs.specs.Exhaust.{fewInputs, pairsOn, exhaustCall, exhaustAnswer, exhaustAfter, exhaustStore, ofWork, PairsWork}
 use Rattle.all_pairs.proofs.OnTheWayLaws.{on-the-way, before-found, emptied-work}
@@ -62,55 +58,50 @@ module _ (netlist : List ℕ) (loaded : Loaded) (ws work : List ℕ) (ready : Re
   abbrev stageReady : StageReady netlist (loaded .positions) (loaded .counts) (loaded .shape) ws work
   stageReady = ready-records netlist loaded ws work ready
 
-  pub pairs-circuit : SomeCircuit netlist (loaded .positions) (loaded .shape)
-  pairs-circuit = stage-circuit stageReady
+  pub pairs-tables : SomeTables netlist (loaded .positions) (loaded .counts) (loaded .shape)
+  pairs-tables = stage-tables stageReady
 
-  module _ {table : List ℕ} (filled : (N : Netlist) (cs : List ℕ) → CircuitTables N netlist (loaded .positions) cs (loaded .shape)
-      → CircuitTable N table (loaded .shape .inputs) (loaded .shape .nets)) where
-    pub pairs-places : SomePlaces netlist (loaded .counts) (loaded .shape) table
-    pairs-places = stage-places stageReady filled
+  module _ {numbers : FileNumbers} {class : ℕ} {table places : List ℕ}
+      (made : TablesMade numbers netlist (loaded .positions) (loaded .counts) (loaded .shape) class table places) where
+    abbrev pairs : Netlist → Answer (List ℕ)
+    pairs N = testAll N (classOf class) (allPairs (N .inputs)) emptyStore
 
-    module _ {places : List ℕ} (placed : (N : Netlist) (ps : List ℕ) → CircuitTables N netlist ps (loaded .counts) (loaded .shape)
-        → CircuitTable N table (loaded .shape .inputs) (loaded .shape .nets) → PlaceTable N places) (class : ℕ) where
-      abbrev pairs : Netlist → Answer (List ℕ)
-      pairs N = testAll N (classOf class) (allPairs (N .inputs)) emptyStore
+    pub pairs-blocks : {ups downs : List ℕ} → length ups ≡ listsSize → length downs ≡ listsSize
+        → BlocksReady table places numbers ups downs ws work × (numbers .inputs ≤ 6)
+    pairs-blocks u d = (stage-blocks stageReady made u d, subst (λ (k : FileNumbers). k .inputs ≤ 6) (sym (made .numbersAre)) (start .1))
 
-      pub pairs-blocks : {ups downs : List ℕ} → length ups ≡ listsSize → length downs ≡ listsSize
-          → BlocksReady table places (numbers stageReady filled placed class) ups downs ws work
-      pairs-blocks u d = stage-blocks stageReady filled placed class u d
+    module _ {t : StageAnswer} {ws′ work′ : List ℕ} (x : AllTaken t table places numbers ws ws′ work work′) where
+      whole : PairsTrue t C (classOf class) emptyStore ws′
+      whole =
+          subst (λ (v : List ℕ). PairsTrue t C (classOf class) v ws′) (start .0)
+          (subst (λ (k : FileNumbers). PairsTrue t C (classOf (k .class)) ws ws′) (made .numbersAre) (x .ofCircuit C (made .tables C (ready .tables)) (ready .memory)))
 
-      module _ {t : StageAnswer} {ws′ work′ : List ℕ} (x : AllTaken t table places (numbers stageReady filled placed class) ws ws′ work work′) where
-        whole : PairsTrue t C (classOf class) emptyStore ws′
-        whole =
-            subst (λ (v : List ℕ). PairsTrue t C (classOf class) v ws′) (start .0)
-            (x .ofCircuit C (tables-of stageReady filled placed class C (ready .tables)) (ready .memory))
+      -- from the netlist at hand
+      applied : (a : ExhaustAnswer) → exhaustOf a ≡ summed (pairs C) → PairsApplied a netlist class ws′ work work′
+      applied a e = record {
+        answer = of-netlist netlist (ready .tables .legal) (λ N. exhaustOf a ≡ summed (pairs N)) e;
+        store = of-netlist netlist (ready .tables .legal) (λ N. ws′ ≡ leftStore (pairs N)) (whole .store);
+        sameLength = x .sameLength;
+        pastWork = x .pastWork;
+      }
 
-        -- from the netlist at hand
-        applied : (a : ExhaustAnswer) → exhaustOf a ≡ summed (pairs C) → PairsApplied a netlist class ws′ work work′
-        applied a e = record {
-          answer = of-netlist netlist (ready .tables .legal) (λ N. exhaustOf a ≡ summed (pairs N)) e;
-          store = of-netlist netlist (ready .tables .legal) (λ N. ws′ ≡ leftStore (pairs N)) (whole .store);
-          sameLength = x .sameLength;
-          pastWork = x .pastWork;
-        }
+      pub pairs-refused : (w : Refusal) → t ≡ stage.Refused w → PairsApplied (exhaust.Refused w) netlist class ws′ work work′
+      pairs-refused w q =
+          let e : pairs C ≡ refused (refusalNumber w) = sym (rw q at (whole .answer)) in
+          applied (exhaust.Refused w) (rw e refl)
 
-        pub pairs-refused : (w : Refusal) → t ≡ stage.Refused w → PairsApplied (exhaust.Refused w) netlist class ws′ work work′
-        pairs-refused w q =
-            let e : pairs C ≡ refused (refusalNumber w) = sym (rw q at (whole .answer)) in
-            applied (exhaust.Refused w) (rw e refl)
+      module _ (q : t ≡ stage.Taken) where
+        left-is : pairs C ≡ value ws′
+        left-is = sym (rw q at (whole .answer))
 
-        module _ (q : t ≡ stage.Taken) where
-          left-is : pairs C ≡ value ws′
-          left-is = sym (rw q at (whole .answer))
+        pub pairs-sound : SoundWords (2 ^ 62) ws′
+        pairs-sound =
+            memory-sound netlist C (ready .tables .legal) ws′ work
+            (all-memory C (classOf class) ws work work (ready .memory) refl (allPairs (C .inputs)) ws′
+            (ap (testAll C (classOf class) (allPairs (C .inputs))) (start .0) ∙ left-is))
 
-          pub pairs-sound : SoundWords (2 ^ 62) ws′
-          pairs-sound =
-              memory-sound netlist C (ready .tables .legal) ws′ work
-              (all-memory C (classOf class) ws work work (ready .memory) refl (allPairs (C .inputs)) ws′
-              (ap (testAll C (classOf class) (allPairs (C .inputs))) (start .0) ∙ left-is))
-
-          pub pairs-taken : (h : StoreTotals) → totalsIn h ≡ totalsBoth ws′ → PairsApplied (exhaust.Totals (h .rising) (h .falling)) netlist class ws′ work work′
-          pairs-taken h s = applied (exhaust.Totals (h .rising) (h .falling)) (ap value s ∙ rw left-is refl)
+        pub pairs-taken : (h : StoreTotals) → totalsIn h ≡ totalsBoth ws′ → PairsApplied (exhaust.Totals (h .rising) (h .falling)) netlist class ws′ work work′
+        pairs-taken h s = applied (exhaust.Totals (h .rising) (h .falling)) (ap value s ∙ rw left-is refl)
 
 module _ (netlist : List ℕ) (class : ℕ) (ws work : List ℕ) where
   -- working memory that the call did not touch

@@ -1,7 +1,7 @@
 -- All pairs on the tables of a netlist: those of one V1 as a block of tests, then one V1 after the other.
 -- Assumes nothing.
 use mathlib.Core.Path.{_≡_, refl, ap, sym, _∙_, subst}
-use mathlib.Core.List.{List, []}
+use mathlib.Core.List.{List}
 use Prim.Native.Nat.{ℕ, suc, _+_, _-_, _^_, _≤_, _<_}
 use native.Mathlib.Omega.{arith}
 use borrow.Author.Needs.{needs}
@@ -32,7 +32,7 @@ use Rattle.all_pairs.specs.AllPairs.{pairsWith, pairsFrom, allPairs}
 use Rattle.all_pairs.specs.HeldPairs.{heldPair, heldPairs}
 use Rattle.all_pairs.proofs.PairVectorLaws.{first-bit, second-bit}
 use Rattle.all_pairs.proofs.HeldPairLaws.{held-legal}
-use Rattle.exhaust.specs.PairsTaken.{WithTaken, PairsTrue, AllTaken}
+use Rattle.exhaust.specs.PairsTaken.{WithTaken, AllTaken}
 
 module _ {table places : List ℕ} {numbers : FileNumbers} {ups downs ws work : List ℕ} (s : BlocksReady table places numbers ups downs ws work)
     (few : numbers .inputs ≤ 6) where

@@ -10,11 +10,9 @@ ghost use Rattle.exhaust.specs.Answers.{ExhaustTrue, PairsApplied};
 use all_pairs::inner::MOST_INPUTS;
 use block::inner::layout::GATE_TABLE_SIZE;
 use block::inner::layout::LISTS_SIZE;
-use block::inner::table::fill_table;
 use block_marks::inner::layout::PLACE_TABLE_SIZE;
-use block_marks::inner::places::fill_places;
 use coverage::inner::StageAnswer;
-use file_block::inner::FileNumbers;
+use file_block::inner::fill_tables;
 use model::Refusal;
 use model::STORE_WORDS;
 use model::WORK_WORDS;
@@ -82,15 +80,16 @@ fn apply_pairs(
     let counts = loaded.counts;
     let shape = loaded.shape;
     let mut table = [0u16; GATE_TABLE_SIZE];
-    fill_table(netlist, &positions, shape, &mut table);
     let mut places = [0u64; PLACE_TABLE_SIZE];
-    fill_places(netlist, &counts, shape, &table, &mut places);
-    let numbers = FileNumbers {
-        inputs: shape.inputs,
-        nets: shape.nets,
-        outputs: shape.outputs,
+    let numbers = fill_tables(
+        netlist,
+        &positions,
+        &counts,
+        shape,
         class,
-    };
+        &mut table,
+        &mut places,
+    );
     let mut ups = [0u32; LISTS_SIZE];
     let mut downs = [0u32; LISTS_SIZE];
     let answer = apply_all_pairs(&table, &places, numbers, &mut ups, &mut downs, store, work);

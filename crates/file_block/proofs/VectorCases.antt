@@ -2,7 +2,7 @@
 -- Assumes nothing.
 use mathlib.Core.Path.{_≡_, _∙_}
 use mathlib.Core.List.{List}
-use Prim.Native.Nat.{ℕ, _≤_, _<_}
+use Prim.Native.Nat.{ℕ, _<_}
 use native.Mathlib.Omega.{arith}
 use lib.ListN.{length}
 use Rattle.model.specs.Netlist.{Netlist}
@@ -19,7 +19,6 @@ use Rattle.block_marks.specs.Layout.{outAt}
 use Rattle.block_marks.specs.declared.inner.Batch.{Batch}
 use Rattle.block_stage.specs.BlockStage.{BlockAt, BlockReady, BlockTaken, MemoryKept}
 use Rattle.block_stage.specs.declared.inner.Applied.{Applied}
-use Rattle.file_block.specs.FileBlocks.{RoomKept}
 use Rattle.file_block.specs.VectorBlocks.{TestsAt, TestsReady, TestsTaken}
 
 module _ {table places : List ℕ} {batch : Batch} {vectors ups downs ws work : List ℕ} (s : TestsReady table places batch vectors ups downs ws work) where

@@ -12,6 +12,8 @@ use Rattle.model.specs.Refusals.{refusalNumber}
 use Rattle.model.specs.declared.Refusal.{Refusal}
 use Rattle.model.specs.Calls.{workWords}
 use Rattle.model.specs.Report.{fileRecords, testAll}
+use Rattle.netlist.specs.Tables.{CircuitTables}
+use Rattle.netlist.specs.declared.inner.Shape.{Shape}
 use Rattle.coverage.specs.Stage.{MemoryReady}
 use Rattle.coverage.specs.declared.inner.StageAnswer.the-variants as stage
 use Rattle.block.specs.Table.{CircuitTable}
@@ -26,6 +28,11 @@ pub record BlockTables (N : Netlist) (table places : List ℕ) (file : FileNumbe
   pub circuit : CircuitTable N table (file .inputs) (file .nets)
   pub placed : PlaceTable N places
   pub outputsAre : length (N .outputs) ≡ file .outputs
+
+-- as they are made from those that loading the netlist leaves, for tests of a class
+pub record TablesMade (r : FileNumbers) (netlist positions counts : List ℕ) (shape : Shape) (class : ℕ) (table places : List ℕ) : Type 0 where
+  pub numbersAre : r ≡ record { inputs = shape .inputs; nets = shape .nets; outputs = shape .outputs; class = class }
+  pub tables : (N : Netlist) → CircuitTables N netlist positions counts shape → BlockTables N table places r
 
 -- those of some netlist, a store that passes its rules, and room for the lists of a block
 pub record BlocksReady (table places : List ℕ) (file : FileNumbers) (ups downs ws work : List ℕ) : Type 0 where

@@ -1,16 +1,24 @@
 // The test stage with up to 64 tests at a time, from their vectors or from the records of a test file, with the lists of a block in lent memory. Each caller
 // proves what a function requires.
-ghost use Rattle.file_block.specs.FileBlocks.{BlocksReady, BlockDone};
+ghost use mathlib.Core.Path.{_≡_};
+ghost use lib.ListN.{length};
+ghost use Rattle.netlist.specs.Tables.{SomeTables};
+ghost use Rattle.block.specs.Layout.{gateTableSize};
+ghost use Rattle.block_marks.specs.Layout.{placeTableSize};
+ghost use Rattle.file_block.specs.FileBlocks.{TablesMade, BlocksReady, BlockDone};
 ghost use Rattle.file_block.specs.VectorBlocks.{TestsReady, TestsTaken};
 use block::inner::layout::GATE_TABLE_SIZE;
+use block::inner::table::fill_table;
 use block_marks::inner::Batch;
 use block_marks::inner::layout::MARKS_SIZE;
 use block_marks::inner::layout::PLACE_TABLE_SIZE;
 use block_marks::inner::marks::fill_block;
+use block_marks::inner::places::fill_places;
 use block_marks::inner::reading::read_block;
 use block_stage::inner::Applied;
 use block_stage::inner::apply_block;
 use coverage::inner::StageAnswer;
+use netlist::inner::Shape;
 use test_records::inner::RecordAnswer;
 
 // The number of records taken before the first that was refused, all of them if none was, and what they answer.
@@ -25,6 +33,29 @@ pub struct FileNumbers {
     pub nets: usize,
     pub outputs: usize,
     pub class: u32,
+}
+
+// Makes the tables of a netlist, once for all blocks of tests of a class, from those that loading it left.
+pub fn fill_tables(
+    netlist: &[u8],
+    positions: &[u16; 512],
+    counts: &[u64; 512],
+    shape: Shape,
+    class: u32,
+    table: &mut [u16; GATE_TABLE_SIZE],
+    places: &mut [u64; PLACE_TABLE_SIZE],
+) -> FileNumbers
+    requires { ⌜ SomeTables (now netlist) (now positions) (now counts) shape × (length (now table) ≡ gateTableSize) × (length (now places) ≡ placeTableSize) ⌝ }
+    ensures { λ r. ⌜ TablesMade r (now (netlist .entry)) (now (positions .entry)) (now (counts .entry)) shape class (now (table .exit)) (now (places .exit)) ⌝ }
+{
+    fill_table(netlist, positions, shape, table);
+    fill_places(netlist, counts, shape, table, places);
+    FileNumbers {
+        inputs: shape.inputs,
+        nets: shape.nets,
+        outputs: shape.outputs,
+        class,
+    }
 }
 
 // The place Work with the tests of a block, from their vectors: V1 of test t at place t and V2 at place 64 + t.

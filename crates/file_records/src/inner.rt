@@ -4,12 +4,11 @@ ghost use Rattle.file_block.specs.FileBlocks.{BlocksReady};
 ghost use Rattle.file_records.specs.FileRecords.{BlocksTaken, FileTaken};
 use block::inner::layout::GATE_TABLE_SIZE;
 use block::inner::layout::LISTS_SIZE;
-use block::inner::table::fill_table;
 use block_marks::inner::layout::PLACE_TABLE_SIZE;
-use block_marks::inner::places::fill_places;
 use coverage::inner::StageAnswer;
 use file_block::inner::FileNumbers;
 use file_block::inner::TakenRecords;
+use file_block::inner::fill_tables;
 use file_block::inner::take_block;
 use netlist::inner::Shape;
 use store_writing::inner::clear;
@@ -71,15 +70,16 @@ pub fn apply_records(
         (now (store .entry)) (now (store .exit)) (now (work .entry)) (now (work .exit)) ⌝ }
 {
     let mut table = [0u16; GATE_TABLE_SIZE];
-    fill_table(netlist, positions, shape, &mut table);
     let mut places = [0u64; PLACE_TABLE_SIZE];
-    fill_places(netlist, counts, shape, &table, &mut places);
-    let file = FileNumbers {
-        inputs: shape.inputs,
-        nets: shape.nets,
-        outputs: shape.outputs,
+    let file = fill_tables(
+        netlist,
+        positions,
+        counts,
+        shape,
         class,
-    };
+        &mut table,
+        &mut places,
+    );
     let mut ups = [0u32; LISTS_SIZE];
     let mut downs = [0u32; LISTS_SIZE];
     apply_blocks(

@@ -13,19 +13,16 @@ use Rattle.model.specs.Calls.{workWords}
 use Rattle.model.proofs.AnswerLaws.{value-inj}
 use Rattle.model.proofs.BoolLaws.{cases}
 use Rattle.records.proofs.PartLaws.{part-rest}
-use Rattle.netlist.specs.Tables.{CircuitTables, SomeCircuit}
+use Rattle.netlist.specs.Tables.{SomeTables}
 use Rattle.netlist.specs.declared.inner.Loaded.{Loaded}
 use Rattle.coverage.specs.Stage.{MemoryReady}
-use Rattle.block.specs.Table.{CircuitTable}
-use Rattle.block_marks.specs.Marks.{PlaceTable}
-use Rattle.block_marks.specs.PlaceParts.{SomePlaces}
 use Rattle.text_buffer.specs.Written.{Written}
 use Rattle.text_buffer.proofs.WrittenLaws.{written-length, written-taken, written-past}
-use Rattle.file_block.specs.FileBlocks.{BlockTables, BlocksReady}
+use Rattle.file_block.specs.FileBlocks.{BlockTables, BlocksReady, TablesMade}
 use Rattle.file_block.specs.declared.inner.FileNumbers.{FileNumbers}
 use Rattle.listing_lines.specs.ListingLines.{answerLines}
 use Rattle.listing_text.specs.Listing.{recordLines, storeAfterAll, listedRecords}
-use Rattle.listing_blocks.specs.Answers.{blockBytes, TablesOf, ListedTo, PieceReady, PieceLines}
+use Rattle.listing_blocks.specs.Answers.{blockBytes, ListedTo, PieceReady, PieceLines}
 use Rattle.listing_blocks.specs.BlockLines.{PartTrue, PartDone, ListBlocksReady, BlocksListed}
 use Rattle.listing_blocks.specs.declared.inner.Listed.{Listed}
 use Rattle.listing_blocks.specs.declared.blocks.PartAnswers.{PartAnswers}
@@ -186,28 +183,19 @@ module _ {table places : List ℕ} {numbers : FileNumbers} {from : Listed} {piec
 
 -- As `list_piece` meets them
 module _ {netlist : List ℕ} {t : Loaded} {from : Listed} {piece ws work out : List ℕ} (p : PieceReady netlist t from piece ws work out) where
-  pub piece-circuit : SomeCircuit netlist (t .positions) (t .shape)
-  piece-circuit = record { counts = t .counts; known = record { circuit = p .circuit; tables = p .tables } }
+  pub piece-tables : SomeTables netlist (t .positions) (t .counts) (t .shape)
+  piece-tables = record { circuit = p .circuit; tables = p .tables }
 
-  module _ {table : List ℕ}
-      (filled : (N : Netlist) (cs : List ℕ) → CircuitTables N netlist (t .positions) cs (t .shape) → CircuitTable N table (t .shape .inputs) (t .shape .nets)) where
-    pub piece-places : SomePlaces netlist (t .counts) (t .shape) table
-    piece-places = record { circuit = p .circuit; known = record { positions = t .positions; tables = p .tables; gates = filled (p .circuit) (t .counts) (p .tables) } }
+  module _ {numbers : FileNumbers} {class : ℕ} {table places : List ℕ} (made : TablesMade numbers netlist (t .positions) (t .counts) (t .shape) class table places) where
+    pub piece-blocks : ListBlocksReady table places numbers from piece ws work out
+    piece-blocks = record { netlist = p .circuit; tables = made .tables (p .circuit) (p .tables); memory = p .memory; begun = p .begun }
 
-    module _ {places : List ℕ} (placed : (N : Netlist) (ps : List ℕ) → CircuitTables N netlist ps (t .counts) (t .shape)
-        → CircuitTable N table (t .shape .inputs) (t .shape .nets) → PlaceTable N places) (class : ℕ) where
-      abbrev numbers : FileNumbers
-      numbers = record { inputs = t .shape .inputs; nets = t .shape .nets; outputs = t .shape .outputs; class = class }
-
-      tables-of : (N : Netlist) → TablesOf N netlist t → BlockTables N table places numbers
-      tables-of N k = record { circuit = filled N (t .counts) k; placed = placed N (t .positions) k (filled N (t .counts) k); outputsAre = sym (k .outputsAre) }
-
-      pub piece-blocks : ListBlocksReady table places numbers from piece ws work out
-      piece-blocks = record { netlist = p .circuit; tables = tables-of (p .circuit) (p .tables); memory = p .memory; begun = p .begun }
-
-      pub piece-listed : {r : Listed} {ws′ work′ out′ : List ℕ} → BlocksListed from r table places numbers piece ws ws′ work work′ out out′
-          → PieceLines from r netlist t class piece ws ws′ work work′ out out′
-      piece-listed b = record {
-        onward = b .onward;
-        ofCircuit = λ N k. b .ofCircuit N (tables-of N k) (subst (λ (M : Netlist). MemoryReady M ws work) (value-inj (sym (p .tables .legal) ∙ k .legal)) (p .memory));
-      }
+    pub piece-listed : {r : Listed} {ws′ work′ out′ : List ℕ} → BlocksListed from r table places numbers piece ws ws′ work work′ out out′
+        → PieceLines from r netlist t class piece ws ws′ work work′ out out′
+    piece-listed {r} {ws′} {work′} {out′} b = record {
+      onward = b .onward;
+      ofCircuit = λ N k.
+          let memory = subst (λ (M : Netlist). MemoryReady M ws work) (value-inj (sym (p .tables .legal) ∙ k .legal)) (p .memory) in
+          subst (λ (numbers : FileNumbers). ListedTo N (classOf (numbers .class)) from r piece ws ws′ work′ out out′) (made .numbersAre)
+          (b .ofCircuit N (made .tables N k) memory);
+    }

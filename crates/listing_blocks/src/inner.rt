@@ -4,10 +4,8 @@ ghost use Prim.Native.Nat.{_+_, _≤_, min};
 ghost use Rattle.listing_blocks.specs.Answers.{PieceReady, PieceLines};
 use crate::blocks::list_blocks;
 use block::inner::layout::GATE_TABLE_SIZE;
-use block::inner::table::fill_table;
 use block_marks::inner::layout::PLACE_TABLE_SIZE;
-use block_marks::inner::places::fill_places;
-use file_block::inner::FileNumbers;
+use file_block::inner::fill_tables;
 use netlist::inner::Loaded;
 
 // The most bytes of the lines of a block: it has at most 64 records, and a line at most 63 bytes.
@@ -51,14 +49,15 @@ pub fn list_piece(
     let counts = tables.counts;
     let shape = tables.shape;
     let mut table = [0u16; GATE_TABLE_SIZE];
-    fill_table(netlist, &positions, shape, &mut table);
     let mut places = [0u64; PLACE_TABLE_SIZE];
-    fill_places(netlist, &counts, shape, &table, &mut places);
-    let numbers = FileNumbers {
-        inputs: shape.inputs,
-        nets: shape.nets,
-        outputs: shape.outputs,
+    let numbers = fill_tables(
+        netlist,
+        &positions,
+        &counts,
+        shape,
         class,
-    };
+        &mut table,
+        &mut places,
+    );
     list_blocks(&table, &places, numbers, from, piece, store, work, out)
 }

@@ -2,17 +2,16 @@
 -- Assumes nothing.
 use native.Mathlib.Omega.{arith}
 use mathlib.Core.Path.{_≡_, refl, ap, sym, _∙_}
-use mathlib.Core.Bool.{Bool, true, false}
+use mathlib.Core.Bool.{Bool}
 use mathlib.Core.List.{List, [], _∷_}
 use Prim.Native.Nat.{ℕ, _≤_, _<_}
 use borrow.Author.Needs.{needs}
 use borrow.Author.Tests.{ltb-true}
 use lib.Dec.{ltb}
 use lib.ListN.{length}
-use Rattle.model.specs.Base.{Answer, refused, value, _>>=_, _>>_, checks, after}
-use Rattle.model.specs.Netlist.{Netlist}
+use Rattle.model.specs.Base.{Answer, refused, value, _>>=_, _>>_, checks}
 use Rattle.model.specs.Read.{readNetlist, classOf, classRule}
-use Rattle.model.specs.Calls.{workWords, storeRule, beforeTest}
+use Rattle.model.specs.Calls.{workWords, storeRule}
 use Rattle.model.specs.Report.{writerCall}
 use Rattle.model.proofs.AnswerLaws.{Passed, Steps, steps, then-first}
 use Rattle.model.proofs.BoolLaws.{le-true}

@@ -2,20 +2,14 @@
 -- Assumes nothing.
 use mathlib.Core.Path.{refl}
 use borrow.Author.Needs.{needs}
-use Rattle.exhaust.proofs.ExhaustCases.{pairs-circuit, pairs-places, pairs-blocks, pairs-sound, pairs-refused, pairs-taken}
+use Rattle.exhaust.proofs.ExhaustCases.{pairs-tables, pairs-blocks, pairs-sound, pairs-refused, pairs-taken}
 use Rattle.exhaust.proofs.apply_pairs.Statement.{statement}
 use Rattle.exhaust.proofs.apply_pairs.Tie as tie
 
-fill-table-requires : tie.Need-fill-table-requires
-fill-table-requires c κs =
-    let start = c .before .before .before .before .before .before .before .before in
-    (pairs-circuit _ _ _ _ (start .pre .0) (start .pre .1), refl)
-
-fill-places-requires : tie.Need-fill-places-requires
-fill-places-requires c κs =
-    let table = c .before .before .before in
-    let start = table .before .before .before .before .before .before .before .before .before in
-    (pairs-places _ _ _ _ (start .pre .0) (start .pre .1) (table .fill-table .ensures .1), refl)
+fill-tables-requires : tie.Need-fill-tables-requires
+fill-tables-requires c κs =
+    let start = c .before .before .before .before .before .before .before .before .before .before in
+    (pairs-tables _ _ _ _ (start .pre .0) (start .pre .1), refl, refl)
 
 slice-aggregate-apply-all-pairs : tie.Need-slice-aggregate-apply-all-pairs
 slice-aggregate-apply-all-pairs c = search needs
@@ -25,11 +19,9 @@ slice-aggregate-apply-all-pairs-2 c = search needs
 
 apply-all-pairs-requires : tie.Need-apply-all-pairs-requires
 apply-all-pairs-requires c κs =
-    let places = c .before .before .before .before .before .before in
-    let table = places .before .before .before .before in
-    let start = table .before .before .before .before .before .before .before .before .before in
-    let filled = table .fill-table .ensures .1 in
-    (pairs-blocks _ _ _ _ (start .pre .0) (start .pre .1) filled (places .fill-places .ensures .1) _ refl refl, start .pre .1 .1)
+    let tables = c .before .before .before .before .before .before in
+    let start = tables .before .before .before .before .before .before .before .before .before .before .before in
+    pairs-blocks _ _ _ _ (start .pre .0) (start .pre .1) (tables .fill-tables .ensures) refl refl
 
 enum-known-answer : tie.Need-enum-known-answer
 enum-known-answer c = search needs
@@ -40,12 +32,9 @@ enum-told c = search needs
 totals-of-requires : tie.Need-totals-of-requires
 totals-of-requires c κs =
     let applied = c .before .before .before .before .before .before .before .before .before in
-    let places = applied .before .before .before .before .before .before .before in
-    let table = places .before .before .before .before in
-    let start = table .before .before .before .before .before .before .before .before .before in
-    let filled = table .fill-table .ensures .1 in
-    pairs-sound _ _ _ _ (start .pre .0) (start .pre .1) filled (places .fill-places .ensures .1) _ (applied .apply-all-pairs .ensures)
-    (c .before .enum-told .given .1)
+    let tables = applied .before .before .before .before .before .before .before in
+    let start = tables .before .before .before .before .before .before .before .before .before .before .before in
+    pairs-sound _ _ _ _ (start .pre .0) (start .pre .1) (tables .fill-tables .ensures) (applied .apply-all-pairs .ensures) (c .before .enum-told .given .1)
 
 same-length : tie.Need-same-length
 same-length c = search needs
@@ -56,12 +45,9 @@ same-length-2 c = search needs
 returns : tie.Need-returns
 returns c =
     let applied = c .before .before .before .before .before .before .before .before .before in
-    let places = applied .before .before .before .before .before .before .before in
-    let table = places .before .before .before .before in
-    let start = table .before .before .before .before .before .before .before .before .before in
-    let filled = table .fill-table .ensures .1 in
-    pairs-refused _ _ _ _ (start .pre .0) (start .pre .1) filled (places .fill-places .ensures .1) _ (applied .apply-all-pairs .ensures)
-    _ (c .before .answer .given .1)
+    let tables = applied .before .before .before .before .before .before .before in
+    let start = tables .before .before .before .before .before .before .before .before .before .before .before in
+    pairs-refused _ _ _ _ (start .pre .0) (start .pre .1) (tables .fill-tables .ensures) (applied .apply-all-pairs .ensures) _ (c .before .answer .given .1)
 
 same-length-3 : tie.Need-same-length-3
 same-length-3 c = search needs
@@ -72,19 +58,15 @@ same-length-4 c = search needs
 returns-2 : tie.Need-returns-2
 returns-2 c =
     let applied = c .before .before .before .before .before .before .before .before .before .before in
-    let places = applied .before .before .before .before .before .before .before in
-    let table = places .before .before .before .before in
-    let start = table .before .before .before .before .before .before .before .before .before in
-    let filled = table .fill-table .ensures .1 in
-    pairs-taken _ _ _ _ (start .pre .0) (start .pre .1) filled (places .fill-places .ensures .1) _ (applied .apply-all-pairs .ensures)
-    (c .before .before .enum-told .given .1) _ (c .totals-of .ensures)
+    let tables = applied .before .before .before .before .before .before .before in
+    let start = tables .before .before .before .before .before .before .before .before .before .before .before in
+    pairs-taken _ _ _ _ (start .pre .0) (start .pre .1) (tables .fill-tables .ensures) (applied .apply-all-pairs .ensures) (c .before .before .enum-told .given .1) _ (c .totals-of .ensures)
 
 pub apply-pairs-spec : {M : Type 1} → statement M
 apply-pairs-spec =
     tie.close
     (tie.spec
-    fill-table-requires
-    fill-places-requires
+    fill-tables-requires
     slice-aggregate-apply-all-pairs
     slice-aggregate-apply-all-pairs-2
     apply-all-pairs-requires

@@ -2,8 +2,6 @@
 -- Assumes nothing.
 use mathlib.Core.Logic.{⊎-elim}
 use Prim.Native.Nat.{_-_}
-use native.Mathlib.Omega.{arith}
-use borrow.Author.Needs.{needs}
 use Rattle.all_pairs.proofs.HeldPairLaws.{HeldSoFar, held-skip, held-put, held-end, held-cases}
 use Rattle.all_pairs.proofs.inner.put_pairs.Statement.{statement}
 use Rattle.all_pairs.proofs.inner.put_pairs.Tie as tie

@@ -2,18 +2,14 @@
 -- Assumes nothing.
 use mathlib.Core.Path.{refl}
 use borrow.Author.Needs.{needs}
-use Rattle.file_records.proofs.FileTableCases.{stage-circuit, stage-places, stage-blocks, stage-file}
+use Rattle.file_records.proofs.FileTableCases.{stage-tables, stage-blocks, stage-file}
 use Rattle.file_records.proofs.inner.apply_records.Statement.{statement}
 use Rattle.file_records.proofs.inner.apply_records.Tie as tie
 
-fill-table-requires : tie.Need-fill-table-requires
-fill-table-requires c κs = (stage-circuit (c .before .before .before .before .before .pre), refl)
-
-fill-places-requires : tie.Need-fill-places-requires
-fill-places-requires c κs =
-    let table = c .before .before in
-    let start = table .before .before .before .before .before .before in
-    (stage-places (start .pre) (table .fill-table .ensures .1), refl)
+fill-tables-requires : tie.Need-fill-tables-requires
+fill-tables-requires c κs =
+    let start = c .before .before .before .before .before .before in
+    (stage-tables (start .pre), refl, refl)
 
 slice-aggregate-apply-blocks : tie.Need-slice-aggregate-apply-blocks
 slice-aggregate-apply-blocks c = search needs
@@ -23,10 +19,9 @@ slice-aggregate-apply-blocks-2 c = search needs
 
 apply-blocks-requires : tie.Need-apply-blocks-requires
 apply-blocks-requires c κs =
-    let places = c .before .before .before .before .before .before in
-    let table = places .before .before .before in
-    let start = table .before .before .before .before .before .before in
-    stage-blocks (start .pre) (table .fill-table .ensures .1) (places .fill-places .ensures .1) _ refl refl
+    let tables = c .before .before .before .before .before .before in
+    let start = tables .before .before .before .before .before .before .before in
+    stage-blocks (start .pre) (tables .fill-tables .ensures) refl refl
 
 same-length : tie.Need-same-length
 same-length c = search needs
@@ -37,18 +32,15 @@ same-length-2 c = search needs
 returns : tie.Need-returns
 returns c =
     let taken = c .before .before .before .before .before .before in
-    let lists = taken .before .before .before .before .before in
-    let places = lists .before .before in
-    let table = places .before .before .before in
-    let start = table .before .before .before .before .before .before in
-    stage-file (start .pre) (table .fill-table .ensures .1) (places .fill-places .ensures .1) _ (taken .apply-blocks .ensures)
+    let tables = taken .before .before .before .before .before .before .before in
+    let start = tables .before .before .before .before .before .before .before in
+    stage-file (start .pre) (tables .fill-tables .ensures) (taken .apply-blocks .ensures)
 
 pub apply-records-spec : {M : Type 1} → statement M
 apply-records-spec =
     tie.close
     (tie.spec
-    fill-table-requires
-    fill-places-requires
+    fill-tables-requires
     slice-aggregate-apply-blocks
     slice-aggregate-apply-blocks-2
     apply-blocks-requires
