@@ -1,11 +1,10 @@
 // Each caller proves what a function requires.
 ghost use mathlib.Core.Path.{_≡_};
-ghost use mathlib.Core.List.{_∷_, _++_};
+ghost use mathlib.Core.List.{[], _∷_, _++_};
 ghost use Prim.Native.Nat.{_≤_};
-ghost use lib.ListN.{length};
+ghost use lib.ListN.{length, getD};
 ghost use lib.Seq.{sets};
 ghost use Rattle.answer_words.specs.Codes.{numberWord};
-use lengths::EdgeRows;
 use netlist::NetlistSurvey;
 
 // An answer of one word: writes it, and returns the code of a call that was taken.
@@ -42,12 +41,13 @@ fn put_counts(counts: &[u64; 512], answer: &mut [u64; 516])
 }
 
 // Writes the rows of an edge from an answer word on: the paths, then the faults held.
-pub fn put_rows(rows: EdgeRows, at: usize, answer: &mut [u64; 256])
+pub fn put_rows(rows: [[u64; 64]; 2], at: usize, answer: &mut [u64; 256])
     requires { ⌜ at ≤ 128 ⌝ }
-    ensures { λ _. ⌜ now (answer .exit) ≡ sets (now (answer .entry)) at (rows .paths ++ rows .held) ⌝ }
+    ensures { λ _. ⌜ now (answer .exit) ≡ sets (now (answer .entry)) at (getD rows 0 [] ++ getD rows 1 []) ⌝ }
+    ensures { λ _. ⌜ length (getD rows 0 [] ++ getD rows 1 []) ≡ 128 ⌝ }
 {
-    let paths = rows.paths;
-    let held = rows.held;
+    let paths = rows[0];
+    let held = rows[1];
     put_row(&paths, at, answer);
     put_row(&held, at + 64, answer);
 }

@@ -17,6 +17,8 @@ use length_text::put_table;
 use lengths::LengthRows;
 use lengths::LengthsAnswer;
 use lengths::coverage_by_length;
+use lengths::falling_rows;
+use lengths::rising_rows;
 use libc::STDERR_FILENO;
 use libc::STDOUT_FILENO;
 use model::Refusal;
@@ -36,11 +38,11 @@ fn print_usage(fd: i32) {
 
 // The rows as a table or as a picture. The rows of paths are the same for both edges.
 fn print_rows(rows: LengthRows, picture: bool) {
-    let rising = rows.rising;
-    let falling = rows.falling;
-    let paths = rising.paths;
-    let rising_held = rising.held;
-    let falling_held = falling.held;
+    let rising = rising_rows(rows);
+    let falling = falling_rows(rows);
+    let paths = rising[0];
+    let rising_held = rising[1];
+    let falling_held = falling[1];
     let mut text = io::large_buffer();
     if picture {
         let bytes = put_chart(&paths, &rising_held, &falling_held, &mut text);

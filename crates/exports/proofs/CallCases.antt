@@ -20,7 +20,6 @@ use Rattle.file_judging.specs.declared.EndAnswer.the-variants as ending
 use Rattle.length_rows.specs.Lengths.{Rows}
 use Rattle.lengths.specs.LengthAnswers.{RowsAre, risingRows, fallingRows}
 use Rattle.lengths.specs.LengthAnswers as rows
-use Rattle.lengths.specs.declared.EdgeRows.{EdgeRows}
 use Rattle.lengths.specs.declared.LengthRows.{LengthRows}
 use Rattle.lengths.specs.declared.LengthsAnswer.{LengthsAnswer}
 use Rattle.lengths.specs.declared.LengthsAnswer.the-variants as lengths
@@ -46,7 +45,7 @@ pub survey-is : {r : Surveyed} {netlist : List ℕ} → SurveyTrue r netlist →
 survey-is {r = r} {netlist = netlist} t = survey-in (r .answer) (r .survey) (surveyCall netlist) (t .answer) (t .survey)
 
 -- coverage by length: the rows stand beside the answer
-lengths-in : (r : LengthsAnswer) (up down : EdgeRows) (x : Answer (ByEdge Rows))
+lengths-in : (r : LengthsAnswer) (up down : List (List ℕ)) (x : Answer (ByEdge Rows))
     → rows.answerOf r ≡ passes x → up ≡ risingRows x → down ≡ fallingRows x → lengthsIn r up down ≡ x
 lengths-in (lengths.Refused w) up down (refused n) e u d = let z : refusalNumber w ≡ n = cc in ap (λ k. refused k) z
 lengths-in (lengths.Refused w) up down (value x) e u d = absurd (not-refused e)

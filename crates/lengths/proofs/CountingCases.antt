@@ -2,7 +2,7 @@
 -- Assumes nothing.
 use mathlib.Core.Path.{_≡_, refl, ap, ap₂, sym, _∙_, subst}
 use mathlib.Core.Bool.{true, false}
-use mathlib.Core.List.{List}
+use mathlib.Core.List.{List, [], _∷_}
 use Prim.Native.Nat.{ℕ, _/_, _^_, _<_}
 use native.Mathlib.Omega.{arith}
 use borrow.Author.Tests.{eq-eqb, ne-eqb}
@@ -27,10 +27,9 @@ use Rattle.length_rows.specs.Lengths.{lengths, row, pathsUpTo, heldUpTo, Rows, 
 use Rattle.length_rows.proofs.RowLaws.{row-length}
 use Rattle.length_rows.proofs.LengthsHold.{paths-add, too-long}
 use Rattle.length_ranks.specs.NetRows.{NetRows, Ranked}
-use Rattle.lengths.specs.LengthAnswers.{answerOf, nothing, edgeRows, RowsAre, lengthsOn, Countable, CountableRows, inWords, RunsRanked}
+use Rattle.lengths.specs.LengthAnswers.{answerOf, withRows, nothing, edgeRows, RowsAre, lengthsOn, Countable, CountableRows, inWords, RunsRanked}
 use Rattle.lengths.specs.declared.LengthsAnswer.{LengthsAnswer}
 use Rattle.lengths.specs.declared.LengthsAnswer.the-variants as lengthsAnswer
-use Rattle.lengths.specs.declared.EdgeRows.{EdgeRows}
 use Rattle.lengths.specs.declared.LengthRows.{LengthRows}
 
 -- A refusal, and rows, as the code hands them over
@@ -38,7 +37,7 @@ pub rows-refused : (x : LengthsAnswer) (n : ℕ) (a : Answer (ByEdge Rows)) → 
 rows-refused x n a e f = record { answer = f ∙ rw e refl; rising = rw e refl; falling = rw e refl }
 
 pub rows-counted : (r : ByEdge Rows) (a : Answer (ByEdge Rows)) → a ≡ value r
-    → RowsAre (record { answer = lengthsAnswer.Counted; rising = edgeRows (r .onRising); falling = edgeRows (r .onFalling) }) a
+    → RowsAre (withRows lengthsAnswer.Counted (edgeRows (r .onRising)) (edgeRows (r .onFalling))) a
 rows-counted r a e = record { answer = rw e refl; rising = rw e refl; falling = rw e refl }
 
 -- The words of an edge's runs
@@ -97,27 +96,25 @@ module _ {file ps cs : List ℕ} {shape : Shape} {total : ℕ} {ws : List ℕ} {
           (er : (M : Netlist) → readNetlist file ≡ value M → rise ≡ row (λ l. heldUpTo M (inWords up) l (pathTotal M)))
           (ef : (M : Netlist) → readNetlist file ≡ value M → fall ≡ row (λ l. heldUpTo M (inWords down) l (pathTotal M))) where
         rows-are : (e : Edge) (part held : List ℕ) → part ≡ edgeWords ws e → held ≡ row (λ l. heldUpTo C (inWords part) l (pathTotal C))
-            → record { paths = paths; held = held } ≡ edgeRows (rowsOf C ws e)
+            → paths ∷ held ∷ [] ≡ edgeRows (rowsOf C ws e)
         unfolding rowsOf
         rows-are e part held q p =
             let runs : runsInWords part 0 (length part / 2) ≡ storeRuns ws e =
             ap (λ (x : List ℕ). runsInWords x 0 (length x / 2)) q ∙ runs-are ws (k .sound .few) e in
             let held-is : held ≡ rowsOf C ws e .held = p ∙ ap (λ (x : List Run). row (λ l. heldUpTo C (inRuns x) l (pathTotal C))) runs in
-            λ i. record { paths = paths-are e i; held = held-is i }
+            λ i. paths-are e i ∷ held-is i ∷ []
 
         pub all-counted : (M : Netlist) → readNetlist file ≡ value M
-            → RowsAre (record { answer = lengthsAnswer.Counted; rising = record { paths = paths; held = rise }; falling = record { paths = paths; held = fall } })
-            (lengthsOn M ws)
+            → RowsAre (withRows lengthsAnswer.Counted (paths ∷ rise ∷ []) (paths ∷ fall ∷ [])) (lengthsOn M ws)
         unfolding lengthsOn
         all-counted =
             let yes : lengthRule C .1 ≡ true = rule-is ∙ eq-eqb sum total eq in
             let taken : lengthsOn C ws ≡ value (byEdge (rowsOf C ws)) = rw yes refl in
             let r = rows-are rising up rise eu (er C read) in
             let f = rows-are falling down fall ed (ef C read) in
-            every (subst (λ (x : EdgeRows). RowsAre (record { answer = lengthsAnswer.Counted; rising = x; falling = record { paths = paths; held = fall } }) (lengthsOn C ws))
-            (sym r)
-            (subst (λ (x : EdgeRows). RowsAre (record { answer = lengthsAnswer.Counted; rising = edgeRows (rowsOf C ws rising); falling = x }) (lengthsOn C ws))
-            (sym f) (rows-counted (byEdge (rowsOf C ws)) (lengthsOn C ws) taken)))
+            every (subst (λ (x : List (List ℕ)). RowsAre (withRows lengthsAnswer.Counted x (paths ∷ fall ∷ [])) (lengthsOn C ws)) (sym r)
+            (subst (λ (x : List (List ℕ)). RowsAre (withRows lengthsAnswer.Counted (edgeRows (rowsOf C ws rising)) x) (lengthsOn C ws)) (sym f)
+            (rows-counted (byEdge (rowsOf C ws)) (lengthsOn C ws) taken)))
 
 -- The rows of the nets first
 module _ {file ps cs : List ℕ} {shape : Shape} {total : ℕ} {ws : List ℕ} (k : Countable file ps cs shape total ws) where

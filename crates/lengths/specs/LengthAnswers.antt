@@ -4,7 +4,7 @@ use mathlib.Core.Path.{_≡_}
 use mathlib.Core.Bool.{Bool}
 use mathlib.Core.List.{List, [], _∷_}
 use Prim.Native.Nat.{ℕ, _/_}
-use lib.ListN.{length, getD, replicate}
+use lib.ListN.{length, replicate}
 use Rattle.model.specs.Base.{Answer, refused, value, _>>_, checks, passes}
 use Rattle.model.specs.Netlist.{Netlist, pathTotal}
 use Rattle.model.specs.Runs.{inRuns}
@@ -18,7 +18,6 @@ use Rattle.length_rows.specs.Lengths.{lengths, Rows, rowsOf, lengthRule, length
 use Rattle.length_ranks.specs.NetRows.{RowTables}
 use Rattle.lengths.specs.declared.LengthsAnswer.{LengthsAnswer}
 use Rattle.lengths.specs.declared.LengthsAnswer.the-variants as lengthsAnswer
-use Rattle.lengths.specs.declared.EdgeRows.{EdgeRows}
 use Rattle.lengths.specs.declared.LengthRows.{LengthRows}
 
 -- the number of a refusal, or that there is none
@@ -26,29 +25,26 @@ abbrev pub answerOf : LengthsAnswer → Answer (Unit {0})
 answerOf lengthsAnswer.Counted = value tt
 answerOf (lengthsAnswer.Refused w) = refused (refusalNumber w)
 
+-- an answer with two rows for each edge: the paths by length, then the faults held
+abbrev pub withRows : LengthsAnswer → List (List ℕ) → List (List ℕ) → LengthRows
+withRows a up down = record { answer = a; rising = up; falling = down }
+
 -- the rows of a refused call are zeros
-abbrev pub noRows : EdgeRows
-noRows = record { paths = replicate lengths 0; held = replicate lengths 0 }
+abbrev pub noRows : List (List ℕ)
+noRows = replicate lengths 0 ∷ replicate lengths 0 ∷ []
 
 abbrev pub nothing : LengthsAnswer → LengthRows
-nothing a = record { answer = a; rising = noRows; falling = noRows }
-
--- two rows for each edge: the paths by length, then the faults held
-abbrev pub pairOfRows : List (List ℕ) → EdgeRows
-pairOfRows rows = record { paths = getD rows 0 []; held = getD rows 1 [] }
-
-abbrev pub fromRows : List (List ℕ) → List (List ℕ) → LengthRows
-fromRows rising falling = record { answer = lengthsAnswer.Counted; rising = pairOfRows rising; falling = pairOfRows falling }
+nothing a = withRows a noRows noRows
 
 -- the rows of both edges as the code hands them over
-abbrev pub edgeRows : Rows → EdgeRows
-edgeRows r = record { paths = r .paths; held = r .held }
+abbrev pub edgeRows : Rows → List (List ℕ)
+edgeRows r = r .paths ∷ r .held ∷ []
 
-abbrev pub risingRows : Answer (ByEdge Rows) → EdgeRows
+abbrev pub risingRows : Answer (ByEdge Rows) → List (List ℕ)
 risingRows (refused n) = noRows
 risingRows (value r) = edgeRows (r .onRising)
 
-abbrev pub fallingRows : Answer (ByEdge Rows) → EdgeRows
+abbrev pub fallingRows : Answer (ByEdge Rows) → List (List ℕ)
 fallingRows (refused n) = noRows
 fallingRows (value r) = edgeRows (r .onFalling)
 

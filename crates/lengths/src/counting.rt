@@ -3,8 +3,7 @@ ghost use mathlib.Core.Path.{_≡_};
 ghost use Rattle.model.specs.Base.{value};
 ghost use Rattle.model.specs.Netlist.{Netlist};
 ghost use Rattle.model.specs.Read.{readNetlist};
-ghost use Rattle.lengths.specs.LengthAnswers.{Countable, CountableRows, RowsAre, lengthsOn, nothing, fromRows};
-use crate::EdgeRows;
+ghost use Rattle.lengths.specs.LengthAnswers.{Countable, CountableRows, RowsAre, lengthsOn, nothing, withRows};
 use crate::LengthRows;
 use crate::LengthsAnswer;
 use crate::held::held_row;
@@ -16,38 +15,23 @@ use model::Refusal;
 use netlist::inner::Shape;
 use store_words::inner::parts::edge_runs;
 
+// The answer with its rows.
+fn rows_with(answer: LengthsAnswer, rising: [[u64; 64]; 2], falling: [[u64; 64]; 2]) -> LengthRows
+    ensures { λ r. ⌜ r ≡ withRows answer rising falling ⌝ }
+{
+    LengthRows {
+        answer,
+        rising,
+        falling,
+    }
+}
+
 // An answer without rows.
 pub(crate) fn no_rows(answer: LengthsAnswer) -> LengthRows
     ensures { λ r. ⌜ r ≡ nothing answer ⌝ }
 {
-    LengthRows {
-        answer,
-        rising: EdgeRows {
-            paths: [0u64; 64],
-            held: [0u64; 64],
-        },
-        falling: EdgeRows {
-            paths: [0u64; 64],
-            held: [0u64; 64],
-        },
-    }
-}
-
-// The answer from two rows for each edge: the paths by length, then the faults held.
-fn counted(rising: [[u64; 64]; 2], falling: [[u64; 64]; 2]) -> LengthRows
-    ensures { λ r. ⌜ r ≡ fromRows rising falling ⌝ }
-{
-    LengthRows {
-        answer: LengthsAnswer::Counted,
-        rising: EdgeRows {
-            paths: rising[0],
-            held: rising[1],
-        },
-        falling: EdgeRows {
-            paths: falling[0],
-            held: falling[1],
-        },
-    }
+    let zeros = [[0u64; 64]; 2];
+    rows_with(answer, zeros, zeros)
 }
 
 // The rows, once the netlist's tables are made and the store is known to be sound.
@@ -89,5 +73,5 @@ fn rows_by_net(
     let rising = held_row(netlist, positions, counts, rows, shape, up);
     let down = edge_runs(store, Edge::Falling);
     let falling = held_row(netlist, positions, counts, rows, shape, down);
-    counted([paths, rising], [paths, falling])
+    rows_with(LengthsAnswer::Counted, [paths, rising], [paths, falling])
 }

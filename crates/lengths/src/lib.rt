@@ -2,6 +2,7 @@
 mod counting;
 mod held;
 
+ghost use mathlib.Core.Path.{_≡_};
 ghost use Rattle.lengths.specs.LengthAnswers.{LengthsTrue};
 use crate::counting::count_rows;
 use crate::counting::no_rows;
@@ -18,17 +19,24 @@ pub enum LengthsAnswer {
     Refused(Refusal),
 }
 
-// The rows of an edge: for each number of gates the paths, and the faults held.
-pub struct EdgeRows {
-    pub paths: [u64; 64],
-    pub held: [u64; 64],
-}
-
-// The rows of both edges. Those of a refused call are zeros.
+// For each edge two rows: for each number of gates the paths, then the faults held. Those of a refused call are zeros.
 pub struct LengthRows {
     pub answer: LengthsAnswer,
-    pub rising: EdgeRows,
-    pub falling: EdgeRows,
+    pub rising: [[u64; 64]; 2],
+    pub falling: [[u64; 64]; 2],
+}
+
+// The rows of an edge. These two functions are proved by hand: a caller of them is not.
+pub fn rising_rows(rows: LengthRows) -> [[u64; 64]; 2]
+    ensures { λ r. ⌜ r ≡ rows .rising ⌝ }
+{
+    rows.rising
+}
+
+pub fn falling_rows(rows: LengthRows) -> [[u64; 64]; 2]
+    ensures { λ r. ⌜ r ≡ rows .falling ⌝ }
+{
+    rows.falling
 }
 
 // Coverage by length.

@@ -6,8 +6,9 @@ use mathlib.Core.List.{List, [], _∷_, _++_}
 use Prim.Native.Nat.{ℕ, _+_}
 use native.Mathlib.Omega.{arith}
 use borrow.Author.Needs.{needs}
-use lib.ListN.{length, length-append}
+use lib.ListN.{length, getD}
 use lib.Seq.{sets}
+use Rattle.model.specs.Base.{value}
 use Rattle.model.specs.Refusals.{refusalNumber}
 use Rattle.model.specs.declared.Refusal.{Refusal}
 use Rattle.store.specs.Answers.{emptyOf, totalsOf, heldOf}
@@ -84,15 +85,15 @@ module _ (found : List ℕ) where
   pub exhaust-taken : (r : ExhaustAnswer) (a b : ℕ) → r ≡ exhaust.Totals a b → Answered (exhaustOf r) edgeWords 0 found (sets found 0 (a ∷ b ∷ []))
   exhaust-taken r a b p = answered-value (exhaustOf r) edgeWords found _ (ap exhaustOf p)
 
-  pub lengths-taken : (r : LengthRows) (first left : List ℕ) → r .answer ≡ lengths.Counted → length (r .rising .paths) ≡ 64 → length (r .rising .held) ≡ 64
-      → first ≡ sets found 0 (r .rising .paths ++ r .rising .held) → left ≡ sets first 128 (r .falling .paths ++ r .falling .held)
-      → Answered (lengthsOf r) lengthWords 0 found left
-  lengths-taken r first left p n m e f =
-      let up : List ℕ = rowWords (rowsIn (r .rising)) in
-      let down : List ℕ = rowWords (rowsIn (r .falling)) in
-      let behind : 128 ≡ 0 + length up = omega (arith, length-append (r .rising .paths) (r .rising .held)) in
-      rw (f, e, sets-append up down found 0 128 behind)
-      (answered-value (lengthsOf r) lengthWords found _ (ap (λ a. lengthsIn a (r .rising) (r .falling)) p))
+  pub lengths-taken : (r : LengthRows) (rising falling : List (List ℕ)) (first left : List ℕ) → r .answer ≡ lengths.Counted → rising ≡ r .rising → falling ≡ r .falling
+      → first ≡ sets found 0 (getD rising 0 [] ++ getD rising 1 []) → length (getD rising 0 [] ++ getD rising 1 []) ≡ 128
+      → left ≡ sets first 128 (getD falling 0 [] ++ getD falling 1 []) → Answered (lengthsOf r) lengthWords 0 found left
+  lengths-taken r rising falling first left p g h e n f =
+      let up : List ℕ = rowWords (rowsIn rising) in
+      let down : List ℕ = rowWords (rowsIn falling) in
+      let taken : lengthsOf r ≡ value (record { onRising = rowsIn rising; onFalling = rowsIn falling }) =
+      rw (g, h) (ap (λ a. lengthsIn a (r .rising) (r .falling)) p) in
+      rw (f, e, sets-append up down found 0 128 (omega (arith, n))) (answered-value (lengthsOf r) lengthWords found _ taken)
 
 module _ (code : ℕ) (q : code ≡ 0) (found left : List ℕ) where
   pub held-yes : (r : HeldAnswer) → r ≡ held.Held → left ≡ sets found 0 (numberWord 1) → Answered (heldOf r) boolWord code found left

@@ -14,6 +14,8 @@ use coverage::TestAnswer;
 use exhaust::ExhaustAnswer;
 use lengths::LengthRows;
 use lengths::LengthsAnswer;
+use lengths::falling_rows;
+use lengths::rising_rows;
 use refusals::refusal_number;
 use store::EmptyAnswer;
 use store::HeldAnswer;
@@ -87,8 +89,8 @@ pub fn lengths_code(rows: LengthRows, answer: &mut [u64; 256]) -> u32
     match found {
         LengthsAnswer::Refused(why) => refusal_number(why),
         LengthsAnswer::Counted => {
-            put_rows(rows.rising, 0, answer);
-            put_rows(rows.falling, 128, answer);
+            put_rows(rising_rows(rows), 0, answer);
+            put_rows(falling_rows(rows), 128, answer);
             0
         }
     }

@@ -3,10 +3,11 @@ use crate::inner::names::FALLING;
 use crate::inner::names::HELD;
 use crate::inner::names::PATHS;
 use crate::inner::names::RISING;
-use lengths::EdgeRows;
 use lengths::LengthRows;
 use lengths::LengthsAnswer;
 use lengths::coverage_by_length;
+use lengths::falling_rows;
+use lengths::rising_rows;
 use script_cells::inner::cells;
 use script_lines::inner::answers::Answer;
 use script_lines::inner::answers::accepted;
@@ -15,15 +16,18 @@ use script_lines::inner::answers::unknown;
 use script_lines::inner::words::after_word;
 use script_lines::inner::words::key_of;
 
-// `paths` or `held`, with a question as about memory.
-fn ask_row(rows: EdgeRows, what: &[u8]) -> Answer {
+// A question as about memory, of a row.
+fn ask_cells(question: &[u8], row: [u64; 64]) -> Answer {
+    cells::ask(question, &row)
+}
+
+// `paths` or `held`, with a question.
+fn ask_row(rows: [[u64; 64]; 2], what: &[u8]) -> Answer {
     let key = key_of(what);
     let question = after_word(what);
-    let paths = rows.paths;
-    let held = rows.held;
     match key {
-        PATHS => cells::ask(question, &paths),
-        HELD => cells::ask(question, &held),
+        PATHS => ask_cells(question, rows[0]),
+        HELD => ask_cells(question, rows[1]),
         _ => unknown(),
     }
 }
@@ -34,8 +38,8 @@ fn ask_edge(rows: LengthRows, what: &[u8]) -> Answer {
     let row = after_word(what);
     match key {
         0 => accepted(),
-        RISING => ask_row(rows.rising, row),
-        FALLING => ask_row(rows.falling, row),
+        RISING => ask_row(rising_rows(rows), row),
+        FALLING => ask_row(falling_rows(rows), row),
         _ => unknown(),
     }
 }

@@ -13,8 +13,14 @@ refusal-number-requires c κs = search needs
 enum-told : tie.Need-enum-told
 enum-told c = search needs
 
+rising-rows-requires : tie.Need-rising-rows-requires
+rising-rows-requires c κs = search needs
+
 put-rows-requires : tie.Need-put-rows-requires
 put-rows-requires c κs = search needs
+
+falling-rows-requires : tie.Need-falling-rows-requires
+falling-rows-requires c κs = search needs
 
 put-rows-requires-2 : tie.Need-put-rows-requires-2
 put-rows-requires-2 c κs = search needs
@@ -32,7 +38,9 @@ lengths-code-spec =
     enum-known-found
     refusal-number-requires
     enum-told
+    rising-rows-requires
     put-rows-requires
+    falling-rows-requires
     put-rows-requires-2
     returns
     returns-2)

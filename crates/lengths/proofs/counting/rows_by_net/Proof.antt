@@ -43,8 +43,8 @@ held-row-requires-2 c κs =
     let ranked = test .before .before .before in
     edge-ranked (ranked .before .before .before .pre) falling _ (c .edge-runs2 .ensures)
 
-counted-requires : tie.Need-counted-requires
-counted-requires c κs = search needs
+rows-with-requires : tie.Need-rows-with-requires
+rows-with-requires c κs = search needs
 
 returns-2 : tie.Need-returns-2
 returns-2 c =
@@ -56,7 +56,7 @@ returns-2 c =
     let summed = test .before in
     let ranked = summed .before .before in
     let start = ranked .before .before .before .pre in
-    rw (c .counted .ensures)
+    rw (c .rows-with .ensures)
     (all-counted start (ranked .rank-row .ensures) (summed .row-sum .ensures) (test .if1 .left) (up .edge-runs .ensures) (down .edge-runs2 .ensures)
     (rise .held-row .ensures) (fall .held-row2 .ensures))
 
@@ -72,5 +72,5 @@ rows-by-net-spec =
     held-row-requires
     edge-runs-requires-2
     held-row-requires-2
-    counted-requires
+    rows-with-requires
     returns-2)
