@@ -1,21 +1,23 @@
 -- What the lines that are taken leave of a circuit: numbers in their ranges, different names, pins on earlier lines.
 -- Assumes nothing.
-use Prim.Native.Nat.{ℕ, _+_, _≤_, _<_}
+use Prim.Native.Nat.{ℕ, suc, _+_, _≤_, _<_}
 use mathlib.Core.Path.{_≡_, refl, ap, sym, _∙_, subst}
 use mathlib.Core.Bool.{true, _&&_, not}
 use mathlib.Core.Logic.{_⊎_, inl, inr, ⊎-elim}
 use mathlib.Core.List.{List, [], _∷_, _++_, map, append-assoc, append-nil}
 use native.Mathlib.Omega.{arith}
-use lib.Dec.{T, ltb, ltb→lt, T-not}
+use lib.Dec.{T, leb, leb→le, T-not}
 use lib.ListN.{length, length-append}
 use Rattle.model.specs.Base.{value, checks, allOf}
-use Rattle.model.specs.Read.{pinsFit}
+use Rattle.model.specs.Netlist.{maxNets}
+use Rattle.model.specs.Read.{pinsFit, headerRange}
 use Rattle.model.proofs.BoolLaws.{and-left, and-right, T→true, not→false, le-or-lt}
 use Rattle.model.proofs.AnswerLaws.{checks→, then-first, then-second, value-inj}
 use Rattle.bench_lines.specs.Text.{Token, Statement, blank, input, output, gate, other, place, isIn, tokensOf}
 use Rattle.bench_lines.specs.Text.{statementOf}
 use Rattle.bench_circuit.specs.Circuit.{GateLine, Circuit, emptyCircuit, netNames, inputFits, gateFits}
 use Rattle.bench_circuit.specs.Circuit.{outputFits, gateNamed, lineRules, added, lineByLine}
+use Rattle.bench_circuit.proofs.RoomLaws.{header-inputs, header-gates, header-nets, header-outputs}
 use Rattle.bench_lines.proofs.KindLaws.{gate-kind}
 use Rattle.bench_lines.proofs.NamePlaceLaws.{in-lt, not-in, NotIn, Distinct, distinct-insert, place-left, place-right}
 
@@ -120,8 +122,8 @@ module _ (c : Circuit) (l : Legal c) where
   input-legal : (x : List ℕ) → T (not (isIn x (netNames c))) → T (inputFits c) → Legal (added c (input x))
   unfolding added inputFits netNames
   input-legal x n f =
-      let a = ltb→lt (length (c .inputs)) 64 (and-left (ltb (length (c .inputs)) 64) (ltb nets 512) f) in
-      let b = ltb→lt nets 512 (and-right (ltb (length (c .inputs)) 64) (ltb nets 512) f) in
+      let a = header-inputs (suc (length (c .inputs))) (length (c .gates)) 1 f in
+      let b = header-nets (suc (length (c .inputs))) (length (c .gates)) 1 f in
       let len = length-append (c .inputs) (x ∷ []) in
       record {
         fewInputs = omega arith;
@@ -138,7 +140,7 @@ module _ (c : Circuit) (l : Legal c) where
   output-legal : (x : List ℕ) → T (not (isIn x (c .outputs))) → T (outputFits c) → Legal (added c (output x))
   unfolding added outputFits netNames
   output-legal x n f =
-      let a = ltb→lt (length (c .outputs)) 64 f in
+      let a = header-outputs 1 0 (suc (length (c .outputs))) f in
       let len = length-append (c .outputs) (x ∷ []) in
       record {
         fewInputs = l .fewInputs;
@@ -157,11 +159,12 @@ module _ (c : Circuit) (l : Legal c) where
   unfolding added gateFits gateNamed netNames
   gate-legal x k ys r n f =
       let g : GateLine = record { name = x; kind = k; pins = ys } in
-      let range = ltb (length (c .gates)) 511 && ltb nets 512 in
-      let fc = and-left range (pinsFit k (length ys)) f in
-      let fp = and-right range (pinsFit k (length ys)) f in
-      let a = ltb→lt (length (c .gates)) 511 (and-left (ltb (length (c .gates)) 511) (ltb nets 512) fc) in
-      let b = ltb→lt nets 512 (and-right (ltb (length (c .gates)) 511) (ltb nets 512) fc) in
+      let more = suc (length (c .gates)) in
+      let fc = and-left (headerRange 1 more 1 && leb (length (c .inputs) + more) maxNets) (pinsFit k (length ys)) f in
+      let fp = and-right (headerRange 1 more 1 && leb (length (c .inputs) + more) maxNets) (pinsFit k (length ys)) f in
+      let a = header-gates 1 more 1 (and-left (headerRange 1 more 1) (leb (length (c .inputs) + more) maxNets) fc) in
+      let b : length (c .inputs) + more ≤ 512 =
+      leb→le (length (c .inputs) + more) 512 (and-right (headerRange 1 more 1) (leb (length (c .inputs) + more) maxNets) fc) in
       let unused = not (isIn x (netNames c)) in
       let defined = allOf (λ y. isIn y (netNames c)) ys in
       let len = length-append (c .gates) (g ∷ []) in

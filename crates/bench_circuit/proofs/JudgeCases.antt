@@ -25,6 +25,7 @@ use Rattle.bench_lines.specs.declared.inner.keys.NameKey.{NameKey}
 use Rattle.bench_lines.specs.declared.inner.statements.GateParts.{GateParts}
 use Rattle.bench_circuit.specs.declared.inner.judging.NameCounts.{NameCounts}
 use Rattle.bench_circuit.specs.declared.inner.judging.NameAnswer.the-variants as answer
+use Rattle.bench_circuit.proofs.RoomLaws.{room-input, room-gate, room-output}
 use Rattle.bench_lines.proofs.NamePlaceLaws.{place-left, place-right}
 use Rattle.bench_lines.proofs.KeyLaws.{place-of, put-holds, named-snoc}
 use Rattle.bench_names.proofs.NameNetLaws.{net-first, net-second}
@@ -246,7 +247,7 @@ module _ {is gs os : List ℕ} {n : NameCounts} {c : Circuit} (h : Held is gs os
   unfolding lineRules inputFits
   input-rules x nx =
       ap₂ (λ (u v : Bool). (81, not u) ∷ (82, v) ∷ []) (known-is x nx)
-      (ap₂ (λ (u v : ℕ). ltb u 64 && ltb (u + v) 512) (h .inputs .count) gate-count)
+      (ap₂ (λ (u v : ℕ). ltb u 64 && ltb (u + v) 512) (h .inputs .count) gate-count ∙ room-input (length (c .inputs)) (length (c .gates)))
 
   pub output-rules : (x : List ℕ) → Named x → outputRules os (n .outputs) x ≡ lineRules c (output x)
   unfolding lineRules outputFits isIn namePlace
@@ -254,6 +255,7 @@ module _ {is gs os : List ℕ} {n : NameCounts} {c : Circuit} (h : Held is gs os
       let a : namePlace os (n .outputs) x ≡ place x (c .outputs) =
       place-of (h .outputs .holds) (h .outputs .named) nx (h .outputs .count) refl in
       ap₂ (λ (u v : ℕ). (81, not (ltb u v)) ∷ (82, ltb v 64) ∷ []) a (h .outputs .count)
+      ∙ ap (λ (b : Bool). (81, not (ltb (place x (c .outputs)) (length (c .outputs)))) ∷ (82, b) ∷ []) (room-output (length (c .outputs)))
 
   pub gate-rules : (x : List ℕ) (k : ℕ) (ys : List (List ℕ)) → Named x → AllNamed ys
       → gateRules is (n .inputs) gs (n .gates) x k ys ≡ lineRules c (gate x k ys)
@@ -261,7 +263,7 @@ module _ {is gs os : List ℕ} {n : NameCounts} {c : Circuit} (h : Held is gs os
   gate-rules x k ys nx ny =
       ap₂ (λ (u v : Bool). (81, u) ∷ (82, v && pinsFit k (length ys)) ∷ [])
       (ap₂ (λ (u v : Bool). not u && v) (known-is x nx) (all-known ys ny))
-      (ap₂ (λ (u v : ℕ). ltb v 511 && ltb (u + v) 512) (h .inputs .count) gate-count)
+      (ap₂ (λ (u v : ℕ). ltb v 511 && ltb (u + v) 512) (h .inputs .count) gate-count ∙ room-gate (length (c .inputs)) (length (c .gates)))
 
 -- one name more in the words
 pub held-more : {ws ws′ : List ℕ} {n : ℕ} {names : List (List ℕ)} {x : List ℕ} → NamesHeld ws n names → Named x

@@ -3,10 +3,11 @@
 use mathlib.Core.Bool.{Bool, true, false, _&&_, not}
 use mathlib.Core.List.{List, [], _∷_, _++_, map}
 use Prim.Native.Nat.{ℕ, suc, _+_}
-use lib.Dec.{ltb, leb}
+use lib.Dec.{leb}
 use lib.ListN.{length}
 use Rattle.model.specs.Base.{Answer, refused, value, _>>=_, _>>_, Rule, checks, allOf}
-use Rattle.model.specs.Read.{pinsFit}
+use Rattle.model.specs.Netlist.{maxNets}
+use Rattle.model.specs.Read.{pinsFit, headerRange}
 use Rattle.bench_lines.specs.Text.{Statement, blank, input, output, gate, other, linesOf, tokensOf, statementOf, isIn}
 
 -- a gate line: the name it defines, its kind, the names at its pins
@@ -28,15 +29,15 @@ emptyCircuit = record { inputs = []; gates = []; outputs = [] }
 unfoldable pub netNames : Circuit → List (List ℕ)
 netNames c = c .inputs ++ map (λ (g : GateLine). g .name) (c .gates)
 
--- there is room for one more input, gate, output: at most 64, 511 and 64, and 512 inputs and gates together
+-- a netlist's header has room for one more input, gate, output. Of what is still to come, the least that a header takes: one input, one output
 unfoldable pub inputFits : Circuit → Bool
-inputFits c = ltb (length (c .inputs)) 64 && ltb (length (c .inputs) + length (c .gates)) 512
+inputFits c = headerRange (suc (length (c .inputs))) (length (c .gates)) 1
 
 unfoldable pub gateFits : Circuit → Bool
-gateFits c = ltb (length (c .gates)) 511 && ltb (length (c .inputs) + length (c .gates)) 512
+gateFits c = headerRange 1 (suc (length (c .gates))) 1 && leb (length (c .inputs) + suc (length (c .gates))) maxNets
 
 unfoldable pub outputFits : Circuit → Bool
-outputFits c = ltb (length (c .outputs)) 64
+outputFits c = headerRange 1 0 (suc (length (c .outputs)))
 
 -- a gate's name is new and its pins are defined on earlier lines
 unfoldable pub gateNamed : Circuit → List ℕ → List (List ℕ) → Bool

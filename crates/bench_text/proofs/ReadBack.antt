@@ -1,19 +1,21 @@
--- The gates of a netlist file as they are read back: each the circuit's, unless a count passes 2^62.
+-- The gates of a netlist file as they are read back: each the circuit's, unless a count passes 2^62, and then 17.
 -- Assumes nothing.
 use Prim.Native.Nat.{ℕ, suc, _+_, _*_, _/_, _%_, _≤_, _<_}
 use mathlib.Core.Path.{_≡_, refl, ap, sym, _∙_, subst}
-use mathlib.Core.Bool.{Bool, _&&_}
-use mathlib.Core.Logic.{_⊎_, inl, inr, ⊎-elim}
+use mathlib.Core.Bool.{Bool, true, false, _&&_}
+use mathlib.Core.Logic.{⊎-elim}
 use mathlib.Core.List.{List, [], _∷_, _++_, map, append-assoc}
 use native.Mathlib.Omega.{arith}
 use lib.Dec.{T, ltb, leb, le→leb, lt→ltb}
 use lib.ListN.{length, getD, drop, length-append, length-map}
 use lib.Seq.{drop-drop}
 use Rattle.model.specs.Base.{Answer, refused, value, _>>=_, _>>_, check, Rule, checks, allOf}
-use Rattle.model.specs.Netlist.{Gate, maxCount}
+use Rattle.model.specs.Netlist.{Gate, maxCount, gateCount, netByNet, atNets}
 use Rattle.model.specs.Read.{marked, within, kindOf, pinsFit, netFields, gateIn, countIn, gateRules, readGates}
 use Rattle.model.specs.Encode.{netBytes, gateBytes}
-use Rattle.model.proofs.BoolLaws.{both, true→T, bool-cases, le-or-lt}
+use Rattle.model.proofs.BoolLaws.{both, and-left, and-right, T→true, true→T, not→false, bool-cases, le-or-lt}
+use Rattle.model.proofs.ListLaws.{allOf-append}
+use Rattle.model.proofs.ReadLaws.{fits}
 use Rattle.model.proofs.AnswerLaws.{AllPass, →checks, checks-both}
 use Rattle.bench_lines.specs.Text.{place}
 use Rattle.bench_circuit.specs.Circuit.{GateLine}
@@ -146,43 +148,82 @@ gate-taken : (n : ℕ) (cs bs : List ℕ) → checks (gateRules (length cs) cs b
 unfolding readGates
 gate-taken n cs bs e = rw (e, readGates) refl
 
-unfoldable pub Read17 : {A : Type 0} → Answer A → A → Type 0
-Read17 x a = (x ≡ refused 17) ⊎ (x ≡ value a)
+-- ---- counts: the number of a refusal where one passes 2^62
 
-unfoldable pub Read21 : {A : Type 0} → Answer A → A → Type 0
-Read21 x a = (x ≡ refused 21) ⊎ (x ≡ value a)
+fit-left : (cs : List ℕ) (k : ℕ) → T (allOf fits (cs ++ (k ∷ []))) → T (allOf fits cs) × T (fits k)
+fit-left [] k t = (tt, and-left (fits k) true t)
+fit-left (c ∷ cs) k t =
+    let more = allOf fits (cs ++ (k ∷ [])) in
+    let r = fit-left cs k (and-right (fits c) more t) in
+    (both (fits c) (allOf fits cs) (and-left (fits c) more t) (r .0), r .1)
+
+before-fit : (gs : List Gate) (cs : List ℕ) → T (allOf fits (netByNet gateCount 0 cs gs)) → T (allOf fits cs)
+before-fit [] cs t = t
+before-fit (g ∷ gs) cs t =
+    let k = gateCount g (atNets cs 0 (g .pins)) in
+    fit-left cs k (before-fit gs (cs ++ (k ∷ [])) t) .0
+
+abbrev pub gatesTo : Bool → List Gate → List ℕ → Answer (List Gate × List ℕ)
+gatesTo b gs rest = check 17 b >> value (gs, rest)
+
+gates-cons : (b : Bool) (g : Gate) (gs : List Gate) (rest : List ℕ) → (gatesTo b gs rest >>= λ r. value (g ∷ r .0, r .1)) ≡ gatesTo b (g ∷ gs) rest
+gates-cons true g gs rest = refl
+gates-cons false g gs rest = refl
 
 -- the next gate in front of those that are read after it
-gates-join : (n : ℕ) (names : List (List ℕ)) (g : GateLine) (gs : List Gate) (cs tail rest : List ℕ)
-    → Below (length cs) (pinNets names g) → length cs ≤ 512
-    → GateFits g → ((k : ℕ) → Read17 (readGates n (cs ++ (k ∷ [])) tail) (gs, rest))
-    → Read17 (readGates (suc n) cs (gateBytes (g .kind) (pinNets names g) ++ tail)) (gateFor names g ∷ gs, rest)
-unfolding Read17
-gates-join n names g gs cs tail rest low few fit ih =
-    let bs = gateBytes (g .kind) (pinNets names g) ++ tail in
-    let count = countIn cs bs in
-    ⊎-elim
-    (λ e.
-    let t : checks (gateRules (length cs) cs bs) ≡ value tt = gate-rules names g cs tail low few fit ∙ rw e refl in
-    let go : List ℕ → Answer (List Gate × List ℕ) = λ l. readGates n (cs ++ (count ∷ [])) l >>= λ r. value (gateIn bs ∷ r .0, r .1) in
-    let u : readGates (suc n) cs bs ≡ go tail = gate-taken n cs bs t ∙ ap go (gate-after names g cs tail low few fit) in
-    ⊎-elim
-    (λ q. inl (u ∙ rw q refl))
-    (λ q. inr (u ∙ rw q (ap (λ (x : Gate). value (x ∷ gs, rest)) (gate-is names g cs tail low few fit))))
-    (ih count))
-    (λ e. inl (gate-refused n cs bs (gate-rules names g cs tail low few fit ∙ rw e refl)))
-    (bool-cases (leb count maxCount))
+module _ (n : ℕ) (names : List (List ℕ)) (g : GateLine) (gs : List Gate) (cs tail rest : List ℕ) (low : Below (length cs) (pinNets names g))
+    (few : length cs ≤ 512) (fit : GateFits g) (t : T (allOf fits cs)) where
+  abbrev one : Gate
+  one = gateFor names g
 
+  abbrev file : List ℕ
+  file = gateBytes (g .kind) (pinNets names g) ++ tail
+
+  abbrev count : ℕ
+  count = gateCount one (atNets cs 0 (one .pins))
+
+  abbrev all : Bool
+  all = allOf fits (netByNet gateCount 0 (cs ++ (count ∷ [])) gs)
+
+  count-is : countIn cs file ≡ count
+  count-is = ap (λ (x : Gate). gateCount x (atNets cs 0 (x .pins))) (gate-is names g cs tail low few fit)
+
+  rules-are : checks (gateRules (length cs) cs file) ≡ (check 17 (fits count) >> value tt)
+  rules-are = gate-rules names g cs tail low few fit ∙ ap (λ (m : ℕ). check 17 (fits m) >> value tt) count-is
+
+  gates-over : fits count ≡ false → readGates (suc n) cs file ≡ gatesTo all (one ∷ gs) rest
+  gates-over e =
+      let over : all ≡ false = not→false all (λ u. subst T e (fit-left cs count (before-fit gs (cs ++ (count ∷ [])) u) .1)) in
+      gate-refused n cs file (rules-are ∙ rw e refl) ∙ rw over refl
+
+  gates-more : fits count ≡ true → (T (allOf fits (cs ++ (count ∷ []))) → readGates n (cs ++ (count ∷ [])) tail ≡ gatesTo all gs rest)
+      → readGates (suc n) cs file ≡ gatesTo all (one ∷ gs) rest
+  gates-more e ih =
+      let go : List ℕ → ℕ → Gate → Answer (List Gate × List ℕ) = λ l k x. readGates n (cs ++ (k ∷ [])) l >>= λ r. value (x ∷ r .0, r .1) in
+      gate-taken n cs file (rules-are ∙ rw e refl)
+      ∙ ap (λ (l : List ℕ). go l (countIn cs file) (gateIn file)) (gate-after names g cs tail low few fit)
+      ∙ ap (λ (k : ℕ). go tail k (gateIn file)) count-is
+      ∙ ap (λ (x : Gate). go tail count x) (gate-is names g cs tail low few fit)
+      ∙ ap (λ (y : Answer (List Gate × List ℕ)). y >>= λ r. value (one ∷ r .0, r .1)) (ih (allOf-append fits cs count t (true→T (fits count) e)))
+      ∙ gates-cons all one gs rest
+
+-- The gates are the circuit's, unless the count of a net passes 2^62
 pub gates-read : (names : List (List ℕ)) (gs : List GateLine) (net : ℕ) (cs rest : List ℕ) → length cs ≡ net
-    → net + length gs ≤ 512 → LowerPins names net gs → GatesFit gs
-    → Read17 (readGates (length gs) cs (gateRecords names gs ++ rest)) (map (gateFor names) gs, rest)
-unfolding LowerPins GatesFit gateRecords readGates Read17
-gates-read names [] net cs rest e h l f = inr refl
-gates-read names (g ∷ gs) net cs rest e h l f =
+    → net + length gs ≤ 512 → LowerPins names net gs → GatesFit gs → T (allOf fits cs)
+    → readGates (length gs) cs (gateRecords names gs ++ rest)
+    ≡ gatesTo (allOf fits (netByNet gateCount 0 cs (map (gateFor names) gs))) (map (gateFor names) gs) rest
+unfolding LowerPins GatesFit gateRecords readGates
+gates-read names [] net cs rest e h l f t = rw (T→true (allOf fits cs) t) refl
+gates-read names (g ∷ gs) net cs rest e h l f t =
     let tail = gateRecords names gs ++ rest in
     let read = map (gateFor names) gs in
     let low = subst (λ (n : ℕ). Below n (pinNets names g)) (sym e) (l .0) in
-    let split = sym (append-assoc (gateBytes (g .kind) (pinNets names g)) (gateRecords names gs) rest) in
-    subst (λ (z : List ℕ). Read17 (readGates (suc (length gs)) cs z) (gateFor names g ∷ read, rest)) split
-    (gates-join (length gs) names g read cs tail rest low (omega arith) (f .0)
-    (λ k. gates-read names gs (suc net) (cs ++ (k ∷ [])) rest (omega (arith, length-append cs (k ∷ []))) (omega arith) (l .1) (f .1)))
+    let few : length cs ≤ 512 = omega arith in
+    let k = gateCount (gateFor names g) (atNets cs 0 (gateFor names g .pins)) in
+    ap (λ (z : List ℕ). readGates (suc (length gs)) cs z) (append-assoc (gateBytes (g .kind) (pinNets names g)) (gateRecords names gs) rest)
+    ∙ ⊎-elim
+    (λ (q : fits k ≡ true).
+    gates-more (length gs) names g read cs tail rest low few (f .0) t q
+    (λ u. gates-read names gs (suc net) (cs ++ (k ∷ [])) rest (omega (arith, length-append cs (k ∷ []))) (omega arith) (l .1) (f .1) u))
+    (λ (q : fits k ≡ false). gates-over (length gs) names g read cs tail rest low few (f .0) t q)
+    (bool-cases (fits k))

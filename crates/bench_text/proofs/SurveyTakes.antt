@@ -1,28 +1,30 @@
 -- The survey takes every result, unless its counts pass 2^62: the netlist read from it is the circuit's.
 -- Assumes nothing.
-use Prim.Native.Nat.{ℕ, suc, _+_, _≤_, _<_}
+use Prim.Native.Nat.{ℕ, zero, suc, _+_, _≤_, _<_}
 use mathlib.Core.Path.{_≡_, refl, ap, _∙_, subst}
-use mathlib.Core.Bool.{_&&_}
-use mathlib.Core.Logic.{inl, inr, ⊎-elim}
+use mathlib.Core.Bool.{Bool, true, false, _&&_}
+use mathlib.Core.Logic.{⊎-elim}
 use mathlib.Core.List.{List, [], _∷_, _++_, map}
 use native.Mathlib.Omega.{arith}
 use lib.Dec.{T, ltb, leb, eqb, le→leb, lt→ltb, leb→le, ltb→lt}
 use lib.ListN.{length, drop, replicate, length-append, length-map, length-replicate}
-use Rattle.model.specs.Base.{Answer, refused, value, _>>=_, _>>_, check, checks, field}
-use Rattle.model.specs.Netlist.{Netlist, Gate, netByNet, gateCount, maxCount, maxNets, outputCount}
-use Rattle.model.specs.Read.{marked, within, readGates, outputRules, readOutputs, inputsIn}
+use Rattle.model.specs.Base.{Answer, refused, value, _>>=_, _>>_, check, checks, allOf, field, sumOf}
+use Rattle.model.specs.Netlist.{Netlist, Gate, netByNet, gateCount, counts, pathTotal, maxCount, outputCount}
+use Rattle.model.specs.Read.{marked, readGates, outputRules, readOutputs, inputsIn}
 use Rattle.model.specs.Read.{gatesIn, outputsIn, headerRules, readNetlist}
 use Rattle.model.specs.Encode.{headerBytes, outputBytes}
-use Rattle.model.proofs.BoolLaws.{both, all4, and3, bool-cases, and-left, and-right}
+use Rattle.model.proofs.BoolLaws.{both, and3, le-true, lt-false, le-or-lt, and-left, and-right}
+use Rattle.model.proofs.ReadLaws.{fits}
 use Rattle.model.proofs.AnswerLaws.{AllPass, →checks, checks→, steps, then-first, then-second, value-inj}
 use Rattle.model.proofs.WellFormed.{ascendingNets}
 use Rattle.bench_lines.specs.Text.{linesOf}
 use Rattle.bench_circuit.specs.Circuit.{GateLine, Circuit, emptyCircuit, netNames, lineByLine, endRules, circuitOf}
 use Rattle.bench_text.specs.NetlistFile.{gateRecords, outputNets, outputRecords, netlistBytes, converted}
-use Rattle.bench_text.specs.Taken.{gateFor, netlistOf, TakenUnlessOver}
+use Rattle.bench_text.specs.Taken.{gateFor, netlistOf, surveyed, TakenUnlessOver}
+use Rattle.bench_circuit.proofs.RoomLaws.{header}
 use Rattle.bench_circuit.proofs.CircuitLaws.{gateNames, Legal, legal-empty, lines-leave}
 use Rattle.bench_text.proofs.BytesLaws.{outputs-ascend, outputs-count}
-use Rattle.bench_text.proofs.ReadBack.{Read21, Read17, LowerPins, lower-pins, but-last, back, gates-read}
+use Rattle.bench_text.proofs.ReadBack.{LowerPins, lower-pins, but-last, back, gatesTo, gates-read}
 
 -- ---- outputs
 
@@ -51,32 +53,63 @@ output-rules o ins nets cs least s rest l h f =
     but-last ((18, leb 4 (length b) && marked 0x4F 0x55 b) ∷ (19, ltb n nets && leb least n) ∷ [])
     21 (leb (s + outputCount ins cs n) maxCount) (mark, (order, tt))
 
-output-join : (n o : ℕ) (os : List ℕ) (ins nets : ℕ) (cs : List ℕ) (least s : ℕ) (rest : List ℕ) → least ≤ o → o < nets
-    → nets ≤ 512 → ((k : ℕ) → Read21 (readOutputs n ins nets cs (suc o) k rest) (os, []))
-    → Read21 (readOutputs (suc n) ins nets cs least s (outputBytes o ++ rest)) (o ∷ os, [])
-unfolding Read21 outputBytes
-output-join n o os ins nets cs least s rest l h f ih =
-    let bs = outputBytes o ++ rest in
-    let e : field 2 2 bs ≡ o = back o (omega arith) in
-    let sum = s + outputCount ins cs (field 2 2 bs) in
-    ⊎-elim
-    (λ q.
-    let t : checks (outputRules ins nets cs least s bs) ≡ value tt =
-    output-rules o ins nets cs least s rest l h f ∙ rw q refl in
-    let go : ℕ → Answer (List ℕ × List ℕ) = λ m. readOutputs n ins nets cs (suc m) sum rest >>= λ r. value (m ∷ r .0, r .1) in
-    let u : readOutputs (suc n) ins nets cs least s bs ≡ go o = output-taken n ins nets cs least s bs t ∙ ap go e in
-    ⊎-elim (λ r. inl (u ∙ rw r refl)) (λ r. inr (u ∙ rw r refl)) (ih sum))
-    (λ q. inl (output-refused n ins nets cs least s bs (output-rules o ins nets cs least s rest l h f ∙ rw q refl)))
-    (bool-cases (leb (s + outputCount ins cs (field 2 2 (outputBytes o ++ rest))) maxCount))
+abbrev outputsTo : Bool → List ℕ → Answer (List ℕ × List ℕ)
+outputsTo b os = check 21 b >> value (os, [])
 
-outputs-read : (os : List ℕ) (ins nets : ℕ) (cs : List ℕ) (least s : ℕ) → nets ≤ 512 → T (ascendingNets nets least os)
-    → Read21 (readOutputs (length os) ins nets cs least s (outputRecords os)) (os, [])
-unfolding ascendingNets outputRecords readOutputs Read21
-outputs-read [] ins nets cs least s h t = inr refl
-outputs-read (o ∷ os) ins nets cs least s h t =
+outputs-cons : (b : Bool) (o : ℕ) (os : List ℕ) → (outputsTo b os >>= λ r. value (o ∷ r .0, r .1)) ≡ outputsTo b (o ∷ os)
+outputs-cons true o os = refl
+outputs-cons false o os = refl
+
+module _ (n o : ℕ) (os : List ℕ) (ins nets : ℕ) (cs : List ℕ) (least s : ℕ) (rest : List ℕ) (l : least ≤ o) (h : o < nets) (f : nets ≤ 512) where
+  abbrev file : List ℕ
+  file = outputBytes o ++ rest
+
+  abbrev sum : ℕ
+  sum = s + outputCount ins cs o
+
+  abbrev later : ℕ
+  later = sumOf (map (outputCount ins cs) os)
+
+  net-is : field 2 2 file ≡ o
+  unfolding outputBytes
+  net-is = back o (omega arith)
+
+  rules-are : checks (outputRules ins nets cs least s file) ≡ (check 21 (fits sum) >> value tt)
+  rules-are = output-rules o ins nets cs least s rest l h f ∙ ap (λ (m : ℕ). check 21 (fits (s + outputCount ins cs m)) >> value tt) net-is
+
+  outputs-over : maxCount < sum → readOutputs (suc n) ins nets cs least s file ≡ outputsTo (fits (s + sumOf (map (outputCount ins cs) (o ∷ os)))) (o ∷ os)
+  outputs-over q =
+      let e : fits sum ≡ false = lt-false sum maxCount q in
+      let w : fits (s + (outputCount ins cs o + later)) ≡ false = lt-false (s + (outputCount ins cs o + later)) maxCount (omega arith) in
+      output-refused n ins nets cs least s file (rules-are ∙ rw e refl) ∙ rw w refl
+
+  outputs-more : sum ≤ maxCount → readOutputs n ins nets cs (suc o) sum rest ≡ outputsTo (fits (sum + later)) os
+      → readOutputs (suc n) ins nets cs least s file ≡ outputsTo (fits (s + sumOf (map (outputCount ins cs) (o ∷ os)))) (o ∷ os)
+  unfolding outputBytes
+  outputs-more q ih =
+      let e : fits sum ≡ true = le-true sum maxCount q in
+      let z : sum + later ≡ s + (outputCount ins cs o + later) = omega arith in
+      let go : ℕ → Answer (List ℕ × List ℕ) = λ m. readOutputs n ins nets cs (suc m) (s + outputCount ins cs m) rest >>= λ r. value (m ∷ r .0, r .1) in
+      output-taken n ins nets cs least s file (rules-are ∙ rw e refl)
+      ∙ ap go net-is
+      ∙ ap (λ (y : Answer (List ℕ × List ℕ)). y >>= λ r. value (o ∷ r .0, r .1)) ih
+      ∙ outputs-cons (fits (sum + later)) o os
+      ∙ ap (λ (m : ℕ). outputsTo (fits m) (o ∷ os)) z
+
+outputs-read : (os : List ℕ) (ins nets : ℕ) (cs : List ℕ) (least s : ℕ) → nets ≤ 512 → T (ascendingNets nets least os) → s ≤ maxCount
+    → readOutputs (length os) ins nets cs least s (outputRecords os) ≡ outputsTo (fits (s + sumOf (map (outputCount ins cs) os))) os
+unfolding ascendingNets outputRecords readOutputs
+outputs-read [] ins nets cs least s h t q = let e : fits (s + 0) ≡ true = le-true (s + 0) maxCount (omega arith) in rw e refl
+outputs-read (o ∷ os) ins nets cs least s h t q =
     let a = and3 (leb least o) (ltb o nets) (ascendingNets nets (suc o) os) t in
-    output-join (length os) o os ins nets cs least s (outputRecords os) (leb→le least o (a .0)) (ltb→lt o nets (a .1)) h
-    (λ k. outputs-read os ins nets cs (suc o) k h (a .2))
+    let l = leb→le least o (a .0) in
+    let b = ltb→lt o nets (a .1) in
+    let sum = s + outputCount ins cs o in
+    ⊎-elim
+    (λ (p : sum ≤ maxCount).
+    outputs-more (length os) o os ins nets cs least s (outputRecords os) l b h p (outputs-read os ins nets cs (suc o) sum h (a .2) p))
+    (λ (p : maxCount < sum). outputs-over (length os) o os ins nets cs least s (outputRecords os) l b h p)
+    (le-or-lt sum maxCount)
 
 -- ---- the file
 
@@ -86,9 +119,6 @@ body h i g u rest =
     >>= λ gs. readOutputs u i (i + g) (netByNet gateCount 0 (replicate i 1) (gs .0)) 0 0 (gs .1)
     >>= λ o. checks ((20, eqb (length (o .1)) 0) ∷ [])
     >> value (record { inputs = i; gates = gs .0; outputs = o .0 })
-
-one-to-64 : (n : ℕ) → 1 ≤ n → n ≤ 64 → T (within 1 64 n)
-one-to-64 n low high = both (leb 1 n) (leb n 64) (le→leb 1 n low) (le→leb n 64 high)
 
 module _ (i g u : ℕ) (rest : List ℕ) (i1 : 1 ≤ i) (i64 : i ≤ 64) (g511 : g ≤ 511) (n512 : i + g ≤ 512) (u1 : 1 ≤ u)
     (u64 : u ≤ 64) where
@@ -100,9 +130,8 @@ module _ (i g u : ℕ) (rest : List ℕ) (i1 : 1 ≤ i) (i64 : i ≤ 64) (g511 :
       let c : gatesIn b ≡ g = back g (omega arith) in
       let d : outputsIn b ≡ u = back u (omega arith) in
       let mark = both (leb 8 (length b)) (marked 0x4E 0x4C b) (le→leb 8 (length b) (omega arith)) tt in
-      let numbers = all4 (within 1 64 (inputsIn b)) (leb (gatesIn b) 511) (leb (inputsIn b + gatesIn b) maxNets) (within 1 64 (outputsIn b))
-      (one-to-64 (inputsIn b) (omega arith) (omega arith)) (le→leb (gatesIn b) 511 (omega arith))
-      (le→leb (inputsIn b + gatesIn b) maxNets (omega arith)) (one-to-64 (outputsIn b) (omega arith) (omega arith)) in
+      let numbers =
+      header (inputsIn b) (gatesIn b) (outputsIn b) (omega arith) (omega arith) (omega arith) (omega arith) (omega arith) (omega arith) in
       →checks (headerRules b) (mark, (numbers, tt))
 
   header-read : readNetlist (headerBytes i g u ++ rest) ≡ body (value tt) i g u rest
@@ -115,21 +144,17 @@ module _ (i g u : ℕ) (rest : List ℕ) (i1 : 1 ≤ i) (i64 : i ≤ 64) (g511 :
       ∙ ap (λ (n : ℕ). body (value tt) i g n rest) (back u (omega arith))
 
 module _ (i g u : ℕ) (rest : List ℕ) where
-  body-gates : readGates g (replicate i 1) rest ≡ refused 17 → body (value tt) i g u rest ≡ refused 17
+  body-is : (gs : List Gate) (rest′ os : List ℕ) (b d : Bool) → readGates g (replicate i 1) rest ≡ gatesTo b gs rest′
+      → readOutputs u i (i + g) (netByNet gateCount 0 (replicate i 1) gs) 0 0 rest′ ≡ outputsTo d os
+      → body (value tt) i g u rest ≡ (checks ((17, b) ∷ (21, d) ∷ []) >> value (record { inputs = i; gates = gs; outputs = os }))
   unfolding body
-  body-gates e = rw e refl
+  body-is gs rest′ os true true e q = rw (e, q) refl
+  body-is gs rest′ os true false e q = rw (e, q) refl
+  body-is gs rest′ os false d e q = rw e refl
 
-  module _ (gs : List Gate) (rest′ : List ℕ) (e : readGates g (replicate i 1) rest ≡ value (gs, rest′)) where
-    body-outputs : readOutputs u i (i + g) (netByNet gateCount 0 (replicate i 1) gs) 0 0 rest′ ≡ refused 21
-        → body (value tt) i g u rest ≡ refused 21
-    unfolding body
-    body-outputs q = rw (e, q) refl
-
-    body-whole : (os : List ℕ)
-        → readOutputs u i (i + g) (netByNet gateCount 0 (replicate i 1) gs) 0 0 rest′ ≡ value (os, [])
-        → body (value tt) i g u rest ≡ value (record { inputs = i; gates = gs; outputs = os })
-    unfolding body
-    body-whole os q = rw (e, q) refl
+ones-fit : (n : ℕ) → T (allOf fits (replicate n 1))
+ones-fit zero = tt
+ones-fit (suc n) = both (fits 1) (allOf fits (replicate n 1)) (le→leb 1 maxCount (omega arith)) (ones-fit n)
 
 names-fit : (c : Circuit) → 0 + length (netNames c) ≤ length (c .inputs) + length (c .gates)
 unfolding netNames
@@ -145,7 +170,7 @@ lower c l =
 
 -- a circuit that passes the rules at the end
 pub circuit-taken : (c : Circuit) → Legal c → AllPass (endRules c) → TakenUnlessOver (netlistBytes c) c
-unfolding endRules netlistBytes netlistOf TakenUnlessOver Read17 Read21
+unfolding endRules netlistBytes netlistOf surveyed counts pathTotal
 circuit-taken c l a =
     let I = length (c .inputs) in
     let G = length (c .gates) in
@@ -163,15 +188,13 @@ circuit-taken c l a =
     header-read I G U rest i1 (l .fewInputs) (l .fewGates) (l .fewNets) u1 (l .fewOutputs) in
     let ones : length {A = ℕ} (replicate I 1) ≡ I = length-replicate {A = ℕ} I 1 in
     let count : length os ≡ U = outputs-count 0 (netNames c) (c .outputs) (l .distinct) (l .distinctOutputs) (a .0) in
-    ⊎-elim
-    (λ q. inr (inl (h ∙ body-gates I G U rest q)))
-    (λ q.
-    ⊎-elim
-    (λ r. inr (inr (h ∙ body-outputs I G U rest gs (outputRecords os) q r)))
-    (λ r. inl (h ∙ body-whole I G U rest gs (outputRecords os) q os r))
-    (subst (λ (n : ℕ). Read21 (readOutputs n I (I + G) cs 0 0 (outputRecords os)) (os, [])) count
-    (outputs-read os I (I + G) cs 0 0 (l .fewNets) (outputs-ascend (I + G) 0 (netNames c) (c .outputs) (names-fit c)))))
-    (gates-read (netNames c) (c .gates) I (replicate I 1) (outputRecords os) ones (l .fewNets) (lower c l) (l .fits))
+    let b = allOf fits cs in
+    let read = gates-read (netNames c) (c .gates) I (replicate I 1) (outputRecords os) ones (l .fewNets) (lower c l) (l .fits) (ones-fit I) in
+    let outs : readOutputs U I (I + G) cs 0 0 (outputRecords os) ≡ outputsTo (fits (0 + sumOf (map (outputCount I cs) os))) os =
+    subst (λ (n : ℕ). readOutputs n I (I + G) cs 0 0 (outputRecords os) ≡ outputsTo (fits (0 + sumOf (map (outputCount I cs) os))) os) count
+    (outputs-read os I (I + G) cs 0 0 (l .fewNets) (outputs-ascend (I + G) 0 (netNames c) (c .outputs) (names-fit c)) (omega arith)) in
+    let z : 0 + sumOf (map (outputCount I cs) os) ≡ sumOf (map (outputCount I cs) os) = omega arith in
+    h ∙ body-is I G U rest gs (outputRecords os) os b (fits (sumOf (map (outputCount I cs) os))) read (outs ∙ ap (λ (m : ℕ). outputsTo (fits m) os) z)
 
 -- The survey takes every result, unless its counts pass 2^62
 pub survey-takes : (text : List ℕ) (c : Circuit) → circuitOf text ≡ value c
