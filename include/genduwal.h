@@ -261,7 +261,7 @@ uint32_t genduwal_tree_holds(const uint64_t *tree, size_t tree_len, uint64_t num
 
 /* The same for many numbers, with one check of the tree's words. answers: for each number 1 if it is held, 0 if not, 60 if it is not 1 to 2^62.
  * As many numbers are answered as there are places; places past the last number stay as they were, and all of them where the call is refused.
- * answer: the nodes visited for each.
+ * answer: the tree's levels, as many as the nodes visited for each.
  * Refusals: 87, 88. */
 uint32_t genduwal_tree_holds_each(const uint64_t *tree, size_t tree_len, const uint64_t *numbers, size_t numbers_len, uint64_t *answers,
                                   size_t answers_len, uint64_t answer[1]);

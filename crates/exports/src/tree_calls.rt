@@ -70,7 +70,7 @@ pub extern "C" fn genduwal_tree_holds(tree: &[u64], number: u64, answer: &mut [u
     tree_answers::holds_code(held, answer)
 }
 
-// Whether a tree holds each of the numbers, with one check of its words: an answer word for each, and the nodes visited for each.
+// Whether a tree holds each of the numbers, with one check of its words: an answer word for each, and the tree's levels.
 #[no_mangle]
 pub extern "C" fn genduwal_tree_holds_each(
     tree: &[u64],

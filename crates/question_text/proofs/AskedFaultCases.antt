@@ -8,6 +8,7 @@ use native.Mathlib.Omega.{arith}
 use borrow.Author.Needs.{needs}
 use borrow.Author.Tests.{le-leb, lt-leb, not-true, not-false}
 use lib.Dec.{T, leb, leb→le}
+use lib.ListN.{length}
 use Rattle.model.specs.Base.{Answer, refused, value, _>>_, checks}
 use Rattle.model.specs.Path.{Edge, rising, falling, edgeOfFault, pathOfFault}
 use Rattle.model.specs.Read.{within}
@@ -17,7 +18,8 @@ use Rattle.model.proofs.BoolLaws.{and-left, and-right, true→T}
 use Rattle.faults.specs.Answers.{modelEdge}
 use Rattle.faults.specs.declared.Edge as Code
 use Rattle.faults.specs.declared.Edge.the-variants as edge
-use Rattle.tree_words.specs.TreeLayout.{treeRuns, levelsIn}
+use Rattle.tree_words.specs.TreeLayout.{treeRuns}
+use Rattle.tree_words.specs.Ways.{wayTo}
 use Rattle.tree_words.specs.Calls.{Asked, holdsCall}
 use Rattle.tree_words.specs.Nodes.{SoundTree}
 use Rattle.tree_descent.specs.declared.inner.Visit.{Visit}
@@ -37,20 +39,20 @@ fault-within paths fault h = rw (le-leb 1 fault h) refl
 -- ---- what the tree of its edge answers
 
 module _ (up down : List ℕ) (fault : ℕ) (v : Visit) (path : ℕ) (ep : path ≡ pathOfFault fault) (d : Code.Edge) (ed : modelEdge d ≡ edgeOfFault fault) where
-  of-tree : {tree : List ℕ} → tree ≡ treeOf up down fault → (v .held ≡ inRuns (treeRuns tree) path) × (v .visited ≡ levelsIn tree)
+  of-tree : {tree : List ℕ} → tree ≡ treeOf up down fault → (v .held ≡ inRuns (treeRuns tree) path) × (v .visited ≡ length (wayTo tree path))
       → FaultVisited v up down fault
   of-tree {tree} et e = record {
     held = e .0 ∙ ap (λ (ws : List ℕ). inRuns (treeRuns ws) path) et ∙ ap (inRuns (treeRuns (treeOf up down fault))) ep;
-    visited = e .1 ∙ ap levelsIn et;
+    visited = e .1 ∙ ap (λ (ws : List ℕ). length (wayTo ws path)) et ∙ ap (λ (k : ℕ). length (wayTo (treeOf up down fault) k)) ep;
   }
 
   tree-is : {e : Edge} → e ≡ edgeOfFault fault → ofEdge (record { onRising = up; onFalling = down }) e ≡ treeOf up down fault
   tree-is e = ap (λ (x : Edge). ofEdge (record { onRising = up; onFalling = down }) x) e
 
-  pub visited-rising : d ≡ edge.Rising → (v .held ≡ inRuns (treeRuns up) path) × (v .visited ≡ levelsIn up) → FaultVisited v up down fault
+  pub visited-rising : d ≡ edge.Rising → (v .held ≡ inRuns (treeRuns up) path) × (v .visited ≡ length (wayTo up path)) → FaultVisited v up down fault
   visited-rising k e = of-tree (tree-is (sym (ap modelEdge k) ∙ ed)) e
 
-  pub visited-falling : d ≡ edge.Falling → (v .held ≡ inRuns (treeRuns down) path) × (v .visited ≡ levelsIn down) → FaultVisited v up down fault
+  pub visited-falling : d ≡ edge.Falling → (v .held ≡ inRuns (treeRuns down) path) × (v .visited ≡ length (wayTo down path)) → FaultVisited v up down fault
   visited-falling k e = of-tree (tree-is (sym (ap modelEdge k) ∙ ed)) e
 
 -- ---- the answer

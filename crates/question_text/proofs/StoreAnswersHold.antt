@@ -17,6 +17,8 @@ use Rattle.model.specs.Calls.{faultCall}
 use Rattle.model.proofs.AnswerLaws.{checks-both, not-refused, value-inj}
 use Rattle.model.proofs.BoolLaws.{bool-cases}
 use Rattle.tree_words.specs.TreeLayout.{treeRuns, levelsIn}
+use Rattle.tree_words.specs.Ways.{wayTo}
+use Rattle.tree_words.proofs.WayLaws.{way-levels}
 use Rattle.tree_words.specs.Calls.{Asked}
 use Rattle.tree_filling.specs.TreesOfStore.{fillCall, FillTrue, TreesReady}
 use Rattle.tree_filling.specs.declared.FillAnswer.the-variants as fill
@@ -52,14 +54,14 @@ module _ (netlist store up up′ down down′ : List ℕ) (paths : ℕ) (f : Fil
         ∙ ap (λ (n : ℕ). checks ((60, within 1 (2 * n) fault) ∷ []) >> value held) (found .total)
 
     abbrev visited : Asked
-    visited = record { held = held; visited = levelsIn (treeOf up′ down′ fault) }
+    visited = record { held = held; visited = length (wayTo (treeOf up′ down′ fault) (pathOfFault fault)) }
 
     of-trees : faultAsked paths up′ down′ fault ≡ (checks ((60, within 1 (2 * paths) fault) ∷ []) >> value visited)
     of-trees =
         ⊎-elim
         (λ (t : within 1 (2 * paths) fault ≡ true).
         asked-visited paths up′ down′ fault true (sym t) refl (trees-ready (fill.Filled paths) netlist store up up′ down down′ f paths refl)
-        (record { held = held; visited = levelsIn (treeOf up′ down′ fault) })
+        (record { held = held; visited = length (wayTo (treeOf up′ down′ fault) (pathOfFault fault)) })
         (record { held = sym (ap (λ (rs : List Run). inRuns rs (pathOfFault fault)) (runs-of (edgeOfFault fault))); visited = refl })
         held refl
         ∙ rw t refl)
@@ -79,5 +81,5 @@ module _ (netlist store up up′ down down′ : List ℕ) (paths : ℕ) (f : Fil
     asks-levels a e = go (within 1 (2 * paths) fault) (sym of-trees ∙ e)
       where
         go : (t : Bool) → (checks ((60, t) ∷ []) >> value visited) ≡ value a → a .visited ≡ levelsIn (treeOf up′ down′ fault)
-        go true q = sym (ap (λ (x : Asked). x .visited) (value-inj q))
+        go true q = sym (ap (λ (x : Asked). x .visited) (value-inj q)) ∙ way-levels (treeOf up′ down′ fault) (pathOfFault fault)
         go false q = absurd (not-refused q)

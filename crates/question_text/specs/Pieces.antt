@@ -11,7 +11,8 @@ use Rattle.model.specs.Base.{Answer}
 use Rattle.model.specs.Path.{pathOfFault}
 use Rattle.model.specs.Runs.{inRuns}
 use Rattle.text_buffer.specs.Written.{Written}
-use Rattle.tree_words.specs.TreeLayout.{treeRuns, levelsIn}
+use Rattle.tree_words.specs.TreeLayout.{treeRuns}
+use Rattle.tree_words.specs.Ways.{wayTo}
 use Rattle.tree_words.specs.Calls.{Asked}
 use Rattle.tree_descent.specs.declared.inner.Visit.{Visit}
 use Rattle.tree_filling.specs.TreesOfStore.{TreesReady}
@@ -74,4 +75,4 @@ pub record PieceAnswered (s r : Asking) (paths : ℕ) (up down piece out out′ 
 -- what a tree answers for a fault
 pub record FaultVisited (r : Visit) (up down : List ℕ) (fault : ℕ) : Type 0 where
   pub held : r .held ≡ inRuns (treeRuns (treeOf up down fault)) (pathOfFault fault)
-  pub visited : r .visited ≡ levelsIn (treeOf up down fault)
+  pub visited : r .visited ≡ length (wayTo (treeOf up down fault) (pathOfFault fault))

@@ -12,8 +12,10 @@ use Rattle.model.specs.Runs.{Run, inRuns, size}
 use Rattle.tree_words.specs.TreeLayout.{levelsIn, rootIn, freeIn, leavesAt, treeRuns, soundWords, totalAt, spaceStart}
 use Rattle.tree_words.specs.Calls.{lengthRule, wordsRule, numberRule, emptyTreeCall, emptiedTree, totalCall, holdsCall, Asked}
 use Rattle.tree_words.specs.Nodes.{SoundTree, Good}
+use Rattle.tree_words.specs.Ways.{wayTo}
 use Rattle.tree_descent.specs.Descent.{VisitTrue}
 use Rattle.tree_words.proofs.ChildLaws.{level-up}
+use Rattle.tree_words.proofs.WayLaws.{way-long, way-levels}
 use Rattle.tree_words.proofs.SepLaws.{good-total}
 use Rattle.tree_words.proofs.NodeLaws.{good-bounds}
 use Rattle.tree_check.proofs.HeadCases.{words-sound, runs-none, runs-some, end-le}
@@ -97,21 +99,21 @@ module _ (ws : List ℕ) where
             ∙ ap₂ (λ (x y : ℕ). inRuns (leavesAt ws (x - 1) y) k) el er
             ∙ sym (ap (λ (rs : List Run). inRuns rs k) (runs-some ws ne′))
 
-        pub visit-levels : (k : ℕ) (b : Bool) (n : ℕ) → VisitTrue ws (l - 1) root k b n → n ≡ levelsIn ws
-        visit-levels k b n v = omega (arith, v .levels, el, level-up l ne)
+        pub visit-way : (k : ℕ) (b : Bool) (n : ℕ) → VisitTrue ws (l - 1) root k b n → n ≡ length (wayTo ws k)
+        visit-way k b n v = omega (arith, v .way, way-long ws (l - 1) root k, way-levels ws k, el, level-up l ne)
 
     pub visit-nothing : (k : ℕ) → l ≡ 0 → false ≡ inRuns (treeRuns ws) k
     unfolding inRuns
     visit-nothing k z = sym (ap (λ (rs : List Run). inRuns rs k) (runs-none ws (sym el ∙ z)))
 
-    pub visit-zero : l ≡ 0 → 0 ≡ levelsIn ws
-    visit-zero z = omega (arith, el)
+    pub visit-zero : (k : ℕ) → l ≡ 0 → 0 ≡ length (wayTo ws k)
+    visit-zero k z = omega (arith, el, way-levels ws k)
 
 -- ---- asking
 
 module _ (ws : List ℕ) (k : ℕ) where
   asked : Asked
-  asked = record { held = inRuns (treeRuns ws) k; visited = levelsIn ws }
+  asked = record { held = inRuns (treeRuns ws) k; visited = length (wayTo ws k) }
 
   pub holds-short : length ws < 32768 → refused 87 ≡ holdsCall ws k
   unfolding holdsCall asked
@@ -134,7 +136,7 @@ module _ (ws : List ℕ) (k : ℕ) where
         pub holds-high : 2 ^ 62 < k → refused 60 ≡ holdsCall ws k
         holds-high z = let w = le-leb 1 k one in let v = lt-leb k (2 ^ 62) z in sym (passed ∙ rw (w, v) refl)
 
-        module _ (high : k ≤ 2 ^ 62) (b : Bool) (n : ℕ) (eb : b ≡ inRuns (treeRuns ws) k) (en : n ≡ levelsIn ws) where
+        module _ (high : k ≤ 2 ^ 62) (b : Bool) (n : ℕ) (eb : b ≡ inRuns (treeRuns ws) k) (en : n ≡ length (wayTo ws k)) where
           taken : holdsCall ws k ≡ value (record { held = b; visited = n })
           unfolding asked
           taken =

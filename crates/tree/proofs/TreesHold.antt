@@ -10,16 +10,16 @@ use lib.ListN.{length}
 use Rattle.model.specs.Base.{Answer, refused, value}
 use Rattle.model.specs.Runs.{Run}
 use Rattle.model.specs.Store.{storeRuns}
-use Rattle.model.proofs.RunLaws.{separated→}
+use Rattle.model.proofs.RunLaws.{separated→, →separated}
 use Rattle.runs.proofs.MemberLaws.{sound-mono}
 use Rattle.tree_words.specs.TreeShape.{Levels}
 use Rattle.tree_words.specs.TreeLayout.{levelsIn, rootIn, leavesAt, treeAt, treeRuns, soundWords}
 use Rattle.tree_words.specs.Calls.{insertCall, deleteCall, Holding}
 use Rattle.tree_check.proofs.HeadCases.{words-sound, runs-some}
-use Rattle.tree_check.proofs.TreeLaws.{good-levels, levels-none, runs-of-store}
+use Rattle.tree_check.proofs.TreeLaws.{good-levels, levels-none, runs-sound, runs-few, runs-of-store}
 use Rattle.tree.specs.TreesTrue.{Changes, no-more, insertion, deletion, Shaped, TreesTrue}
 use Rattle.tree.proofs.FilledLaws.{emptied-holds}
-use Rattle.tree.proofs.VisitedLaws.{visited-levels, visited-none, visited-few}
+use Rattle.tree.proofs.VisitedLaws.{visited-way, visited-leaf, visited-levels, visited-none, visited-few}
 
 shape-holds : (ws : List ℕ) → soundWords ws ≡ true → (h : ℕ) → levelsIn ws ≡ suc h → Shaped ws h
 shape-holds ws s h l =
@@ -56,8 +56,16 @@ trees-true =
     record {
       shape = shape-holds;
       empty = λ ws s l. levels-none ws s l;
+      apart = λ ws s. →separated (2 ^ 62) 1 (treeRuns ws) (runs-sound ws s);
+      few = λ ws s. runs-few ws s;
       sameFaults = λ ws store e paths s q t h. runs-of-store ws s (storeRuns store e) (sound-mono 1 paths (2 ^ 62) (storeRuns store e) q (separated→ paths 1 (storeRuns store e) t)) h;
-      visited = λ ws k a e. record { levels = visited-levels ws k a e; none = visited-none ws k a e; most = λ w p q. visited-few ws k a e w q };
+      visited = λ ws k a e. record {
+        way = visited-way ws k a e;
+        leaf = visited-leaf ws k a e;
+        levels = visited-levels ws k a e;
+        none = visited-none ws k a e;
+        most = λ w p q. visited-few ws k a e w q;
+      };
       stays = λ ws ws′ p c. stays-tree c (emptied-holds ws p .sound);
       byRuns = by-runs;
     }

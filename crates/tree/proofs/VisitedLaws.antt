@@ -7,16 +7,20 @@ use mathlib.Core.Bool.{Bool, true}
 use mathlib.Core.Logic.{⊎-elim}
 use mathlib.Core.List.{List, [], _∷_}
 use native.Mathlib.Omega.{arith}
-use lib.ListN.{length}
+use lib.ListN.{length, getD}
 use lib.Pow.{pow-pos}
 use Rattle.model.specs.Base.{Answer, value, _>>_, Rule, checks}
-use Rattle.model.specs.Runs.{Run, inRuns}
+use Rattle.model.specs.Runs.{Run, inRun, inRuns}
 use Rattle.model.proofs.AnswerLaws.{then-first, then-second, value-inj, checks→}
 use Rattle.model.proofs.BoolLaws.{le-or-lt, T→true}
 use Rattle.tree_words.specs.TreeShape.{Levels}
-use Rattle.tree_words.specs.TreeLayout.{levelsIn, rootIn, leavesAt, treeAt, treeRuns, soundWords}
+use Rattle.tree_words.specs.TreeLayout.{levelsIn, rootIn, freeIn, spaceStart, runIn, leavesAt, treeAt, treeRuns, soundWords}
+use Rattle.tree_words.specs.Ways.{wayTo}
+use Rattle.tree_words.specs.Nodes.{Good}
 use Rattle.tree_words.specs.Calls.{Asked, holdsCall, lengthRule, wordsRule, numberRule}
 use Rattle.tree_words.proofs.ChildLaws.{many}
+use Rattle.tree_words.proofs.WayLaws.{way-levels, leaf-root}
+use Rattle.tree_descent.proofs.VisitCases.{leaf-answers}
 use Rattle.tree_check.proofs.HeadCases.{words-sound, runs-some}
 use Rattle.tree_check.proofs.TreeLaws.{levels-few, good-levels}
 
@@ -25,7 +29,7 @@ module _ (ws : List ℕ) (k : ℕ) (a : Asked) (e : holdsCall ws k ≡ value a) 
   rules = lengthRule ws ∷ wordsRule ws ∷ numberRule k ∷ []
 
   abbrev asked : Asked
-  asked = record { held = inRuns (treeRuns ws) k; visited = levelsIn ws }
+  asked = record { held = inRuns (treeRuns ws) k; visited = length (wayTo ws k) }
 
   is : (checks rules >> value asked) ≡ value a
   unfolding holdsCall
@@ -40,8 +44,21 @@ module _ (ws : List ℕ) (k : ℕ) (a : Asked) (e : holdsCall ws k ≡ value a) 
   pub held-in : a .held ≡ inRuns (treeRuns ws) k
   held-in = sym (ap (λ (x : Asked). x .held) same)
 
+  pub visited-way : a .visited ≡ length (wayTo ws k)
+  visited-way = sym (ap (λ (x : Asked). x .visited) same)
+
   pub visited-levels : a .visited ≡ levelsIn ws
-  visited-levels = sym (ap (λ (x : Asked). x .visited) same)
+  visited-levels = visited-way ∙ way-levels ws k
+
+  pub visited-leaf : (h : ℕ) → levelsIn ws ≡ suc h → a .held ≡ inRun (runIn ws (getD (wayTo ws k) h 0)) k
+  visited-leaf h l =
+      let ne : levelsIn ws ≡ 0 → ⊥ = λ y. omega arith in
+      let down : levelsIn ws - 1 ≡ h = omega arith in
+      let good = subst (λ (x : ℕ). Good ws (spaceStart (rootIn ws)) (freeIn ws) x (rootIn ws)) down (words-sound ws sound .good ne) in
+      held-in
+      ∙ ap (λ (rs : List Run). inRuns rs k) (runs-some ws ne ∙ ap (λ (x : ℕ). leavesAt ws x (rootIn ws)) down)
+      ∙ leaf-answers h (rootIn ws) k good
+      ∙ sym (ap (λ (x : ℕ). inRun (runIn ws x) k) (leaf-root ws k h l))
 
   pub visited-none : treeRuns ws ≡ [] → a .visited ≡ 0
   visited-none n =

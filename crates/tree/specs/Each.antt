@@ -23,12 +23,12 @@ heldWords rs [] os = os
 heldWords rs (k ∷ ks) [] = []
 heldWords rs (k ∷ ks) (a ∷ os) = heldWord rs k ∷ heldWords rs ks os
 
--- The call: refused by 87 and 88 alone; the nodes visited for each answer
+-- The call: refused by 87 and 88 alone; the tree's levels, as many as the nodes on the way to each answer (`TreesTrue`)
 unfoldable pub eachCall : List ℕ → Answer ℕ
 eachCall ws = checks (lengthRule ws ∷ wordsRule ws ∷ []) >> value (levelsIn ws)
 
 abbrev pub eachOf : TreeAsked → Answer ℕ
-eachOf (each.Visited n) = value n
+eachOf (each.Levels n) = value n
 eachOf (each.Refused w) = refused (refusalNumber w)
 
 -- its answer, and the answer words afterwards

@@ -46,9 +46,9 @@ pub enum TreeFound {
     Refused(Refusal),
 }
 
-// What many questions answer together: the nodes visited for each, or why none is answered.
+// What many questions answer together: the tree's levels, as many as the nodes visited for each answer, or why none is answered.
 pub enum TreeAsked {
-    Visited(usize),
+    Levels(usize),
     Refused(Refusal),
 }
 
@@ -123,7 +123,7 @@ pub fn tree_holds_each(words: &[u64], numbers: &[u64], answers: &mut [u64]) -> T
     }
     answer_each(words, numbers, answers);
     let levels = word(words, 0);
-    TreeAsked::Visited(levels)
+    TreeAsked::Levels(levels)
 }
 
 // Whether low..high is a run of path numbers.

@@ -77,7 +77,7 @@ module _ (code : ℕ) (q : code ≡ 0) (before left : List ℕ) where
   pub holds-no : (r : TreeHolds) (n : ℕ) → r ≡ holds.NotHeld n → left ≡ sets before 0 (0 ∷ n ∷ []) → Answered (holdsOf r) askedWords code before left
   holds-no r n p e = rw (q, e) (answered-value (holdsOf r) askedWords before (record { held = false; visited = n }) (ap holdsOf p))
 
-  pub each-taken : (r : TreeAsked) (n : ℕ) → r ≡ each.Visited n → left ≡ sets before 0 (numberWord n) → Answered (eachOf r) numberWord code before left
+  pub each-taken : (r : TreeAsked) (n : ℕ) → r ≡ each.Levels n → left ≡ sets before 0 (numberWord n) → Answered (eachOf r) numberWord code before left
   each-taken r n p e = rw (q, e) (answered-value (eachOf r) numberWord before n (ap eachOf p))
 
 pub ruleset found-cases = (found-refused, found-run, found-none, needs)

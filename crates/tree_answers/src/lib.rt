@@ -89,12 +89,12 @@ pub fn holds_code(held: TreeHolds, answer: &mut [u64; 2]) -> u32
     }
 }
 
-// The nodes visited for each of many answers.
+// The levels of the tree that gave many answers.
 pub fn each_code(asked: TreeAsked, answer: &mut [u64; 1]) -> u32
     ensures { λ r. ⌜ Answered (eachOf asked) numberWord r (now (answer .entry)) (now (answer .exit)) ⌝ }
 {
     match asked {
         TreeAsked::Refused(why) => refusal_number(why),
-        TreeAsked::Visited(visited) => put_number(visited as u64, answer),
+        TreeAsked::Levels(levels) => put_number(levels as u64, answer),
     }
 }

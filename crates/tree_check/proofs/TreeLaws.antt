@@ -83,6 +83,16 @@ module _ (ws : List ℕ) (s : soundWords ws ≡ true) where
       subst (λ (rs : List Run). Sep rs) (sym (runs-some ws ne)) (good-sep (words-sound ws s .good ne)))
       (le-or-lt (levelsIn ws) 0)
 
+  pub runs-few : length (treeRuns ws) ≤ 1024
+  runs-few =
+      ⊎-elim
+      (λ (z : levelsIn ws ≤ 0). let e = ap (λ (rs : List Run). length rs) (runs-none ws (omega arith)) in omega (arith, e))
+      (λ (z : 0 < levelsIn ws).
+      let ne : levelsIn ws ≡ 0 → ⊥ = λ y. omega arith in
+      let e = ap (λ (rs : List Run). length rs) (runs-some ws ne) in
+      omega (arith, e, words-sound ws s .runs ne))
+      (le-or-lt (levelsIn ws) 0)
+
   pub runs-of-set : (P : ℕ → Bool) → ((j : ℕ) → 1 ≤ j → j ≤ 2 ^ 62 → inRuns (treeRuns ws) j ≡ P j) → treeRuns ws ≡ runsOf P (2 ^ 62)
   runs-of-set P h = sym (runs-of-runs (2 ^ 62) (treeRuns ws) runs-sound) ∙ runs-same (inRuns (treeRuns ws)) P (2 ^ 62) h
 

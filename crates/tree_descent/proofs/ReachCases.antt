@@ -12,7 +12,8 @@ use Rattle.model.proofs.BoolLaws.{le-or-lt}
 use Rattle.tree_words.specs.TreeLayout.{lowAt, highAt, secondAt, thirdAt, child1, child2, child3, runIn, leavesAt}
 use Rattle.tree_words.specs.Calls.{found, firstRun}
 use Rattle.tree_words.specs.Nodes.{Good, good-two, good-three}
-use Rattle.tree_descent.specs.Descent.{lastRun, reaches, begins, childFor, childReaching, Readable, Reaching, Starting}
+use Rattle.tree_words.specs.Ways.{childFor}
+use Rattle.tree_descent.specs.Descent.{lastRun, reaches, begins, childReaching, Readable, Reaching, Starting}
 use Rattle.tree_words.proofs.NodeLaws.{good-bounds, leaves-leaf, leaves-two, leaves-three}
 use Rattle.tree_words.proofs.ChildLaws.{good-end8, good-1, good-2, good-up, level-up}
 use Rattle.tree_words.proofs.KeepLaws.{good-within}

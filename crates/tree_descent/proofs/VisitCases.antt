@@ -1,6 +1,6 @@
 -- Cases of the descent to a number: it lies below the node exactly where it lies below the child that is visited.
 -- Assumes nothing.
-use Prim.Native.Nat.{ℕ, suc, _+_, _-_, _≤_, _<_}
+use Prim.Native.Nat.{ℕ, zero, suc, _+_, _-_, _^_, _≤_, _<_}
 use mathlib.Core.Path.{_≡_, refl, sym, ap, _∙_}
 use mathlib.Core.Bool.{Bool, false, _||_, or-false, or-assoc}
 use mathlib.Core.Logic.{_⊎_, inl, inr, ⊎-elim}
@@ -14,9 +14,10 @@ use Rattle.model.proofs.BoolLaws.{le-or-lt, not→false}
 use Rattle.model.proofs.RunLaws.{In, in→}
 use Rattle.tree_words.specs.TreeLayout.{lowAt, highAt, secondAt, thirdAt, child1, child2, child3, runIn, leavesAt}
 use Rattle.tree_words.specs.Nodes.{Good, good-leaf, good-two, good-three}
-use Rattle.tree_descent.specs.Descent.{childFor}
+use Rattle.tree_words.specs.Ways.{childFor, wayFrom}
 use Rattle.tree_words.proofs.NodeLaws.{good-bounds, leaves-leaf, leaves-two, leaves-three}
 use Rattle.tree_words.proofs.ChildLaws.{good-up, level-up}
+use Rattle.tree_words.proofs.WayLaws.{leafFor, way-long, leaf-here, leaf-step}
 
 -- ---- the child to visit
 
@@ -143,6 +144,18 @@ module _ {ws : List ℕ} {start free : ℕ} where
       rw (for-first ws a k p) (sym (e ∙ rw (w, v) (or-false (inRuns (leavesAt ws h (child1 ws a)) k)))))
       (le-or-lt (secondAt ws a) k)
 
+  step : {h a : ℕ} (k : ℕ) → Good ws start free (suc h) a
+      → inRuns (leavesAt ws h (childFor ws a k)) k ≡ inRun (runIn ws (leafFor ws h (childFor ws a k) k)) k
+      → inRuns (leavesAt ws (suc h) a) k ≡ inRun (runIn ws (leafFor ws (suc h) a k)) k
+  step {h} {a} k g e = sym (in-for k g) ∙ e ∙ sym (ap (λ (x : ℕ). inRun (runIn ws x) k) (leaf-step ws a k h))
+
+  -- the leaf at the end of the way answers for the number
+  pub leaf-answers : (h a k : ℕ) → Good ws start free h a → inRuns (leavesAt ws h a) k ≡ inRun (runIn ws (leafFor ws h a k)) k
+  unfolding inRuns
+  leaf-answers zero a k g =
+      ap (λ (l : List Run). inRuns l k) (leaves-leaf ws a) ∙ or-false (inRun (runIn ws a) k) ∙ sym (ap (λ (x : ℕ). inRun (runIn ws x) k) (leaf-here ws a k))
+  leaf-answers (suc h) a k g = step k g (leaf-answers h (childFor ws a k) k (good-for k g))
+
 -- ---- the code's steps
 
 module _ (ws : List ℕ) (start free h a k : ℕ) (g : Good ws start free h a) where
@@ -154,6 +167,9 @@ module _ (ws : List ℕ) (start free h a k : ℕ) (g : Good ws start free h a) w
   visit-leaf z r e =
       e ∙ sym (or-false (inRun (runIn ws a) k)) ∙ sym (ap (λ (l : List Run). inRuns l k) (ap (λ (x : ℕ). leavesAt ws x a) z ∙ leaves-leaf ws a))
 
+  pub visit-one : h ≡ 0 → 1 ≡ length (wayFrom ws h a k)
+  visit-one z = omega (arith, way-long ws h a k)
+
   module _ (ne : h ≡ 0 → ⊥) (x : ℕ) (ex : x ≡ childFor ws a k) where
     pub visit-good : Good ws start free (h - 1) x
     visit-good = rw ex (good-for k (good-up h ne g))
@@ -163,8 +179,12 @@ module _ (ws : List ℕ) (start free h a k : ℕ) (g : Good ws start free h a) w
         e ∙ ap (λ (y : ℕ). inRuns (leavesAt ws (h - 1) y) k) ex ∙ in-for k (good-up h ne g)
         ∙ sym (ap (λ (y : ℕ). inRuns (leavesAt ws y a) k) (level-up h ne))
 
-    pub visit-count : (v : ℕ) → v ≡ h - 1 + 1 → v + 1 ≡ h + 1
-    visit-count v e = omega (arith, level-up h ne)
+    module _ (v : ℕ) (e : v ≡ length (wayFrom ws (h - 1) x k)) where
+      pub visit-count : v + 1 ≡ length (wayFrom ws h a k)
+      visit-count = omega (arith, level-up h ne, way-long ws (h - 1) x k, way-long ws h a k)
+
+      pub visit-few : h ≤ 10 → v + 1 < 2 ^ 64
+      visit-few q = omega (arith, level-up h ne, way-long ws (h - 1) x k)
 
 module _ (ws : List ℕ) (a k : ℕ) where
   pub leaf-both : lowAt ws a ≤ k → leb k (highAt ws a) ≡ inRun (runIn ws a) k

@@ -4,10 +4,11 @@ use mathlib.Core.Path.{_≡_}
 use mathlib.Core.Bool.{Bool, true, false}
 use mathlib.Core.List.{List, [], _∷_}
 use Prim.Native.Nat.{ℕ, _+_, _≤_}
-use lib.Dec.{leb, ltb, eqb}
+use lib.Dec.{leb, eqb}
 use lib.ListN.{length}
 use Rattle.model.specs.Runs.{Run, inRuns}
-use Rattle.tree_words.specs.TreeLayout.{runIn, highAt, secondAt, thirdAt, child1, child2, child3, leavesAt}
+use Rattle.tree_words.specs.TreeLayout.{runIn, highAt, child1, child2, child3, leavesAt}
+use Rattle.tree_words.specs.Ways.{wayFrom}
 use Rattle.tree_words.specs.Calls.{Found, none, found, firstRun, orElse}
 
 -- a run ends at `x` or above, or begins at `x` or below
@@ -22,18 +23,10 @@ unfoldable pub lastRun : (Run → Bool) → List Run → Found
 lastRun test [] = none
 lastRun test (r ∷ rs) = elim (test r) [ true ↦ orElse (lastRun test rs) (found r) | false ↦ lastRun test rs ]
 
--- the child below which a number lies, if it lies below the node
-unfoldable pub childFor : List ℕ → ℕ → ℕ → ℕ
-childFor ws a k =
-    elim (ltb k (secondAt ws a)) [
-      | true ↦ child1 ws a
-      | false ↦ elim (eqb (child3 ws a) 0) [ true ↦ child2 ws a | false ↦ elim (ltb k (thirdAt ws a)) [ true ↦ child2 ws a | false ↦ child3 ws a ] ]
-    ]
-
 -- whether the number lies in a run below the node, and the nodes visited on the way to the leaf
 pub record VisitTrue (ws : List ℕ) (h a k : ℕ) (held : Bool) (visited : ℕ) : Type 0 where
   pub answer : held ≡ inRuns (leavesAt ws h a) k
-  pub levels : visited ≡ h + 1
+  pub way : visited ≡ length (wayFrom ws h a k)
 
 -- the child below which the first run that ends at `x` or above lies, if there is one below the node
 unfoldable pub childReaching : List ℕ → ℕ → ℕ → ℕ

@@ -4,3 +4,4 @@ pub mod SepLaws
 pub mod MakeLaws
 pub mod ChildLaws
 pub mod KeepLaws
+pub mod WayLaws

@@ -9,7 +9,8 @@ use lib.ListN.{length, drop}
 use Rattle.model.specs.Base.{Answer, refused, value, _>>=_, _>>_, Rule, checks, passes, after}
 use Rattle.model.specs.Runs.{Run, inRun, inRuns, runsOf, size}
 use Rattle.model.specs.Store.{maxRuns}
-use Rattle.tree_words.specs.TreeLayout.{treeWords, levelsIn, treeRuns, soundWords}
+use Rattle.tree_words.specs.TreeLayout.{treeWords, treeRuns, soundWords}
+use Rattle.tree_words.specs.Ways.{wayTo}
 
 abbrev pub runOf : ℕ → ℕ → Run
 runOf l h = record { low = l; high = h }
@@ -104,7 +105,7 @@ searchCall ws x = checks (lengthRule ws ∷ wordsRule ws ∷ runRule x ∷ []) >
 unfoldable pub totalCall : List ℕ → Answer ℕ
 totalCall ws = checks (lengthRule ws ∷ wordsRule ws ∷ []) >> value (size (treeRuns ws))
 
--- Asking for a path number: whether it is held, and the nodes visited for the answer, which are as many as the tree's levels
+-- Asking for a path number: whether it is held, and the nodes visited for the answer, which are those on the way to its leaf
 pub record Asked : Type 0 where
   pub held : Bool
   pub visited : ℕ
@@ -112,4 +113,4 @@ pub record Asked : Type 0 where
 unfoldable pub holdsCall : List ℕ → ℕ → Answer Asked
 holdsCall ws k =
     checks (lengthRule ws ∷ wordsRule ws ∷ numberRule k ∷ [])
-    >> value (record { held = inRuns (treeRuns ws) k; visited = levelsIn ws })
+    >> value (record { held = inRuns (treeRuns ws) k; visited = length (wayTo ws k) })

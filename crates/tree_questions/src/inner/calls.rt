@@ -91,12 +91,12 @@ fn with_words(before: Answer, words: &[u64]) -> Answer {
     answer
 }
 
-// Many numbers with places for seven answers, which are 9 before: the nodes visited, then the seven places.
+// Many numbers with places for seven answers, which are 9 before: the tree's levels, then the seven places.
 pub(crate) fn each(numbers: &[u64], tree: &[u64]) -> Answer {
     let mut answers = [9; 7];
     let answer = tree_holds_each(tree, numbers, &mut answers);
     match answer {
-        TreeAsked::Visited(visited) => with_words(with(no_words(), visited as u64), &answers),
+        TreeAsked::Levels(levels) => with_words(with(no_words(), levels as u64), &answers),
         TreeAsked::Refused(why) => refused_by(why),
     }
 }

@@ -1,7 +1,7 @@
 -- `tree::inner::visit_root` meets its contract: an empty tree holds nothing; else the descent answers from the root.
 -- Assumes nothing.
 use borrow.Author.Needs.{needs}
-use Rattle.tree.proofs.TreeCallCases.{visit-nothing, visit-zero, visit-answer, visit-levels}
+use Rattle.tree.proofs.TreeCallCases.{visit-nothing, visit-zero, visit-answer, visit-way}
 use Rattle.tree_lookup.proofs.RootLaws.{root-good, root-free, root-few}
 use Rattle.tree.proofs.inner.visit_root.Statement.{statement}
 use Rattle.tree.proofs.inner.visit_root.Tie as tie
@@ -28,7 +28,7 @@ descend-requires : tie.Need-descend-requires
 descend-requires c κs = ((search (root-free, needs), search (root-few, needs)), search (root-good, needs))
 
 returns-2 : tie.Need-returns-2
-returns-2 c = (search (visit-answer, needs), search (visit-levels, needs))
+returns-2 c = (search (visit-answer, needs), search (visit-way, needs))
 
 pub visit-root-spec : {M : Type 1} → statement M
 visit-root-spec =

@@ -4,7 +4,7 @@ use borrow.Author.Needs.{needs}
 use Prim.Native.Nat.{ℕ, _<_}
 use borrow.Fn.Kinds.{In}
 use borrow.Fn.PlainCycle.{Measures, is, falls, and}
-use Rattle.tree_descent.proofs.VisitCases.{visit-end, visit-leaf, visit-good, visit-held, visit-count}
+use Rattle.tree_descent.proofs.VisitCases.{visit-end, visit-leaf, visit-one, visit-good, visit-held, visit-count, visit-few}
 use Rattle.tree_words.proofs.ChildLaws.{height-less, node-ends, some-height}
 use Rattle.tree_descent.proofs.inner.+descend.{statement}
 use Rattle.tree_descent.proofs.inner.+descend.Tie.{close}
@@ -38,7 +38,7 @@ descend-in-leaf-requires : (t : ℕ) → descend-lts.Need-in-leaf-requires (desc
 descend-in-leaf-requires t c κs = search (visit-end, needs)
 
 descend-returns : (t : ℕ) → descend-lts.Need-returns (descend-claims t) (descend-at t) descend.Post
-descend-returns t c = record { answer = search (visit-leaf, needs); levels = search needs }
+descend-returns t c = record { answer = search (visit-leaf, needs); way = search (visit-one, needs) }
 
 descend-next-child-requires : (t : ℕ) → descend-lts.Need-next-child-requires (descend-claims t) (descend-at t) descend.Post
 descend-next-child-requires t c κs = search (node-ends, needs)
@@ -50,10 +50,10 @@ descend-descend-requires : (t : ℕ) → descend-lts.Need-descend-requires (desc
 descend-descend-requires t c κs = (search (height-less, needs), ((search needs, search needs), search (visit-good, needs)))
 
 descend-add-visited : (t : ℕ) → descend-lts.Need-add-visited (descend-claims t) (descend-at t) descend.Post
-descend-add-visited t c = search needs
+descend-add-visited t c = record { fits = search (visit-few, needs) }
 
 descend-returns-2 : (t : ℕ) → descend-lts.Need-returns-2 (descend-claims t) (descend-at t) descend.Post
-descend-returns-2 t c = record { answer = search (visit-held, needs); levels = search (visit-count, needs) }
+descend-returns-2 t c = record { answer = search (visit-held, needs); way = search (visit-count, needs) }
 
 pub +descend-spec : {M : Type 1} → statement M
 +descend-spec = close μ-descend λ t. descend-lts.spec (descend-claims t)
