@@ -13,11 +13,11 @@ use Rattle.model.specs.Base.{anyOf, bit, numbersFrom}
 use Rattle.model.specs.Detect.{Class}
 use Rattle.model.proofs.BoolLaws.{equal-or-not}
 use Rattle.records.proofs.BitLaws.{and-bit, or-bit, zero-bit}
-use Rattle.block.specs.Words.{bitsAt, wordsAt, firstWords, pinWord}
-use Rattle.block.specs.NetStates.{plane, v1Words, v2Words, steadyWords, riseWords, fallWords, PinOpenIs, ActiveBoth}
+use Rattle.block.specs.Words.{bitsAt, wordsAt, firstWords, pinWord, PinPlace}
+use Rattle.block.specs.NetStates.{v1Words, v2Words, steadyWords, riseWords, fallWords, PinOpenIs, ActiveBoth}
 use Rattle.block.specs.declared.inner.gates.Gate.{Gate}
 use Rattle.block.specs.declared.inner.gates.Looks.{Looks}
-use Rattle.block.proofs.PlaneLaws.{plane-at, plane-first}
+use Rattle.block.proofs.PlaneLaws.{pin-at, pin-first}
 
 -- an array with one word more, from the last place down
 module _ (array : List ℕ) (i c : ℕ) (l : i < length array) where
@@ -93,17 +93,13 @@ pub record ActiveFrom (c : Class) (table : List ℕ) (g : Gate) (looks : Looks) 
 
 module _ {c : Class} {table : List ℕ} {g : Gate} {looks : Looks} {words : List ℕ} where
   -- the pin at hand
-  pin-active : {p net w : ℕ} → net < 512 → net ≡ getD table (g .first + p) 0
-      → PinOpenIs c (g .kind) looks (getD words (8 * net) 0) (getD words (8 * net + 1) 0) (getD words (8 * net + 2) 0) w
-      → PinActive c table g looks words p w (bitAnd w (getD words (8 * net + 3) 0)) (bitAnd w (getD words (8 * net + 4) 0))
-  pin-active {p} {net} {w} h e o =
-      let first : pinWord table g (v1Words words) p ≡ getD words (8 * net) 0 = ap (λ j. getD (v1Words words) j 0) (sym e) ∙ plane-first net words h in
-      let at : (i : ℕ) → pinWord table g (plane i words) p ≡ getD words (8 * net + i) 0 = (λ i. ap (λ j. getD (plane i words) j 0) (sym e) ∙ plane-at i net words h) in
-      record {
-        opened = rw (first, at 1, at 2) o;
-        rises = λ t. and-bit w (getD words (8 * net + 3) 0) t ∙ ap (λ v. bit w t && bit v t) (sym (at 3));
-        falls = λ t. and-bit w (getD words (8 * net + 4) 0) t ∙ ap (λ v. bit w t && bit v t) (sym (at 4));
-      }
+  pin-active : {p at w : ℕ} → PinPlace table g p at → PinOpenIs c (g .kind) looks (getD words at 0) (getD words (at + 1) 0) (getD words (at + 2) 0) w
+      → PinActive c table g looks words p w (bitAnd w (getD words (at + 3) 0)) (bitAnd w (getD words (at + 4) 0))
+  pin-active {p} {at} {w} h o = record {
+    opened = rw (pin-first h words, pin-at h words 1, pin-at h words 2) o;
+    rises = λ t. and-bit w (getD words (at + 3) 0) t ∙ ap (λ v. bit w t && bit v t) (sym (pin-at h words 3));
+    falls = λ t. and-bit w (getD words (at + 4) 0) t ∙ ap (λ v. bit w t && bit v t) (sym (pin-at h words 4));
+  }
 
   pub active-start : {ups downs : List ℕ} → length ups ≡ 8 → length downs ≡ 8 → ActiveFrom c table g looks words (g .pins) ups downs 0 0
   active-start {ups} a b =
@@ -125,12 +121,12 @@ module _ {c : Class} {table : List ℕ} {g : Gate} {looks : Looks} {words : List
       falls = sum-more l (x .within) few (x .falls) b;
     }
 
-    pub active-step : {net w : ℕ} → 0 < k → g .pins ≤ 8 → net < 512 → net ≡ getD table (g .first + (k - 1)) 0
-        → PinOpenIs c (g .kind) looks (getD words (8 * net) 0) (getD words (8 * net + 1) 0) (getD words (8 * net + 2) 0) w
+    pub active-step : {at w : ℕ} → 0 < k → g .pins ≤ 8 → PinPlace table g (k - 1) at
+        → PinOpenIs c (g .kind) looks (getD words at 0) (getD words (at + 1) 0) (getD words (at + 2) 0) w
         → ActiveFrom c table g looks words (k - 1)
-        (set ups (k - 1) (bitAnd w (getD words (8 * net + 3) 0))) (set downs (k - 1) (bitAnd w (getD words (8 * net + 4) 0)))
-        (bitOr up (bitAnd w (getD words (8 * net + 3) 0))) (bitOr down (bitAnd w (getD words (8 * net + 4) 0)))
-    active-step l few h e o = active-more l few (pin-active h e o)
+        (set ups (k - 1) (bitAnd w (getD words (at + 3) 0))) (set downs (k - 1) (bitAnd w (getD words (at + 4) 0)))
+        (bitOr up (bitAnd w (getD words (at + 3) 0))) (bitOr down (bitAnd w (getD words (at + 4) 0)))
+    active-step l few h o = active-more l few (pin-active h o)
 
     pub active-end : k ≤ 0 → ActiveBoth c table g looks words ups downs (record { up = up; down = down })
     active-end z =

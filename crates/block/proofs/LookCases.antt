@@ -10,22 +10,13 @@ use lib.ListN.{getD}
 use Rattle.model.specs.Base.{anyOf, bit}
 use Rattle.model.specs.Detect.{odd}
 use Rattle.records.proofs.BitLaws.{and-bit, or-bit, xor-bit, zero-bit}
-use Rattle.block.specs.Words.{bitsAt, wordsAt, unequal, twoOf, netsFrom, PinsIn, SeenAt, SeenIs}
+use Rattle.block.specs.Words.{bitsAt, wordsAt, unequal, twoOf, netsFrom, PinPlace, SeenAt, SeenIs}
 use Rattle.block.specs.Robust.{HeldIs}
 use Rattle.block.specs.NetStates.{v1Words, v2Words, steadyWords, SeesOne, LooksAre}
 use Rattle.block.specs.declared.inner.gates.Gate.{Gate}
 use Rattle.block.specs.declared.inner.gates.Seen.{Seen}
 use Rattle.block.proofs.WordLaws.{nets-more, nets-none, nets-all}
-use Rattle.block.proofs.PlaneLaws.{plane-at, plane-first}
-use Rattle.block.specs.Layout.{kindsAt}
-
--- the places of a gate's pins
-module _ {table : List ℕ} {g : Gate} (h : PinsIn table g) {k : ℕ} (m : k ≤ g .pins) (l : 0 < k) where
-  pub pin-place : g .first + (k - 1) < kindsAt
-  pin-place = omega (arith, h .few, h .inside)
-
-  pub pin-net : {net : ℕ} → net ≡ getD table (g .first + (k - 1)) 0 → net < 512
-  pin-net e = rw e (h .isNet (k - 1) (omega arith))
+use Rattle.block.proofs.PlaneLaws.{pin-at, pin-first}
 
 -- one value more
 unequal-turn : (a b : Bool) → unequal a b ≡ unequal b a
@@ -111,17 +102,16 @@ module _ {table : List ℕ} {g : Gate} {words : List ℕ} where
   look-start = record { within = omega arith; first = show-none; last = show-none; loose = show-none; held = hold-none }
 
   module _ {k : ℕ} {first last loose : Seen} {held : ℕ} (x : LookedFrom table g words k first last loose held) where
-    pub look-step : {net : ℕ} {first′ last′ loose′ : Seen} → 0 < k → net < 512 → net ≡ getD table (g .first + (k - 1)) 0
-        → SeesOne first (g .flip) (getD words (8 * net) 0) first′ → SeesOne last (g .flip) (getD words (8 * net + 1) 0) last′
-        → SeesOne loose (2 ^ 64 - 1) (getD words (8 * net + 2) 0) loose′
-        → LookedFrom table g words (k - 1) first′ last′ loose′
-        (bitOr held (bitAnd (getD words (8 * net + 2) 0) (bitXor (g .flip) (getD words (8 * net + 1) 0))))
-    look-step {net} l h e s₁ s₂ s₃ = record {
+    pub look-step : {at : ℕ} {first′ last′ loose′ : Seen} → 0 < k → PinPlace table g (k - 1) at
+        → SeesOne first (g .flip) (getD words at 0) first′ → SeesOne last (g .flip) (getD words (at + 1) 0) last′
+        → SeesOne loose (2 ^ 64 - 1) (getD words (at + 2) 0) loose′
+        → LookedFrom table g words (k - 1) first′ last′ loose′ (bitOr held (bitAnd (getD words (at + 2) 0) (bitXor (g .flip) (getD words (at + 1) 0))))
+    look-step l h s₁ s₂ s₃ = record {
       within = omega (arith, x .within);
-      first = show-more l (x .within) e (plane-first net words h) (x .first) s₁;
-      last = show-more l (x .within) e (plane-at 1 net words h) (x .last) s₂;
-      loose = show-more l (x .within) e (plane-at 2 net words h) (x .loose) s₃;
-      held = hold-more l (x .within) e (plane-at 1 net words h) (plane-at 2 net words h) (x .held);
+      first = show-more l (x .within) refl (pin-first h words) (x .first) s₁;
+      last = show-more l (x .within) refl (pin-at h words 1) (x .last) s₂;
+      loose = show-more l (x .within) refl (pin-at h words 2) (x .loose) s₃;
+      held = hold-more l (x .within) refl (pin-at h words 1) (pin-at h words 2) (x .held);
     }
 
     pub look-end : k ≤ 0 → LooksAre table g words (record { first = first; last = last; loose = loose; held = held })

@@ -13,7 +13,7 @@ use Rattle.model.specs.Detect.{nonRobust, Evaluation, noEvaluation, odd, gateVa
 use Rattle.model.specs.Read.{pinsFit, kindOf}
 use Rattle.block.specs.declared.inner.gates.Gate.{Gate}
 use Rattle.block.specs.declared.inner.gates.Seen.{Seen}
-use Rattle.block.specs.Layout.{kindsAt, pinCountsAt}
+use Rattle.block.specs.Layout.{kindsAt, pinCountsAt, netsSize}
 
 -- bit t of the word is what `f` says of record t, for the first n records
 abbrev pub WordIs : ℕ → (ℕ → Bool) → ℕ → Type 0
@@ -65,6 +65,11 @@ pub record PinsIn (table : List ℕ) (g : Gate) : Type 0 where
   pub few : g .pins ≤ 8
   pub inside : g .first + 8 ≤ kindsAt
   pub isNet : (p : ℕ) → p < g .pins → getD table (g .first + p) 0 < 512
+
+-- the place of the words of the net at pin p
+pub record PinPlace (table : List ℕ) (g : Gate) (p at : ℕ) : Type 0 where
+  pub place : at ≡ 8 * getD table (g .first + p) 0
+  pub inside : at + 8 ≤ netsSize
 
 -- the nets at the `n` pins from place `first` on, and their words
 abbrev pub netsFrom : List ℕ → ℕ → ℕ → List ℕ

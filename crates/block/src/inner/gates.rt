@@ -4,7 +4,7 @@ ghost use mathlib.Core.Path.{_≡_};
 ghost use Prim.Native.Nat.{_<_, _≤_};
 ghost use lib.ListN.{length};
 ghost use Rattle.model.specs.Read.{kindOf};
-ghost use Rattle.block.specs.Words.{flipWord, GateIs, PinsIn, AloneIs, ValueIs, OpenIs};
+ghost use Rattle.block.specs.Words.{flipWord, GateIs, PinsIn, PinPlace, AloneIs, ValueIs, OpenIs};
 ghost use Rattle.block.specs.NetStates.{SeesOne, LooksAre};
 ghost use Rattle.block.specs.Layout.{netsSize};
 use crate::inner::layout::GATE_TABLE_SIZE;
@@ -54,6 +54,14 @@ pub fn gate_at(table: &[u16; GATE_TABLE_SIZE], net: usize) -> Gate
     }
 }
 
+// Where the words of the net at a pin stand.
+pub fn pin_place(table: &[u16; GATE_TABLE_SIZE], gate: Gate, pin: usize) -> usize
+    requires { ⌜ PinsIn (now table) gate × (pin < gate .pins) ⌝ }
+    ensures { λ r. ⌜ PinPlace (now (table .entry)) gate pin r ⌝ }
+{
+    8 * inner::wide_word(table[gate.first + pin])
+}
+
 // What one pin more shows: it counts as controlling where its word differs from `flip`.
 fn see(seen: Seen, flip: u64, value: u64) -> Seen
     ensures { λ r. ⌜ SeesOne seen flip value r ⌝ }
@@ -92,7 +100,7 @@ pub fn look(table: &[u16; GATE_TABLE_SIZE], gate: Gate, words: &[u64]) -> Looks
     let mut k = gate.pins;
     while 0 < k {
         k -= 1;
-        let at = 8 * inner::wide_word(table[gate.first + k]);
+        let at = pin_place(table, gate, k);
         let v2 = words[at + 1];
         let steady = words[at + 2];
         first = see(first, flip, words[at]);

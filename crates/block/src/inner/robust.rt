@@ -13,7 +13,6 @@ use crate::inner::gates::Gate;
 use crate::inner::gates::Looks;
 use crate::inner::gates::Seen;
 use crate::inner::layout::GATE_TABLE_SIZE;
-use records::inner;
 
 // The steadiness word of a gate: no pin is loose, or one is held.
 pub fn steady_word(kind: u16, loose: u64, held: u64) -> u64
@@ -85,7 +84,7 @@ pub fn active_words(
     let mut k = gate.pins;
     while 0 < k {
         k -= 1;
-        let at = 8 * inner::wide_word(table[gate.first + k]);
+        let at = gates::pin_place(table, gate, k);
         let open = pin_word(class, gate, looks, words[at], words[at + 1], words[at + 2]);
         let rises = open & words[at + 3];
         let falls = open & words[at + 4];
