@@ -43,7 +43,7 @@ name-byte b e =
     (λ u. let r = in-range 0x61 0x7A b u in (omega arith, omega arith))
     (or-cases (within 0x30 0x39 b || within 0x41 0x5A b || eqb b 0x5F) (within 0x61 0x7A b) (true→T _ e))
 
-all-head : (x : ℕ) (xs : List ℕ) → allOf nameByte (x ∷ xs) ≡ true → (0 < x) × (x < 256)
+pub all-head : (x : ℕ) (xs : List ℕ) → allOf nameByte (x ∷ xs) ≡ true → (0 < x) × (x < 256)
 all-head x xs e = name-byte x (both-left (nameByte x) (allOf nameByte xs) e)
 
 value-same : (v w : List ℕ) → allOf nameByte v ≡ true → allOf nameByte w ≡ true
@@ -58,13 +58,13 @@ value-same (x ∷ xs) (y ∷ ys) a b e =
     let t : fromLittleEndian xs ≡ fromLittleEndian ys = omega arith in
     ap₂ (λ (n : ℕ) (l : List ℕ). n ∷ l) z (value-same xs ys (both-right (nameByte x) (allOf nameByte xs) a) (both-right (nameByte y) (allOf nameByte ys) b) t)
 
-all-take : (n : ℕ) (w : List ℕ) → allOf nameByte w ≡ true → allOf nameByte (take n w) ≡ true
+pub all-take : (n : ℕ) (w : List ℕ) → allOf nameByte w ≡ true → allOf nameByte (take n w) ≡ true
 all-take zero w a = refl
 all-take (suc n) [] a = refl
 all-take (suc n) (x ∷ xs) a =
     rw (both-left (nameByte x) (allOf nameByte xs) a) (all-take n xs (both-right (nameByte x) (allOf nameByte xs) a))
 
-all-drop : (n : ℕ) (w : List ℕ) → allOf nameByte w ≡ true → allOf nameByte (drop n w) ≡ true
+pub all-drop : (n : ℕ) (w : List ℕ) → allOf nameByte w ≡ true → allOf nameByte (drop n w) ≡ true
 all-drop zero w a = a
 all-drop (suc n) [] a = refl
 all-drop (suc n) (x ∷ xs) a = all-drop n xs (both-right (nameByte x) (allOf nameByte xs) a)
