@@ -1,2 +1,2 @@
--- Cases of the printing functions.
+-- Laws that the proofs of this crate cite.
 pub mod PrintCases

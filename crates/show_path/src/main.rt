@@ -1,7 +1,8 @@
 // Prints the path of a number, its output and each gate on the way back to the input: `show_path NUMBER [CIRCUIT]`, the netlist circuit.nl of the
-// current folder if none is named. What is wrong with the number it says on standard error, too.
+// current folder if none is named. A circuit whose name ends in .bench is .bench text, and its nets are printed with their names. What is wrong with the number it says on standard error, too.
+use command::file_name;
 use command::is_argument;
-use command::load_argument;
+use command::load_file;
 use console::NETLIST_BYTES;
 use console::empty_line;
 use console::print;
@@ -13,6 +14,10 @@ use libc::STDERR_FILENO;
 use libc::STDOUT_FILENO;
 use netlist::SurveyAnswer;
 use netlist::survey;
+use path_text::print_bench_path;
+use path_text::print_path;
+ghost use mathlib.Core.Path.{_≡_};
+ghost use lib.ListN.{length};
 
 // The number that a word stands for.
 enum Number {
@@ -48,7 +53,7 @@ fn print_usage(fd: i32) {
     print(fd, b"usage: show_path NUMBER [CIRCUIT]\n");
     print(
         fd,
-        b"Prints the path of a number. Without a name the circuit is circuit.nl.\n",
+        b"Prints the path of a number. Without a name the circuit is circuit.nl; X.bench is .bench text.\n",
     );
 }
 
@@ -74,8 +79,8 @@ fn say_number(number: u64, netlist: &[u8]) {
     }
 }
 
-// The path of the number that an argument gives; 0 stands for what is no number.
-fn print_numbered(netlist: &[u8]) {
+// The number that an argument gives; 0 stands for what is no number.
+fn number_argument() -> u64 {
     let mut word = io::buffer();
     let digits = os::arg(1, &mut word);
     let number = number_in(&word[..digits]);
@@ -85,13 +90,73 @@ fn print_numbered(netlist: &[u8]) {
                 STDERR_FILENO,
                 b"The first argument is not a number below 10^19.\n",
             );
-            path_text::print_path(STDOUT_FILENO, netlist, PathNo(0));
+            0
         }
-        Number::Value(value) => {
-            say_number(value, netlist);
-            path_text::print_path(STDOUT_FILENO, netlist, PathNo(value));
-        }
+        Number::Value(value) => value,
     }
+}
+
+// Whether the name of a file ends in `.bench`.
+fn is_text_name(name: &[u8]) -> bool {
+    let n = name.len();
+    if n < 6 {
+        return false;
+    }
+    if name[n - 6] != b'.' {
+        return false;
+    }
+    if name[n - 5] != b'b' {
+        return false;
+    }
+    if name[n - 4] != b'e' {
+        return false;
+    }
+    if name[n - 3] != b'n' {
+        return false;
+    }
+    if name[n - 2] != b'c' {
+        return false;
+    }
+    name[n - 1] == b'h'
+}
+
+// The path of a number in the netlist of a file.
+fn show_netlist(name: &[u8], number: u64) {
+    let mut bytes = [0u8; NETLIST_BYTES];
+    let circuit = load_file(name, &mut bytes);
+    let length = circuit.bytes;
+    if circuit.whole {
+        say_number(number, &bytes[..length]);
+        print_path(STDOUT_FILENO, &bytes[..length], PathNo(number));
+    }
+}
+
+// The longest text that is taken: 2 MiB.
+const TEXT_BYTES: usize = 2097152;
+
+// Zeros for a text, one byte more than the longest, so that a longer one is told apart.
+fn text_space() -> [u8; 2097153]
+    ensures { λ r. ⌜ 2097153 ≡ length r ⌝ }
+{
+    [0; 2097153]
+}
+
+// The path of a number in the .bench text of a file, with the names of the nets.
+fn show_text(name: &[u8], number: u64) {
+    let mut bytes = text_space();
+    let text = load_file(name, &mut bytes);
+    let length = text.bytes;
+    if !text.whole {
+        return;
+    }
+    if TEXT_BYTES < length {
+        print(
+            STDERR_FILENO,
+            b"The text has over 2,097,152 bytes, which this program does not hold.\n",
+        );
+        return;
+    }
+    print_bench_path(STDOUT_FILENO, &bytes[..length], PathNo(number));
 }
 
 fn main() {
@@ -103,10 +168,12 @@ fn main() {
         print_usage(STDERR_FILENO);
         return;
     }
-    let mut bytes = [0u8; NETLIST_BYTES];
-    let circuit = load_argument(2, b"circuit.nl", &mut bytes);
-    let length = circuit.bytes;
-    if circuit.whole {
-        print_numbered(&bytes[..length]);
+    let number = number_argument();
+    let mut name = io::buffer();
+    let n = file_name(2, b"circuit.nl", &mut name);
+    if is_text_name(&name[..n]) {
+        show_text(&name[..n], number);
+    } else {
+        show_netlist(&name[..n], number);
     }
 }
