@@ -33,7 +33,7 @@ fn add_run(
 }
 
 // How many numbers of the runs have each length. Two words for each run.
-pub(crate) fn held_row(
+pub fn held_row(
     netlist: &[u8],
     positions: &[u16; 512],
     counts: &[u64; 512],

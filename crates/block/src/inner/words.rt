@@ -32,7 +32,7 @@ pub struct NetState {
 }
 
 // Writes the words of a net.
-fn put_net(words: &mut [u64], net: usize, state: NetState)
+pub fn put_net(words: &mut [u64], net: usize, state: NetState)
     requires { ⌜ (net < 512) × (netsSize ≤ length (now words)) ⌝ }
     ensures { λ _. ⌜ NetPut net state (now (words .entry)) (now (words .exit)) ⌝ }
 {
@@ -74,7 +74,7 @@ pub fn input_words(
 }
 
 // The words of a gate's net, from what its pins show.
-fn net_state(gate: Gate, looks: Looks, live: Live) -> NetState
+pub fn net_state(gate: Gate, looks: Looks, live: Live) -> NetState
     requires { ⌜ (1 ≤ gate .kind) × (gate .kind ≤ 8) ⌝ }
     ensures { λ r. ⌜ StateIs (gate .kind) looks live r ⌝ }
 {

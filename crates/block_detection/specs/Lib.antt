@@ -1,0 +1,2 @@
+-- One path in a block of records.
+pub mod PathWords

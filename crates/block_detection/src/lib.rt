@@ -1,0 +1,2 @@
+// Which records of a block detect a fault. Only our own crates call it.
+pub mod inner;

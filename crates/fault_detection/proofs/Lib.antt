@@ -1,0 +1,4 @@
+pub mod WalkCases
+pub mod OpenPathLaws
+pub mod DetectionCases
+pub mod WhichTestsHold

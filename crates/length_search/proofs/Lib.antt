@@ -1,0 +1,5 @@
+pub mod FirstLaws
+pub mod FindCases
+pub mod StretchCases
+pub mod RunCases
+pub mod LongestHolds

@@ -1,0 +1,3 @@
+-- The first untested path of a length, and the longest untested paths.
+pub mod Untested
+pub mod Tasks

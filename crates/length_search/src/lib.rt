@@ -1,0 +1,2 @@
+// The first untested path of a length. Only our own crates call it.
+pub mod inner;

@@ -1,0 +1,3 @@
+pub mod FullLengthLaws
+pub mod DownCases
+pub mod LongestCases

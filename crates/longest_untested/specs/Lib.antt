@@ -1,0 +1,2 @@
+-- The call for the longest untested paths.
+pub mod LongestPaths
