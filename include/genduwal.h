@@ -199,7 +199,7 @@ uint32_t genduwal_audit_piece(const uint8_t *netlist, size_t netlist_len, const 
 
 /* The end: bytes is the length of the whole test file, first the number of the first refusal of a piece, or 0. Accepts (returns 0) if no
  * piece was refused and the report is the one that the writer gives for the store and the number of records in so many bytes. An accepting
- * call leaves the store as it was, one refused with a number other than 1 leaves it all zeros.
+ * call leaves the store as it was, and so does one refused for the store's length; any other refusal leaves it all zeros, also where first is 1.
  * Refusals: 1, 10 to 15, 17 to 21, 33, first if it is not 0, 40 to 42, 70 to 72. */
 uint32_t genduwal_audit_end(const uint8_t *netlist, size_t netlist_len, uint64_t bytes, uint32_t first, const uint8_t *report,
                             size_t report_len, uint64_t *store, size_t store_len);

@@ -4,11 +4,11 @@
 use mathlib.Core.Path.{_≡_, refl, ap, ap₂, sym, _∙_, subst}
 use mathlib.Core.Bool.{Bool, true, false}
 use mathlib.Core.List.{List, [], _∷_}
-use Prim.Native.Nat.{ℕ, zero, suc, _+_, _<_}
+use Prim.Native.Nat.{ℕ, zero, suc, _+_, _≤_, _<_}
 use native.Mathlib.Omega.{arith}
 use borrow.Author.Tests.{eq-eqb, ne-eqb}
 use lib.Dec.{eqb}
-use lib.ListN.{length, drop}
+use lib.ListN.{length}
 use Rattle.model.specs.Base.{Answer, refused, value, _>>=_, checks, passes}
 use Rattle.model.specs.Netlist.{Netlist, pathTotal}
 use Rattle.model.specs.Detect.{Class}
@@ -31,11 +31,11 @@ use Rattle.piece_steps.specs.Steps.{lentRules, withPiece, takenWith, endOf}
 use Rattle.pieces.specs.Calls.{RecordsSaid, pieceOf, recordsSaid, pieceAnswer, pieceCall, pieceLeft, PieceTrue, endStage, endCall, endAnswer, endStore, EndTrue}
 use Rattle.file_judging.specs.FileJudging.{storeChecked, soFar, endLegal}
 use Rattle.piece_steps.specs.JoinedPieces.{joined, withPieces}
-use Rattle.pieces.specs.Together.{MadeCall, callBytes, firstOf, takenIn, HandedOver, lastFirst, lastTaken, lastStore, lastMemory, OnlyByRecords, PiecesMade, WholeAudit}
+use Rattle.pieces.specs.Together.{MadeCall, callBytes, firstOf, takenIn, HandedOver, lastFirst, lastTaken, lastStore, OnlyByRecords, PiecesMade, WholeAudit}
 use Rattle.piece_steps.proofs.StepCases.{lent-passed}
 use Rattle.file_block.proofs.MemoryLaws.{left-memory}
 use Rattle.piece_steps.proofs.JoinedPieceLaws.{pieces-joined}
-use Rattle.pieces.proofs.TogetherHolds.{end-answer, end-store, end-work, begun-lent, begun-known, begun-before, begun-empty, begun-memory}
+use Rattle.pieces.proofs.TogetherHolds.{end-answer, end-store, begun-lent, begun-known, begun-before, begun-empty, begun-memory}
 use Rattle.pieces.proofs.TakenLaws.{takenWiths, taken-whole}
 
 -- One call on a legal netlist and a store that no rule refuses
@@ -92,12 +92,14 @@ module _ (netlist : List ℕ) (N : Netlist) (e : readNetlist netlist ≡ value N
   pub taken-then : takenIn r ≡ takenOf N c (fileRecords N bytes) ws
   taken-then = taken-by-answer r said
 
+-- other working memory, as long as it needs to be
+with-work : (N : Netlist) (ws work other : List ℕ) → MemoryReady N ws work → workWords ≤ length other → MemoryReady N ws other
+with-work N ws work other m l = record { storeLength = m .storeLength; sound = m .sound; workLength = l }
+
 -- What holds after a list of calls
 record AfterCalls (N : Netlist) (c : Class) (first : ℕ) (ws work : List ℕ) (ms : List MadeCall) : Type 0 where
   pub state : soFar (lastFirst first ms) (lastStore ws ms) ≡ withPieces N c (callBytes ms) (soFar first ws)
-  pub memory : MemoryReady N (lastStore ws ms) (lastMemory work ms)
-  pub sameLength : length (lastMemory work ms) ≡ length work
-  pub pastWork : drop workWords (lastMemory work ms) ≡ drop workWords work
+  pub memory : MemoryReady N (lastStore ws ms) work
   pub taken : (k : ℕ) → lastTaken first k ms ≡ takenWiths N c (callBytes ms) (soFar first ws) k
   pub byRecords : OnlyByRecords first ms
 
@@ -117,32 +119,29 @@ module _ (N : Netlist) (c : Class) (n : ℕ) where
 
 after-calls : (netlist : List ℕ) (N : Netlist) → readNetlist netlist ≡ value N → (class : ℕ) → within 1 2 class ≡ true
     → (ms : List MadeCall) (first : ℕ) (ws work : List ℕ)
-    → MemoryReady N ws work → HandedOver netlist class first ws work ms → AfterCalls N (classOf class) first ws work ms
+    → MemoryReady N ws work → HandedOver netlist class first ws ms → AfterCalls N (classOf class) first ws work ms
 unfolding withPieces withPiece takenWith soFar
-after-calls netlist N e class known [] zero ws work m p = record { state = refl; memory = m; sameLength = refl; pastWork = refl; taken = λ k. refl; byRecords = tt }
-after-calls netlist N e class known [] (suc n) ws work m p = record { state = refl; memory = m; sameLength = refl; pastWork = refl; taken = λ k. refl; byRecords = tt }
+after-calls netlist N e class known [] zero ws work m p = record { state = refl; memory = m; taken = λ k. refl; byRecords = tt }
+after-calls netlist N e class known [] (suc n) ws work m p = record { state = refl; memory = m; taken = λ k. refl; byRecords = tt }
 after-calls netlist N e class known (c ∷ cs) zero ws work m p =
-    let t = p .0 in
-    let s = state-then netlist N e class known (c .bytes) ws (c .left) work (c .workLeft) m (c .answer) t in
-    let m′ = memory-then netlist N e class known (c .bytes) ws (c .left) work (c .workLeft) m (c .answer) t in
-    let i = after-calls netlist N e class known cs (firstOf (c .answer)) (c .left) (c .workLeft) m′ (p .1) in
+    let t = p .1 in
+    let own = with-work N ws work (c .work) m (p .0) in
+    let s = state-then netlist N e class known (c .bytes) ws (c .left) (c .work) (c .workLeft) own (c .answer) t in
+    let then = memory-then netlist N e class known (c .bytes) ws (c .left) (c .work) (c .workLeft) own (c .answer) t in
+    let i = after-calls netlist N e class known cs (firstOf (c .answer)) (c .left) work (with-work N (c .left) (c .workLeft) work then (m .workLength)) (p .2) in
     record {
       state = i .state ∙ ap (withPieces N (classOf class) (callBytes cs)) s;
       memory = i .memory;
-      sameLength = i .sameLength ∙ t .memory .sameLength;
-      pastWork = i .pastWork ∙ t .memory .pastWork;
       taken = λ k. i .taken (k + takenIn (c .answer))
-          ∙ ap₂ (λ x j. takenWiths N (classOf class) (callBytes cs) x (k + j)) s (taken-then netlist N e class known (c .bytes) ws (c .left) work (c .workLeft) m (c .answer) t);
-      byRecords = (not-before netlist N e class known (c .bytes) ws (c .left) work (c .workLeft) m (c .answer) t, i .byRecords);
+          ∙ ap₂ (λ x j. takenWiths N (classOf class) (callBytes cs) x (k + j)) s (taken-then netlist N e class known (c .bytes) ws (c .left) (c .work) (c .workLeft) own (c .answer) t);
+      byRecords = (not-before netlist N e class known (c .bytes) ws (c .left) (c .work) (c .workLeft) own (c .answer) t, i .byRecords);
     }
 after-calls netlist N e class known (c ∷ cs) (suc n) ws work m p =
-    let m′ = subst (λ (s : List ℕ). MemoryReady N s (c .workLeft)) (sym (p .0)) (subst (λ (w : List ℕ). MemoryReady N ws w) (sym (p .1)) m) in
-    let i = after-calls netlist N e class known cs (suc n) (c .left) (c .workLeft) m′ (p .2) in
+    let m′ = subst (λ (s : List ℕ). MemoryReady N s work) (sym (p .0)) m in
+    let i = after-calls netlist N e class known cs (suc n) (c .left) work m′ (p .1) in
     record {
       state = i .state ∙ ap (withPieces N (classOf class) (callBytes cs)) (kept-state N (classOf class) n (c .bytes) ws (c .left));
       memory = i .memory;
-      sameLength = i .sameLength ∙ ap (length {A = ℕ}) (p .1);
-      pastWork = i .pastWork ∙ ap (λ (w : List ℕ). drop workWords w) (p .1);
       taken = λ k. i .taken k
           ∙ ap₂ (λ x j. takenWiths N (classOf class) (callBytes cs) x j) (kept-state N (classOf class) n (c .bytes) ws (c .left)) (kept-taken N (classOf class) n (c .bytes) ws k);
       byRecords = i .byRecords;
@@ -206,19 +205,18 @@ module _ (netlist : List ℕ) (class : ℕ) (ms : List MadeCall) (ws work : List
   -- and the end
   module _ (report ws′ : List ℕ) (r : EndAnswer)
       (t : EndTrue r netlist (length (joined (callBytes ms))) (lastFirst 0 ms) report (lastStore (p .emptied) ms) ws′) where
-    pub calls-made : WholeAudit r netlist class (joined (callBytes ms)) report ws ws′ work (lastMemory work ms)
+    pub calls-made : WholeAudit r netlist class (joined (callBytes ms)) report ws ws′ work
     unfolding endAnswer
     calls-made =
         let N : Netlist = p .circuit in
         let testFile : List ℕ = joined (callBytes ms) in
         let total : ℕ = length testFile in
         let left : List ℕ = lastStore (p .emptied) ms in
-        let is = end-is netlist N (p .legal) total (lastFirst 0 ms) report left (lastMemory work ms) (done .memory) in
-        let left-is = end-left-is netlist N (p .legal) total (lastFirst 0 ms) report left (lastMemory work ms) (done .memory) in
+        let is = end-is netlist N (p .legal) total (lastFirst 0 ms) report left work (done .memory) in
+        let left-is = end-left-is netlist N (p .legal) total (lastFirst 0 ms) report left work (done .memory) in
         record {
           answer = t .answer ∙ ap (λ (x : Answer (List ℕ)). passes x) (is ∙ ap (λ (x : Answer (List ℕ)). endOf N total report x) state-last)
               ∙ end-answer netlist class testFile report ws work N lent-then before-then;
           store = t .store ∙ left-is ∙ ap (λ (x : Answer (List ℕ)). leftStore (endOf N total report x)) state-last
               ∙ end-store netlist class testFile report ws work N lent-then before-then;
-          work = end-work netlist class testFile report ws work N lent-then before-then (lastMemory work ms) (done .sameLength) (done .pastWork);
         }

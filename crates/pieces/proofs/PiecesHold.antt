@@ -39,10 +39,10 @@ refused-at-once netlist class testFile report ws ws₀ work b t w q =
     record { answer = x .0; store = x .1; work = untouched netlist class testFile report ws ws₀ work (refusalNumber w) (sym (ap begunOf q) ∙ t .answer) (t .store) }
 
 call-refused-at-once : (netlist : List ℕ) (class : ℕ) (testFile report ws ws₀ work : List ℕ) (w : Refusal)
-    → BegunTrue (beginning.Refused w) netlist class ws ws₀ work → WholeAudit (ending.Refused (refusalNumber w)) netlist class testFile report ws ws₀ work work
+    → BegunTrue (beginning.Refused w) netlist class ws ws₀ work → WholeAudit (ending.Refused (refusalNumber w)) netlist class testFile report ws ws₀ work
 call-refused-at-once netlist class testFile report ws ws₀ work w t =
     let x = begun-refused netlist class testFile report ws ws₀ work (refusalNumber w) (t .answer) (t .store) in
-    record { answer = x .0; store = x .1; work = untouched netlist class testFile report ws ws₀ work (refusalNumber w) (t .answer) (t .store) }
+    record { answer = x .0; store = x .1 }
 
 -- the number of records taken
 step-places : (netlist : List ℕ) (class : ℕ) (ms : List MadePiece) (report ws ws′ work : List ℕ) (r : AuditAnswer)
@@ -50,7 +50,7 @@ step-places : (netlist : List ℕ) (class : ℕ) (ms : List MadePiece) (report w
     → lastAnswer noRecords ms .taken ≡ takenOf (s .circuit) (classOf class) (fileRecords (s .circuit) (joined (bytesOf ms))) emptyStore
 step-places netlist class ms report ws ws′ work r s =
     let ws₀ : List ℕ = s .emptied in
-    last-taken netlist (s .begun .loaded) class (s .circuit) (s .legal) noRecords ws₀ work ms (s .takes)
+    last-taken netlist (s .begun .loaded) class (s .circuit) (s .legal) noRecords ws₀ ms (s .takes)
     ∙ ap (λ (x : List ℕ). takenWiths (s .circuit) (classOf class) (bytesOf ms) (value x) 0)
     (begun-empty netlist class ws ws₀ work (s .begun .answer) (s .begins .answer) (s .isReady) (s .begins .store))
     ∙ taken-whole (s .circuit) (classOf class) (bytesOf ms) (s .whole) emptyStore
@@ -60,9 +60,9 @@ accepted-is : (r : EndAnswer) → endedOf r ≡ value tt → r ≡ ending.Accept
 accepted-is ending.Accepted e = refl
 accepted-is (ending.Refused n) e = absurd (not-refused e)
 
-whole-accepts : (netlist : List ℕ) (class : ℕ) (testFile report ws ws′ work work′ : List ℕ) (r : EndAnswer)
-    → WholeAudit r netlist class testFile report ws ws′ work work′ → (r ≡ ending.Accepted) ↔ Acceptable netlist class testFile report ws work
-whole-accepts netlist class testFile report ws ws′ work work′ r a = (
+whole-accepts : (netlist : List ℕ) (class : ℕ) (testFile report ws ws′ work : List ℕ) (r : EndAnswer)
+    → WholeAudit r netlist class testFile report ws ws′ work → (r ≡ ending.Accepted) ↔ Acceptable netlist class testFile report ws work
+whole-accepts netlist class testFile report ws ws′ work r a = (
   λ q. demand-3 .audits netlist class testFile report ws work .0 (sym (a .answer) ∙ ap endedOf q),
   λ q. accepted-is r (a .answer ∙ demand-3 .audits netlist class testFile report ws work .1 q),
 )
@@ -77,7 +77,7 @@ pieces-true = record {
   readyThen = begun-ready;
   callsMade = λ netlist class ms report ws ws′ work r s. calls-made netlist class ms ws work (s .pieces) report ws′ r (s .ends);
   callsAccept = λ netlist class ms report ws ws′ work r s.
-      whole-accepts netlist class _ report ws ws′ work _ r (calls-made netlist class ms ws work (s .pieces) report ws′ r (s .ends));
+      whole-accepts netlist class _ report ws ws′ work r (calls-made netlist class ms ws work (s .pieces) report ws′ r (s .ends));
   callRefusedAtOnce = call-refused-at-once;
   neverForStore = never-for-store;
   places = step-places;

@@ -64,9 +64,9 @@ taken-whole N c ps h ws = taken-joined N c ps h (value ws) 0 ∙ zero-add (taken
 
 -- of the values that the pieces return
 pub last-taken : (netlist : List ℕ) (loaded : Loaded) (class : ℕ) (N : Netlist) → readNetlist netlist ≡ value N
-    → (before : TakenRecords) (ws work : List ℕ) (ms : List MadePiece) → Promised netlist loaded class before ws work ms
+    → (before : TakenRecords) (ws : List ℕ) (ms : List MadePiece) → Promised netlist loaded class before ws ms
     → lastAnswer before ms .taken ≡ takenWiths N (classOf class) (bytesOf ms) (fileOf (before .answer) ws) (before .taken)
-last-taken netlist loaded class N e before ws work [] p = refl
-last-taken netlist loaded class N e before ws work (m ∷ ms) p =
-    last-taken netlist loaded class N e (m .answer) (m .left) (m .workLeft) ms (p .1)
+last-taken netlist loaded class N e before ws [] p = refl
+last-taken netlist loaded class N e before ws (m ∷ ms) p =
+    last-taken netlist loaded class N e (m .answer) (m .left) ms (p .1)
     ∙ ap₂ (λ x k. takenWiths N (classOf class) (bytesOf ms) x k) (p .0 .answer N e) (p .0 .taken N e)

@@ -39,7 +39,7 @@ use Rattle.file_records.specs.FileRecords.{Ready}
 use Rattle.file_judging.specs.FileJudging.{endBy}
 use Rattle.piece_steps.specs.JoinedPieces.{joined, WholeButLast, withPieces}
 use Rattle.piece_steps.proofs.JoinedPieceLaws.{pieces-joined}
-use Rattle.pieces.specs.Together.{piecesCall, MadePiece, bytesOf, noRecords, Promised, lastAnswer, lastLeft, lastWork, StepsMade}
+use Rattle.pieces.specs.Together.{piecesCall, MadePiece, bytesOf, noRecords, Promised, lastAnswer, lastLeft, StepsMade}
 
 -- The end of a file that was taken whole is the audit from 33 on
 pub end-file : (N : Netlist) (c : Class) (testFile report : List ℕ)
@@ -71,24 +71,14 @@ module _ (netlist : List ℕ) (N : Netlist) (e : readNetlist netlist ≡ value N
   unfolding piecesCall auditCall auditFile
   calls-joined = from-here (beforeTest netlist class ws work) refl
 
--- The values that the pieces return: the state after them, and the working memory
+-- The values that the pieces return: the state after them
 module _ (netlist : List ℕ) (loaded : Loaded) (class : ℕ) (N : Netlist) (e : readNetlist netlist ≡ value N) where
-  pub last-state : (before : TakenRecords) (ws work : List ℕ) (ms : List MadePiece) → Promised netlist loaded class before ws work ms
+  pub last-state : (before : TakenRecords) (ws : List ℕ) (ms : List MadePiece) → Promised netlist loaded class before ws ms
       → fileOf (lastAnswer before ms .answer) (lastLeft ws ms) ≡ withPieces N (classOf class) (bytesOf ms) (fileOf (before .answer) ws)
   unfolding withPieces
-  last-state before ws work [] p = refl
-  last-state before ws work (m ∷ ms) p =
-      last-state (m .answer) (m .left) (m .workLeft) ms (p .1) ∙ ap (withPieces N (classOf class) (bytesOf ms)) (p .0 .answer N e)
-
-  pub last-length : (before : TakenRecords) (ws work : List ℕ) (ms : List MadePiece) → Promised netlist loaded class before ws work ms
-      → length (lastWork work ms) ≡ length work
-  last-length before ws work [] p = refl
-  last-length before ws work (m ∷ ms) p = last-length (m .answer) (m .left) (m .workLeft) ms (p .1) ∙ p .0 .sameLength
-
-  pub last-past : (before : TakenRecords) (ws work : List ℕ) (ms : List MadePiece) → Promised netlist loaded class before ws work ms
-      → drop workWords (lastWork work ms) ≡ drop workWords work
-  last-past before ws work [] p = refl
-  last-past before ws work (m ∷ ms) p = last-past (m .answer) (m .left) (m .workLeft) ms (p .1) ∙ p .0 .pastWork
+  last-state before ws [] p = refl
+  last-state before ws (m ∷ ms) p =
+      last-state (m .answer) (m .left) ms (p .1) ∙ ap (withPieces N (classOf class) (bytesOf ms)) (p .0 .answer N e)
 
 -- An audit whose beginning passed, by its end
 module _ (netlist : List ℕ) (class : ℕ) (testFile report ws work : List ℕ) (N : Netlist) (l : lentRules ws work ≡ value tt)
@@ -142,7 +132,7 @@ module _ (netlist : List ℕ) (class : ℕ) (ws ws₀ work : List ℕ) (b : Begi
 
 -- The steps that were made
 pub pieces-made : (netlist : List ℕ) (class : ℕ) (ms : List MadePiece) (report ws ws′ work : List ℕ) (r : AuditAnswer)
-    → StepsMade netlist class ms report ws ws′ work r → AuditTrue r netlist class (joined (bytesOf ms)) report ws ws′ work (lastWork work ms)
+    → StepsMade netlist class ms report ws ws′ work r → AuditTrue r netlist class (joined (bytesOf ms)) report ws ws′ work work
 pieces-made netlist class ms report ws ws′ work r m =
     let N : Netlist = m .circuit in
     let c : Class = classOf class in
@@ -153,7 +143,7 @@ pieces-made netlist class ms report ws ws′ work r m =
     let before = begun-before netlist class ws ws₀ work (m .begun .answer) (m .begins .answer) (m .isReady) N (m .legal) in
     let empty = begun-empty netlist class ws ws₀ work (m .begun .answer) (m .begins .answer) (m .isReady) (m .begins .store) in
     let s : fileOf (lastAnswer noRecords ms .answer) (lastLeft ws₀ ms) ≡ withPiece N c testFile (value emptyStore) =
-    last-state netlist loaded class N (m .legal) noRecords ws₀ work ms (m .takes)
+    last-state netlist loaded class N (m .legal) noRecords ws₀ ms (m .takes)
     ∙ pieces-joined N c (bytesOf ms) (m .whole) (value ws₀)
     ∙ ap (λ (x : List ℕ). withPiece N c testFile (value x)) empty in
     record {
@@ -161,9 +151,7 @@ pieces-made netlist class ms report ws ws′ work r m =
           ∙ end-answer netlist class testFile report ws work N lent before;
       store = m .ends .store N (m .legal) ∙ ap (λ (x : Answer (List ℕ)). leftStore (endOf N (length testFile) report x)) s
           ∙ end-store netlist class testFile report ws work N lent before;
-      work = end-work netlist class testFile report ws work N lent before (lastWork work ms)
-          (last-length netlist loaded class N (m .legal) noRecords ws₀ work ms (m .takes))
-          (last-past netlist loaded class N (m .legal) noRecords ws₀ work ms (m .takes));
+      work = end-work netlist class testFile report ws work N lent before work refl refl;
     }
 
 -- The other steps can then be made

@@ -94,7 +94,7 @@ endCall netlist total first report ws = checks (storeRule ws ∷ []) >> endStage
 unfoldable pub endAnswer : List ℕ → ℕ → ℕ → List ℕ → List ℕ → Answer (Unit {0})
 endAnswer netlist total first report ws = passes (endCall netlist total first report ws)
 
--- the store afterwards: refused with 1 it is as found, with any other number all zeros
+-- the store afterwards: refused for its own length it is as found, for anything else all zeros, also where the answer is a first refusal of 1 or 2
 unfoldable pub endStore : List ℕ → ℕ → ℕ → List ℕ → List ℕ → List ℕ
 endStore netlist total first report ws = after (checks (storeRule ws ∷ [])) ws (λ u. leftStore (endCall netlist total first report ws))
 

@@ -3,14 +3,14 @@
 use mathlib.Core.Path.{_≡_}
 use mathlib.Core.Logic.{_↔_}
 use mathlib.Core.List.{List, [], _∷_, map}
-use Prim.Native.Nat.{ℕ, zero, suc, _+_}
+use Prim.Native.Nat.{ℕ, zero, suc, _+_, _≤_}
 use lib.ListN.{length}
 use Rattle.model.specs.Base.{Answer, value, _>>=_}
 use Rattle.model.specs.Netlist.{Netlist}
 use Rattle.model.specs.Read.{readNetlist, classOf}
 use Rattle.model.specs.Refusals.{refusalNumber}
 use Rattle.model.specs.Store.{emptyStore}
-use Rattle.model.specs.Calls.{beforeTest, WorkAfter}
+use Rattle.model.specs.Calls.{workWords, beforeTest}
 use Rattle.model.specs.Report.{fileRecords, auditCall, auditAnswer, auditStore}
 use Rattle.model.specs.Demand3.{Acceptable}
 use Rattle.model.specs.declared.Refusal.{Refusal}
@@ -40,9 +40,10 @@ piecesCall netlist class pieces report ws work =
 
 -- ---- The steps, whose tables are made once
 
--- A piece that was taken: its bytes, what it answered, and the store and the working memory as it left them
+-- A piece that was taken: its bytes, the working memory that it was handed, what it answered, and the store and that memory as it left them
 pub record MadePiece : Type 0 where
   pub bytes : List ℕ
+  pub work : List ℕ
   pub answer : TakenRecords
   pub left : List ℕ
   pub workLeft : List ℕ
@@ -54,14 +55,15 @@ bytesOf ms = map (λ m. m .bytes) ms
 abbrev pub noRecords : TakenRecords
 noRecords = record { taken = 0; answer = stage.Taken }
 
--- The promise of each piece of a list: the first gets answer, store and working memory as given, each later one as the piece before left them
-abbrev pub Promised : List ℕ → Loaded → ℕ → TakenRecords → List ℕ → List ℕ → List MadePiece → Type 0
-Promised netlist loaded class before ws work [] = Unit {0}
-Promised netlist loaded class before ws work (m ∷ ms) =
-    PieceTaken (m .answer) netlist loaded class before (m .bytes) ws (m .left) work (m .workLeft)
-    × Promised netlist loaded class (m .answer) (m .left) (m .workLeft) ms
+-- The promise of each piece of a list: the first gets answer and store as given, each later one as the piece before left them; each has whatever
+-- working memory it was handed
+abbrev pub Promised : List ℕ → Loaded → ℕ → TakenRecords → List ℕ → List MadePiece → Type 0
+Promised netlist loaded class before ws [] = Unit {0}
+Promised netlist loaded class before ws (m ∷ ms) =
+    PieceTaken (m .answer) netlist loaded class before (m .bytes) ws (m .left) (m .work) (m .workLeft)
+    × Promised netlist loaded class (m .answer) (m .left) ms
 
--- answer, store and working memory after the last
+-- answer and store after the last
 abbrev pub lastAnswer : TakenRecords → List MadePiece → TakenRecords
 lastAnswer before [] = before
 lastAnswer before (m ∷ ms) = lastAnswer (m .answer) ms
@@ -69,10 +71,6 @@ lastAnswer before (m ∷ ms) = lastAnswer (m .answer) ms
 abbrev pub lastLeft : List ℕ → List MadePiece → List ℕ
 lastLeft ws [] = ws
 lastLeft ws (m ∷ ms) = lastLeft (m .left) ms
-
-abbrev pub lastWork : List ℕ → List MadePiece → List ℕ
-lastWork work [] = work
-lastWork work (m ∷ ms) = lastWork (m .workLeft) ms
 
 -- Steps that were made: a beginning that is ready, the pieces `ms` in order, all in one class, and an end that returned `r`, each as promised
 pub record StepsMade (netlist : List ℕ) (class : ℕ) (ms : List MadePiece) (report ws ws′ work : List ℕ) (r : AuditAnswer) : Type 0 where
@@ -82,15 +80,17 @@ pub record StepsMade (netlist : List ℕ) (class : ℕ) (ms : List MadePiece) (r
   pub emptied : List ℕ
   pub begins : BeginTrue begun netlist class ws emptied work
   pub isReady : begun .answer ≡ beginning.Ready
-  pub takes : Promised netlist (begun .loaded) class noRecords emptied work ms
+  pub takes : Promised netlist (begun .loaded) class noRecords emptied ms
   pub whole : WholeButLast circuit (bytesOf ms)
   pub ends : Ended r netlist (lastAnswer noRecords ms .answer) (length (joined (bytesOf ms))) report (lastLeft emptied ms) ws′
 
 -- ---- The public calls
 
--- A piece that was handed over, or not handed over any more: its bytes, what the call answered, and the store and the working memory afterwards
+-- A piece that was handed over, or not handed over any more: its bytes, the working memory that it was handed, what the call answered, and the
+-- store and that memory afterwards
 pub record MadeCall : Type 0 where
   pub bytes : List ℕ
+  pub work : List ℕ
   pub answer : PieceAnswer
   pub left : List ℕ
   pub workLeft : List ℕ
@@ -109,15 +109,17 @@ takenIn (piece.Taken k) = k
 takenIn (piece.RecordRefused k w) = k
 takenIn (piece.Refused w) = 0
 
--- The promise of each call of a list, the first refusal so far being `first`; once there is one, no call is made and nothing changes
-abbrev pub HandedOver : List ℕ → ℕ → ℕ → List ℕ → List ℕ → List MadeCall → Type 0
-HandedOver netlist class first ws work [] = Unit {0}
-HandedOver netlist class zero ws work (m ∷ ms) =
-    PieceTrue (m .answer) netlist class (m .bytes) ws (m .left) work (m .workLeft)
-    × HandedOver netlist class (firstOf (m .answer)) (m .left) (m .workLeft) ms
-HandedOver netlist class (suc n) ws work (m ∷ ms) = (m .left ≡ ws) × (m .workLeft ≡ work) × HandedOver netlist class (suc n) (m .left) (m .workLeft) ms
+-- The promise of each call of a list, the first refusal so far being `first`, each with working memory long enough, whatever is in it; once there
+-- is a refusal, no call is made and the store stays
+abbrev pub HandedOver : List ℕ → ℕ → ℕ → List ℕ → List MadeCall → Type 0
+HandedOver netlist class first ws [] = Unit {0}
+HandedOver netlist class zero ws (m ∷ ms) =
+    (workWords ≤ length (m .work))
+    × PieceTrue (m .answer) netlist class (m .bytes) ws (m .left) (m .work) (m .workLeft)
+    × HandedOver netlist class (firstOf (m .answer)) (m .left) ms
+HandedOver netlist class (suc n) ws (m ∷ ms) = (m .left ≡ ws) × HandedOver netlist class (suc n) (m .left) ms
 
--- first refusal, number of records taken, store and working memory after the last
+-- first refusal, number of records taken and store after the last
 abbrev pub lastFirst : ℕ → List MadeCall → ℕ
 lastFirst first [] = first
 lastFirst zero (m ∷ ms) = lastFirst (firstOf (m .answer)) ms
@@ -132,10 +134,6 @@ abbrev pub lastStore : List ℕ → List MadeCall → List ℕ
 lastStore ws [] = ws
 lastStore ws (m ∷ ms) = lastStore (m .left) ms
 
-abbrev pub lastMemory : List ℕ → List MadeCall → List ℕ
-lastMemory work [] = work
-lastMemory work (m ∷ ms) = lastMemory (m .workLeft) ms
-
 -- no call of a list was refused before its records: not for the lent memory, not for the netlist, not for the class, not for the store
 abbrev pub OnlyByRecords : ℕ → List MadeCall → Type 0
 OnlyByRecords first [] = Unit {0}
@@ -148,7 +146,7 @@ pub record PiecesMade (netlist : List ℕ) (class : ℕ) (ms : List MadeCall) (w
   pub legal : readNetlist netlist ≡ value circuit
   pub emptied : List ℕ
   pub begins : BegunTrue beginning.Ready netlist class ws emptied work
-  pub takes : HandedOver netlist class 0 emptied work ms
+  pub takes : HandedOver netlist class 0 emptied ms
   pub whole : WholeButLast circuit (callBytes ms)
 
 -- and the end, which returned `r`
@@ -156,11 +154,10 @@ pub record CallsMade (netlist : List ℕ) (class : ℕ) (ms : List MadeCall) (re
   pub pieces : PiecesMade netlist class ms ws work
   pub ends : EndTrue r netlist (length (joined (callBytes ms))) (lastFirst 0 ms) report (lastStore (pieces .emptied) ms) ws′
 
--- the promise of the audit of a whole file, of an answer that is a number
-pub record WholeAudit (r : EndAnswer) (netlist : List ℕ) (class : ℕ) (testFile report ws ws′ found left : List ℕ) : Type 0 where
-  pub answer : endedOf r ≡ auditAnswer netlist class testFile report ws found
-  pub store : ws′ ≡ auditStore netlist class testFile report ws found
-  pub work : WorkAfter netlist class ws found left
+-- answer and store of the audit of a whole file, of an answer that is a number
+pub record WholeAudit (r : EndAnswer) (netlist : List ℕ) (class : ℕ) (testFile report ws ws′ work : List ℕ) : Type 0 where
+  pub answer : endedOf r ≡ auditAnswer netlist class testFile report ws work
+  pub store : ws′ ≡ auditStore netlist class testFile report ws work
 
 -- ---- What is claimed
 
@@ -169,9 +166,10 @@ pub record PiecesTrue : Type 0 where
   pub calls : (netlist : List ℕ) (N : Netlist) → readNetlist netlist ≡ value N
       → (class : ℕ) (pieces : List (List ℕ)) → WholeButLast N pieces
       → (report ws work : List ℕ) → piecesCall netlist class pieces report ws work ≡ auditCall netlist class (joined pieces) report ws work
-  -- of the values that the steps return: the promise of the audit of the whole file, its store and working memory included
+  -- of the values that the steps return, whatever working memory each piece was handed: the promise of the audit of the whole file, its store
+  -- included. The memory is that of the beginning, which changes none; what a piece changes of its own is in its promise
   pub made : (netlist : List ℕ) (class : ℕ) (ms : List MadePiece) (report ws ws′ work : List ℕ) (r : AuditAnswer) → StepsMade netlist class ms report ws ws′ work r
-      → AuditTrue r netlist class (joined (bytesOf ms)) report ws ws′ work (lastWork work ms)
+      → AuditTrue r netlist class (joined (bytesOf ms)) report ws ws′ work work
   -- so they accept exactly the true report of the whole file
   pub accepts : (netlist : List ℕ) (class : ℕ) (ms : List MadePiece) (report ws ws′ work : List ℕ) (r : AuditAnswer) → StepsMade netlist class ms report ws ws′ work r
       → (r ≡ audit.Accepted) ↔ Acceptable netlist class (joined (bytesOf ms)) report ws work
@@ -180,14 +178,14 @@ pub record PiecesTrue : Type 0 where
       → (w : Refusal) → b .answer ≡ beginning.Refused w → AuditTrue (audit.Refused w) netlist class testFile report ws ws₀ work work
   pub readyThen : (netlist : List ℕ) (class : ℕ) (ws ws₀ work : List ℕ) (b : Begun) → BeginTrue b netlist class ws ws₀ work → b .answer ≡ beginning.Ready
       → Ready netlist (b .loaded) ws₀ work
-  -- the same of the values that the public calls return
+  -- the same of the values that the public calls return, whatever is in the working memory that each piece is handed
   pub callsMade : (netlist : List ℕ) (class : ℕ) (ms : List MadeCall) (report ws ws′ work : List ℕ) (r : EndAnswer) → CallsMade netlist class ms report ws ws′ work r
-      → WholeAudit r netlist class (joined (callBytes ms)) report ws ws′ work (lastMemory work ms)
+      → WholeAudit r netlist class (joined (callBytes ms)) report ws ws′ work
   pub callsAccept : (netlist : List ℕ) (class : ℕ) (ms : List MadeCall) (report ws ws′ work : List ℕ) (r : EndAnswer) → CallsMade netlist class ms report ws ws′ work r
       → (r ≡ ending.Accepted) ↔ Acceptable netlist class (joined (callBytes ms)) report ws work
   pub callRefusedAtOnce : (netlist : List ℕ) (class : ℕ) (testFile report ws ws₀ work : List ℕ) (w : Refusal)
       → BegunTrue (beginning.Refused w) netlist class ws ws₀ work
-      → WholeAudit (ending.Refused (refusalNumber w)) netlist class testFile report ws ws₀ work work
+      → WholeAudit (ending.Refused (refusalNumber w)) netlist class testFile report ws ws₀ work
   -- a piece call that gets the store as the call before left it is never refused for its store
   pub neverForStore : (netlist : List ℕ) (class : ℕ) (ms : List MadeCall) (ws work : List ℕ) → PiecesMade netlist class ms ws work → OnlyByRecords 0 ms
   -- the numbers of records taken are those of the whole file: the first refused record stands just after them

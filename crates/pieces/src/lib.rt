@@ -112,7 +112,8 @@ fn piece_on(
 }
 
 // The end, of a file of so many bytes whose first refusal has the number `first`, 0 if there is none. The order: the store's length, the netlist,
-// the file's length, the first refusal, the store, the report. Refused with any other number than the store's length it leaves the store empty.
+// the file's length, the first refusal, the store, the report. Refused for anything but the store's length it leaves the store empty, also
+// where the first refusal is 1 or 2.
 pub fn audit_end(
     netlist: &[u8],
     bytes: u64,
