@@ -115,6 +115,9 @@ module _ (netlist : List ℕ) (N : Netlist) where
       returnedTrue = λ before m rest q r a.
           let p′ = subst (λ (x : List MadeCall). Promised netlist emptyStore x) q p in
           earlier before m rest p′ .returnedTrue (m .call) r (sym (answered before m rest p′) ∙ a);
+      otherClass = λ before m rest q l k.
+          let p′ = subst (λ (x : List MadeCall). Promised netlist emptyStore x) q p in
+          answered before m rest p′ ∙ earlier before m rest p′ .otherClass (m .call) l k;
     }
 
 -- the answers, from their numbers and values
@@ -146,6 +149,8 @@ calls-true = record {
   );
   acceptedNames = λ r netlist class testFile report ws ws′ found left a q.
       demand-3 .acceptedNames netlist class testFile report ws found (sym (a .answer) ∙ ap auditedOf q);
+  auditsOtherClass = λ r netlist class testFile report ws ws′ found left a N e k l m.
+      a .answer ∙ demand-3 .auditsOtherClass netlist N e class k testFile report ws found l m;
 }
 
 -- Ticket 8

@@ -2,6 +2,7 @@
 -- Assumes nothing.
 use mathlib.Core.Path.{_≡_}
 use mathlib.Core.Logic.{_↔_}
+use mathlib.Core.Bool.{not}
 use mathlib.Core.List.{List, [], _∷_, _++_, map, List·Memᴰ}
 use Prim.Native.Nat.{ℕ, _≤_}
 use lib.Dec.{T}
@@ -12,8 +13,8 @@ use Rattle.model.specs.Path.{Edge, rising, falling, Fault, valid, numberOf}
 use Rattle.model.specs.Detect.{Class, Test}
 use Rattle.model.specs.Read.{readNetlist, classOf}
 use Rattle.model.specs.Runs.{inRuns}
-use Rattle.model.specs.Store.{emptyStore, storeRuns, testsTaken}
-use Rattle.model.specs.Calls.{FaultCounts, totalsCall}
+use Rattle.model.specs.Store.{emptyStore, storeRuns, testsTaken, storeWords}
+use Rattle.model.specs.Calls.{FaultCounts, totalsCall, workWords}
 use Rattle.model.specs.Report.{fileRecords, reportBufferBytes}
 use Rattle.model.specs.Demand3.{Call, testIn, knownClass, CountOf, Detected, RunsOfDetected, detectedBy, NoRefusal, Returned, WhollyTaken, FileCalls, testsOf, TrueReport, NamesDetected, Acceptable}
 use Rattle.model.specs.Unchanged.{Unchanged}
@@ -27,6 +28,7 @@ use Rattle.report.specs.Answers.{WriteTrue}
 use Rattle.report.specs.declared.WriteAnswer.{WriteAnswer}
 use Rattle.report.specs.declared.WriteAnswer.the-variants as write
 use Rattle.audit.specs.Answers.{AuditTrue}
+use Rattle.file_judging.specs.FileJudging.{auditedOf}
 use Rattle.file_judging.specs.declared.AuditAnswer.{AuditAnswer}
 use Rattle.file_judging.specs.declared.AuditAnswer.the-variants as audit
 
@@ -85,6 +87,9 @@ pub record ListTrue (netlist : List ℕ) (N : Netlist) (ms : List MadeCall) : Ty
       → TakenCall m ↔ NoRefusal N (takenTests N [] before) (m .call)
   pub returnedTrue : (before : List MadeCall) (m : MadeCall) (rest : List MadeCall) → ms ≡ before ++ (m ∷ rest)
       → (r : FaultCounts) → testedOf (m .answer) ≡ value r → (e : Edge) → Returned N (takenTests N [] before) (testIn N (m .call)) e r
+  -- a call with memory long enough that was handed another class was refused 83
+  pub otherClass : (before : List MadeCall) (m : MadeCall) (rest : List MadeCall) → ms ≡ before ++ (m ∷ rest)
+      → workWords ≤ length (m .call .work) → T (not (knownClass (m .call .class))) → testedOf (m .answer) ≡ refused 83
 
 -- What the writer left and returned: the true report, which names exactly the faults that the tests detect, and the bytes past it as they were
 pub record WrittenTrue (N : Netlist) (c : Class) (testFile found left : List ℕ) (r : WriteAnswer) : Type 0 where
@@ -111,6 +116,11 @@ pub record CallsTrue : Type 0 where
   pub acceptedNames : (r : AuditAnswer) (netlist : List ℕ) (class : ℕ) (testFile report ws ws′ found left : List ℕ)
       → AuditTrue r netlist class testFile report ws ws′ found left
       → r ≡ audit.Accepted → (N : Netlist) → readNetlist netlist ≡ value N → NamesDetected N (testsOf N (classOf class) testFile) report
+  -- on a legal netlist, with memory of 01's lengths, an audit that was handed another class was refused 83
+  pub auditsOtherClass : (r : AuditAnswer) (netlist : List ℕ) (class : ℕ) (testFile report ws ws′ found left : List ℕ)
+      → AuditTrue r netlist class testFile report ws ws′ found left
+      → (N : Netlist) → readNetlist netlist ≡ value N → T (not (knownClass class)) → length ws ≡ storeWords → workWords ≤ length found
+      → auditedOf r ≡ refused 83
 
 -- Pairs that change nothing, of the value that the audit returns: a report whose list of tests holds one is not accepted
 pub record PaddingRefused : Type 0 where
