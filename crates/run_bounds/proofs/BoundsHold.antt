@@ -32,6 +32,9 @@ use Rattle.coverage.specs.TestCall.{testedOf}
 use Rattle.file_judging.specs.FileJudging.{auditedOf, storeChecked}
 use Rattle.audit.specs.Promised.{lastStore, takenTests}
 use Rattle.audit.proofs.PromisesHold.{calls-true}
+use Rattle.all_pairs.specs.AllPairs.{allPairs}
+use Rattle.all_pairs.specs.Exhaust.{fewInputs, pairsOn, exhaustCall, exhaustAnswer}
+use Rattle.exhaust.specs.Answers.{exhaustOf}
 use Rattle.pieces.specs.Calls.{RecordsSaid, recordsSaid, pieceOf, pieceAnswer}
 use Rattle.run_bounds.specs.Bounds.{smallTotal, RunsBounded, FewRuns, CallsFewRuns}
 use Rattle.run_bounds.proofs.AvoidLaws.{Avoids, avoids, avoid-then, avoid-bind, avoid-checks}
@@ -117,6 +120,15 @@ module _ (netlist : List ℕ) (N : Netlist) (q : readNetlist netlist ≡ value N
       (avoid-then 51 (checks (whole N)) (tests N) (avoid-checks 51 (whole N) tt) (all-room N h (classOf class) (fileRecords N testFile) emptyStore))
       (λ left. avoid-then 51 (checks (rules N left)) (value left) (avoid-checks 51 (rules N left) tt) tt))) tt))
 
+  no-pairs-full : (class : ℕ) (ws work : List ℕ) → exhaustAnswer netlist class ws work ≡ refused 51 → ⊥
+  unfolding exhaustAnswer exhaustCall pairsOn
+  no-pairs-full class ws work =
+      let f : Netlist → Answer (List ℕ) = λ M. pairsOn M (classOf class) in
+      avoids 51 (exhaustAnswer netlist class ws work)
+      (rw q (avoid-bind 51 (beforeThen N class ws work f) _
+      (before-avoids N class ws work f
+      (avoid-then 51 (checks (fewInputs N ∷ [])) _ (avoid-checks 51 (fewInputs N ∷ []) tt) (all-room N h (classOf class) (allPairs (N .inputs)) emptyStore))) (λ left. tt)))
+
   -- the records of a piece: the netlist that they are judged on is the one that was read
   no-record-full : (class : ℕ) (bytes ws work : List ℕ) (said : RecordsSaid) → said .said ≡ refused 51 → value said ≡ pieceAnswer netlist class bytes ws work → ⊥
   unfolding pieceAnswer recordsSaid
@@ -139,6 +151,7 @@ few-runs-hold = record {
       bounded N (legal netlist N q) (s .taken) (s .store) e (demand-3 .afterEveryList netlist N q calls .holdsNoOther e);
   noTestFull = no-test-full;
   noAuditFull = no-audit-full;
+  noPairsFull = no-pairs-full;
 }
 
 -- and of the values that the functions return
@@ -149,6 +162,7 @@ calls-few-runs = record {
   noTestFull = λ r netlist N q h class rec ws ws′ found left t full. no-test-full netlist N q h class rec ws found (sym (t .answer) ∙ ap testedOf full);
   noAuditFull = λ r netlist N q h class testFile report ws ws′ found left t full.
       no-audit-full netlist N q h class testFile report ws found (sym (t .answer) ∙ ap auditedOf full);
+  noPairsFull = λ r netlist N q h class ws ws′ found left t full. no-pairs-full netlist N q h class ws found (sym (t .answer) ∙ ap exhaustOf full);
   noRecordFull = λ r netlist N q h class bytes ws ws′ found left t taken full.
       no-record-full netlist N q h class bytes ws found (record { taken = taken; said = refused 51 }) refl (sym (ap pieceOf full) ∙ t .answer);
 }

@@ -21,6 +21,10 @@ use Rattle.file_judging.specs.declared.AuditAnswer.{AuditAnswer}
 use Rattle.file_judging.specs.declared.AuditAnswer.the-variants as audit
 use Rattle.audit.specs.Answers.{AuditTrue}
 use Rattle.audit.specs.Promised.{MadeCall, Promised, lastStore, takenTests}
+use Rattle.all_pairs.specs.Exhaust.{exhaustAnswer}
+use Rattle.exhaust.specs.Answers.{ExhaustTrue}
+use Rattle.exhaust.specs.declared.ExhaustAnswer.{ExhaustAnswer}
+use Rattle.exhaust.specs.declared.ExhaustAnswer.the-variants as exhaust
 use Rattle.pieces.specs.Calls.{PieceTrue}
 use Rattle.pieces.specs.declared.PieceAnswer.{PieceAnswer}
 use Rattle.pieces.specs.declared.PieceAnswer.the-variants as piece
@@ -50,6 +54,9 @@ pub record FewRuns : Type 0 where
   -- and no audit
   pub noAuditFull : (netlist : List ℕ) (N : Netlist) → readNetlist netlist ≡ value N → pathTotal N ≤ smallTotal
       → (class : ℕ) (testFile report ws work : List ℕ) → auditAnswer netlist class testFile report ws work ≡ refused 51 → ⊥
+  -- and no call with all pairs
+  pub noPairsFull : (netlist : List ℕ) (N : Netlist) → readNetlist netlist ≡ value N → pathTotal N ≤ smallTotal
+      → (class : ℕ) (ws work : List ℕ) → exhaustAnswer netlist class ws work ≡ refused 51 → ⊥
 
 -- The same of the values that the functions return, by their promises
 pub record CallsFewRuns : Type 0 where
@@ -60,6 +67,8 @@ pub record CallsFewRuns : Type 0 where
   pub noAuditFull : (r : AuditAnswer) (netlist : List ℕ) (N : Netlist) → readNetlist netlist ≡ value N → pathTotal N ≤ smallTotal
       → (class : ℕ) (testFile report ws ws′ found left : List ℕ) → AuditTrue r netlist class testFile report ws ws′ found left
       → r ≡ audit.Refused refusal.StoreRuns → ⊥
+  pub noPairsFull : (r : ExhaustAnswer) (netlist : List ℕ) (N : Netlist) → readNetlist netlist ≡ value N → pathTotal N ≤ smallTotal
+      → (class : ℕ) (ws ws′ found left : List ℕ) → ExhaustTrue r netlist class ws ws′ found left → r ≡ exhaust.Refused refusal.StoreRuns → ⊥
   -- and no record of a piece, where a test file is audited in pieces
   pub noRecordFull : (r : PieceAnswer) (netlist : List ℕ) (N : Netlist) → readNetlist netlist ≡ value N → pathTotal N ≤ smallTotal
       → (class : ℕ) (bytes ws ws′ found left : List ℕ) → PieceTrue r netlist class bytes ws ws′ found left
