@@ -1,6 +1,6 @@
--- The rows of an answer: they add up to T and to the store's totals, no number of held faults passes that of the paths, and no path has 0 gates.
+-- The rows of an answer: they are over paths, add up to T and to the store's totals, no number of held faults passes that of the paths, and no path has 0 gates; 84 exactly for a path of more than 63.
 -- Assumes nothing.
-use mathlib.Core.Path.{_≡_, refl, ap, sym, _∙_}
+use mathlib.Core.Path.{_≡_, refl, ap, sym, _∙_, subst}
 use mathlib.Core.Logic.{⊎-elim}
 use mathlib.Core.Bool.{Bool, true, false, _&&_, not}
 use mathlib.Core.List.{List, [], _∷_, _++_}
@@ -8,25 +8,28 @@ use Prim.Native.Nat.{ℕ, _+_, _-_, _≤_, _<_}
 use native.Mathlib.Omega.{arith}
 use lib.Dec.{T, leb, ltb, eqb, eqb→eq}
 use lib.ListN.{length, getD}
-use Rattle.model.specs.Base.{Answer, value, _>>_, checks, sumOf}
+use Rattle.model.specs.Base.{Answer, refused, value, _>>_, checks, sumOf}
 use Rattle.model.specs.Netlist.{Netlist, pathTotal}
 use Rattle.model.specs.Path.{Edge, pathOf}
 use Rattle.model.specs.Runs.{Run, Separated, inRuns, size, howMany, separatedRuns}
 use Rattle.model.specs.Read.{readNetlist}
-use Rattle.model.specs.Store.{ByEdge, byEdge, ofEdge, storeRuns, storeRules}
+use Rattle.model.specs.Store.{ByEdge, byEdge, ofEdge, storeWords, storeRuns, storeRules}
 use Rattle.model.specs.Calls.{storeRule, totalsCall}
 use Rattle.model.proofs.BoolLaws.{bool-cases, T→true, true→T, not→false, eqb-false, eq→eqb}
-use Rattle.model.proofs.AnswerLaws.{AllPass, steps, checks→, →checks, then-first, then-second, value-inj, pass-first, pass-second}
+use Rattle.model.proofs.AnswerLaws.{AllPass, steps, checks→, →checks, checks-both, then-first, then-second, not-refused, value-inj, pass-first, pass-second}
+use Rattle.model.proofs.ReadLaws.{legal}
 use Rattle.model.proofs.RunLaws.{separated→, runs-of-runs}
 use Rattle.model.proofs.RunSizeLaws.{howMany-same, runs-size}
+use Rattle.model.proofs.WellFormed.{WellFormed}
 use Rattle.model.proofs.HoldingLaws.{at-edge, ofEdge-byEdge}
 use Rattle.model.proofs.NumberingHolds.{numbering-true}
 use Rattle.model.proofs.WiresHold.{wires}
-use Rattle.length_rows.specs.Lengths.{lengths, row, lengthOf, ofLength, pathsUpTo, heldUpTo, Rows, rowsOf, lengthRule, lengthsCall, RowsTrue}
+use Rattle.length_rows.specs.Lengths.{lengths, row, lengthOf, ofLength, pathsUpTo, heldUpTo, Rows, rowsOf, lengthRule, lengthsCall, PathCount, PathOfLength, HeldOfLength, RowsTrue, TooLong}
 use Rattle.length_rows.proofs.HowManyLaws.{howMany-none, howMany-zero, howMany-fewer}
 use Rattle.length_rows.proofs.PartitionLaws.{less, classes-rest, howMany-classes}
 use Rattle.length_rows.proofs.RunCountLaws.{in-no-runs, in-first-run}
 use Rattle.length_rows.proofs.RowLaws.{row-at}
+use Rattle.length_rows.proofs.PathCountLaws.{paths-counted, held-counted, long→, →long}
 
 -- The numbers in runs, run by run
 module _ (N : Netlist) (l : ℕ) where
@@ -70,6 +73,16 @@ module _ (N : Netlist) (ws : List ℕ) (e : Edge) where
         row-at (λ k. pathsUpTo N k (pathTotal N)) l h,
         held-few N l (inRuns (storeRuns ws e)) (pathTotal N),
       )
+
+  -- the numbers in the rows are those of paths
+  module _ (w : WellFormed N) (l : ℕ) (h : l < lengths) where
+    pub paths-true : PathCount (PathOfLength N l) (getD (rowsOf N ws e .paths) l 0)
+    unfolding rowsOf
+    paths-true = subst (PathCount (PathOfLength N l)) (sym (row-at (λ k. pathsUpTo N k (pathTotal N)) l h)) (paths-counted N w l)
+
+    pub held-true : PathCount (HeldOfLength N ws e l) (getD (rowsOf N ws e .held) l 0)
+    unfolding rowsOf
+    held-true = subst (PathCount (HeldOfLength N ws e l)) (sym (row-at (λ k. heldUpTo N (inRuns (storeRuns ws e)) k (pathTotal N)) l h)) (held-counted N w ws e l)
 
   -- 84 holds exactly where the paths' row does not add up to T
   pub too-long : lengthRule N .1 ≡ eqb (sumOf (rowsOf N ws e .paths)) (pathTotal N)
@@ -122,6 +135,8 @@ rows-true netlist ws r q =
     record {
       circuit = N;
       legal = read;
+      pathsTrue = λ d l h. rw (rows d) (paths-true N ws d (legal netlist N read) l h);
+      heldTrue = λ d l h. rw (rows d) (held-true N ws d (legal netlist N read) l h);
       pathsAdd = λ d.
           ap (λ (x : Rows). sumOf (x .paths)) (rows d)
           ∙ omega (arith, paths-add N ws d, eqb→eq (howMany (λ k. leb lengths (lengthOf N k)) (pathTotal N)) 0 short);
@@ -134,3 +149,32 @@ rows-true netlist ws r q =
       heldFew = λ d l h. rw (rows d) (held-at-most N ws d l h);
       noneWithoutGate = λ d. ap (λ (x : Rows). getD (x .paths) 0 0) (rows d) ∙ none-without-gate netlist ws N read d;
     }
+
+-- 84
+last-rule→ : {A : Type 0} (b : Bool) (x : A) → (checks ((84, b) ∷ []) >> value x) ≡ refused 84 → b ≡ false
+last-rule→ true x q = absurd (not-refused (sym q))
+last-rule→ false x q = refl
+
+→last-rule : {A : Type 0} (b : Bool) (x : A) → b ≡ false → (checks ((84, b) ∷ []) >> value x) ≡ refused 84
+→last-rule true x q = absurd (subst T q tt)
+→last-rule false x q = refl
+
+past-checks : (netlist ws : List ℕ) (N : Netlist) → readNetlist netlist ≡ value N → length ws ≡ storeWords → checks (storeRules (pathTotal N) ws) ≡ value tt
+    → lengthsCall netlist ws ≡ (checks (lengthRule N ∷ []) >> value (byEdge (rowsOf N ws)))
+unfolding lengthsCall
+past-checks netlist ws N read l sound =
+    let lent : checks (storeRule ws ∷ []) ≡ value tt = →checks (storeRule ws ∷ []) (eq→eqb (length ws) storeWords l, tt) in
+    let rules : checks (storeRules (pathTotal N) ws ++ (lengthRule N ∷ [])) ≡ checks (lengthRule N ∷ []) =
+    checks-both (storeRules (pathTotal N) ws) (lengthRule N ∷ []) ∙ ap (λ (x : Answer (Unit {0})). x >> checks (lengthRule N ∷ [])) sound in
+    rw (lent, read) (ap (λ (x : Answer (Unit {0})). x >> value (byEdge (rowsOf N ws))) rules)
+
+pub too-long-holds : TooLong
+too-long-holds = record {
+  exactly = λ netlist ws N read l sound.
+      let w = legal netlist N read in
+      let rows : ByEdge Rows = byEdge (rowsOf N ws) in
+      let last = past-checks netlist ws N read l sound in (
+        λ q. long→ N w (last-rule→ (lengthRule N .1) rows (sym last ∙ q)),
+        λ h. last ∙ →last-rule (lengthRule N .1) rows (→long N w h),
+      );
+}

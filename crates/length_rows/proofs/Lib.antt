@@ -5,5 +5,6 @@ pub mod RunCountLaws
 pub mod RowLaws
 pub mod RowCases
 pub mod PathLengthLaws
+pub mod PathCountLaws
 pub mod LengthsHold
 pub mod LengthExamplesHold
