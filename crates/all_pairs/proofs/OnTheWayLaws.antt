@@ -6,7 +6,7 @@ use mathlib.Core.Bool.{Bool, true, false, _||_, not}
 use mathlib.Core.List.{List, [], _∷_, _++_}
 use Prim.Native.Nat.{ℕ, zero, suc, _+_, _*_, _≤_, _<_}
 use native.Mathlib.Omega.{arith}
-use lib.Dec.{T, leb, ltb, eqb, leb→le, lt→ltb, eqb→eq}
+use lib.Dec.{T, leb, ltb, eqb, leb→le, lt→ltb, eqb→eq, not-T}
 use lib.ListN.{length, getD, drop}
 use borrow.Author.Tests.{not-true}
 use Rattle.model.specs.Base.{Answer, refused, value, _>>=_, _>>_, check, Rule, checks, allOf, field}
@@ -88,31 +88,31 @@ on-the-way netlist N e few c n q =
     subst (λ (a : Answer (List ℕ)). Refuses ofWork a) q
     (all-only N c (allPairs (N .inputs)) emptyStore (λ d k. false) (holding-empty N) (few-pairs (N .inputs) low high) (all-legal N low high))
 
--- Before it
-abbrev notOfWork : ℕ → Bool
-notOfWork n = not (ofWork n)
+-- Before it: the numbers are at most 21, or 83
+abbrev pub early : ℕ → Bool
+early n = leb n 21 || eqb n 83
 
-gates-other : (n : ℕ) (cs bs : List ℕ) → Refuses notOfWork (readGates n cs bs)
+gates-other : (n : ℕ) (cs bs : List ℕ) → Refuses early (readGates n cs bs)
 unfolding readGates
 gates-other zero cs bs = tt
 gates-other (suc n) cs bs =
     let rules = gateRules (length cs) cs bs in
     let more = readGates n (cs ++ (countIn cs bs ∷ [])) (drop (4 + 2 * getD bs 3 0) bs) in
-    refuses-bind notOfWork (checks rules >> more) (λ r. value (gateIn bs ∷ r .0, r .1))
-    (refuses-then notOfWork (checks rules) more (refuses-checks notOfWork rules tt) (gates-other n _ _))
+    refuses-bind early (checks rules >> more) (λ r. value (gateIn bs ∷ r .0, r .1))
+    (refuses-then early (checks rules) more (refuses-checks early rules tt) (gates-other n _ _))
     (λ r e. tt)
 
-outputs-other : (n inputs nets : ℕ) (cs : List ℕ) (least s : ℕ) (bs : List ℕ) → Refuses notOfWork (readOutputs n inputs nets cs least s bs)
+outputs-other : (n inputs nets : ℕ) (cs : List ℕ) (least s : ℕ) (bs : List ℕ) → Refuses early (readOutputs n inputs nets cs least s bs)
 unfolding readOutputs
 outputs-other zero inputs nets cs least s bs = tt
 outputs-other (suc n) inputs nets cs least s bs =
     let rules = outputRules inputs nets cs least s bs in
     let more = readOutputs n inputs nets cs (suc (field 2 2 bs)) (s + outputCount inputs cs (field 2 2 bs)) (drop 4 bs) in
-    refuses-bind notOfWork (checks rules >> more) (λ r. value (field 2 2 bs ∷ r .0, r .1))
-    (refuses-then notOfWork (checks rules) more (refuses-checks notOfWork rules tt) (outputs-other n inputs nets cs _ _ _))
+    refuses-bind early (checks rules >> more) (λ r. value (field 2 2 bs ∷ r .0, r .1))
+    (refuses-then early (checks rules) more (refuses-checks early rules tt) (outputs-other n inputs nets cs _ _ _))
     (λ r e. tt)
 
-netlist-other : (bs : List ℕ) → Refuses notOfWork (readNetlist bs)
+netlist-other : (bs : List ℕ) → Refuses early (readNetlist bs)
 unfolding readNetlist
 netlist-other bs =
     let gs = readGates (gatesIn bs) (inputCounts bs) (drop 8 bs) in
@@ -121,22 +121,33 @@ netlist-other bs =
     let last : List ℕ × List ℕ → List Rule = λ o. (20, eqb (length (o .1)) 0) ∷ [] in
     let end : List Gate × List ℕ → List ℕ × List ℕ → Answer Netlist =
     λ g o. checks (last o) >> value (record { inputs = inputsIn bs; gates = g .0; outputs = o .0 }) in
-    refuses-bind notOfWork (checks (headerRules bs) >> gs) (λ g. os g >>= end g)
-    (refuses-then notOfWork (checks (headerRules bs)) gs (refuses-checks notOfWork (headerRules bs) tt) (gates-other (gatesIn bs) (inputCounts bs) (drop 8 bs)))
-    (λ g e. refuses-bind notOfWork (os g) (end g) (outputs-other _ _ _ _ _ _ _)
-    (λ o q. refuses-then notOfWork (checks (last o)) _ (refuses-checks notOfWork (last o) tt) tt))
+    refuses-bind early (checks (headerRules bs) >> gs) (λ g. os g >>= end g)
+    (refuses-then early (checks (headerRules bs)) gs (refuses-checks early (headerRules bs) tt) (gates-other (gatesIn bs) (inputCounts bs) (drop 8 bs)))
+    (λ g e. refuses-bind early (os g) (end g) (outputs-other _ _ _ _ _ _ _)
+    (λ o q. refuses-then early (checks (last o)) _ (refuses-checks early (last o) tt) tt))
 
-before-other : (netlist : List ℕ) (class : ℕ) (ws work : List ℕ) → Refuses notOfWork (beforeTest netlist class ws work)
+before-other : (netlist : List ℕ) (class : ℕ) (ws work : List ℕ) → Refuses early (beforeTest netlist class ws work)
 before-other netlist class ws work =
     let lent = storeRule ws ∷ workRule work ∷ [] in
     let known = classRule class ∷ [] in
-    refuses-bind notOfWork (checks lent >> readNetlist netlist) (λ N. checks known >> value N)
-    (refuses-then notOfWork (checks lent) (readNetlist netlist) (refuses-checks notOfWork lent tt) (netlist-other netlist))
-    (λ N e. refuses-then notOfWork (checks known) (value N) (refuses-checks notOfWork known tt) tt)
+    refuses-bind early (checks lent >> readNetlist netlist) (λ N. checks known >> value N)
+    (refuses-then early (checks lent) (readNetlist netlist) (refuses-checks early lent tt) (netlist-other netlist))
+    (λ N e. refuses-then early (checks known) (value N) (refuses-checks early known tt) tt)
+
+pub before-numbers : (netlist : List ℕ) (class : ℕ) (ws work : List ℕ) (n : ℕ) → beforeTest netlist class ws work ≡ refused n → T (early n)
+before-numbers netlist class ws work n e = subst (λ (a : Answer Netlist). Refuses early a) e (before-other netlist class ws work)
+
+early-other : (n : ℕ) → T (early n) → T (not (ofWork n))
+early-other n t =
+    not-T (ofWork n)
+    (λ w. ⊎-elim
+    (λ (b : T (eqb n 50)). subst (λ (k : ℕ). T (early k)) (eqb→eq n 50 b) t)
+    (λ (b : T (eqb n 51)). subst (λ (k : ℕ). T (early k)) (eqb→eq n 51 b) t)
+    (or-cases (eqb n 50) (eqb n 51) w))
 
 -- so the store is then as found
 pub found-other : (n : ℕ) (ws : List ℕ) → T (not (ofWork n)) → exhaustAfter (refused n) ws ≡ ws
-found-other n ws t = rw (not-true (ofWork n) (T→true (notOfWork n) t), exhaustAfter) refl
+found-other n ws t = rw (not-true (ofWork n) (T→true (not (ofWork n)) t), exhaustAfter) refl
 
 pub emptied-work : (n : ℕ) (ws : List ℕ) → T (ofWork n) → exhaustAfter (refused n) ws ≡ emptyStore
 emptied-work n ws t =
@@ -147,4 +158,4 @@ pub before-found : (netlist : List ℕ) (class : ℕ) (ws work : List ℕ) (n : 
     → exhaustStore netlist class ws work ≡ ws
 unfolding exhaustStore exhaustCall
 before-found netlist class ws work n e =
-    rw e (found-other n ws (subst (λ (a : Answer Netlist). Refuses notOfWork a) e (before-other netlist class ws work)))
+    rw e (found-other n ws (early-other n (before-numbers netlist class ws work n e)))

@@ -1,31 +1,33 @@
--- The bounds on the runs of a store, and no 51 on a netlist with few paths.
+-- The bounds on the runs of a store, and no 51 on a netlist with few paths; no 86 in an audit.
 -- The idea: the store's runs are those of the set of the detected numbers, and a set has no more runs than numbers, nor than gaps between them and one.
 -- Assumes nothing.
 use mathlib.Core.Path.{_≡_, refl, ap, sym, _∙_, subst}
 use mathlib.Core.Bool.{Bool, true}
 use mathlib.Core.List.{List, [], _∷_}
-use Prim.Native.Nat.{ℕ, suc, _+_, _≤_}
+use Prim.Native.Nat.{ℕ, suc, _+_, _/_, _%_, _≤_}
 use native.Mathlib.Omega.{arith}
-use lib.Dec.{leb, le→leb}
+use lib.Dec.{T, leb, ltb, eqb, le→leb, lt→ltb, leb→le}
 use lib.ListN.{length}
 use Rattle.model.specs.Base.{Answer, refused, value, _>>=_, _>>_, Rule, checks, passes}
 use Rattle.model.specs.Netlist.{Netlist, pathTotal}
 use Rattle.model.specs.Path.{Edge}
 use Rattle.model.specs.Detect.{Class, Test}
 use Rattle.model.specs.Runs.{Run, runsOf, howMany, size}
-use Rattle.model.specs.Read.{readNetlist, classOf, classRule, testOf}
-use Rattle.model.specs.Store.{ByEdge, maxRuns, bothEdges, emptyStore, storeRuns, runsByEdge, testsTaken}
+use Rattle.model.specs.Read.{readNetlist, classOf, classRule, testOf, recordLength}
+use Rattle.model.specs.Store.{ByEdge, maxRuns, maxTests, bothEdges, emptyStore, storeRuns, runsByEdge, testsTaken}
 use Rattle.model.specs.Calls.{Tested, storeLeft, tested, heldThen, runsThen, stageRules, testStage, testCall, testAnswer, storeRule, workRule, beforeTest}
 use Rattle.model.specs.Report.{testAll, auditCall, auditAnswer, wholeRecords, fileRecords, reportRules, reportRecord}
 use Rattle.model.specs.Demand3.{RunsOfDetected, start, afterCalls}
-use Rattle.model.proofs.BoolLaws.{both}
+use Rattle.model.proofs.BoolLaws.{both, and-right}
 use Rattle.model.proofs.WellFormed.{WellFormed}
 use Rattle.model.proofs.AnswerLaws.{steps, value-inj}
 use Rattle.model.proofs.BeforeLaws.{reached→}
+use Rattle.model.proofs.RefusalLaws.{refused-inj}
 use Rattle.model.proofs.ReadLaws.{legal}
 use Rattle.model.proofs.RunSizeLaws.{runs-size, few-runs}
 use Rattle.model.proofs.FaultLaws.{detectedAt, countOf-detected, runs-detected}
-use Rattle.model.proofs.StoreLaws.{at-both}
+use Rattle.model.proofs.ReportLaws.{length-records}
+use Rattle.model.proofs.StoreLaws.{at-both, tests-store}
 use Rattle.model.proofs.DemandHolds.{one-list}
 use Rattle.model.proofs.ReportsHold.{demand-3}
 use Rattle.coverage.specs.TestCall.{testedOf}
@@ -34,10 +36,11 @@ use Rattle.audit.specs.Promised.{lastStore, takenTests}
 use Rattle.audit.proofs.PromisesHold.{calls-true}
 use Rattle.all_pairs.specs.AllPairs.{allPairs}
 use Rattle.all_pairs.specs.Exhaust.{fewInputs, pairsOn, exhaustCall, exhaustAnswer}
+use Rattle.all_pairs.proofs.OnTheWayLaws.{early, before-numbers}
 use Rattle.exhaust.specs.Answers.{exhaustOf}
 use Rattle.pieces.specs.Calls.{RecordsSaid, recordsSaid, pieceOf, pieceAnswer}
-use Rattle.run_bounds.specs.Bounds.{smallTotal, RunsBounded, FewRuns, CallsFewRuns}
-use Rattle.run_bounds.proofs.AvoidLaws.{Avoids, avoids, avoid-then, avoid-bind, avoid-checks}
+use Rattle.run_bounds.specs.Bounds.{smallTotal, RunsBounded, FewRuns, CallsFewRuns, FewTests}
+use Rattle.run_bounds.proofs.AvoidLaws.{Avoids, avoids, avoid-then, avoid-bind, avoid-after, avoid-check-then, avoid-checks}
 
 -- where runs and their numbers together are at most one more than T, the numbers alone are at most T
 within-total : (rs : List Run) (paths : ℕ) → length rs + size rs ≤ suc paths → size rs ≤ paths
@@ -165,4 +168,46 @@ calls-few-runs = record {
   noPairsFull = λ r netlist N q h class ws ws′ found left t full. no-pairs-full netlist N q h class ws found (sym (t .answer) ∙ ap exhaustOf full);
   noRecordFull = λ r netlist N q h class bytes ws ws′ found left t taken full.
       no-record-full netlist N q h class bytes ws found (record { taken = taken; said = refused 51 }) refl (sym (ap pieceOf full) ∙ t .answer);
+}
+
+-- Records that are no more than can still be counted
+all-counted : (N : Netlist) (c : Class) (recs : List (List ℕ)) (ws : List ℕ) → length recs + testsTaken ws ≤ maxTests → Avoids 86 (testAll N c recs ws)
+unfolding testAll testStage tested
+all-counted N c [] ws few = tt
+all-counted N c (r ∷ rs) ws few =
+    let d : Tested = tested N (testsTaken ws) (runsByEdge ws) (testOf N c r) in
+    let one : testsTaken (storeLeft d) ≡ suc (testsTaken ws) = tests-store (d .tests) (d .runs) in
+    let more : Bool = ltb (testsTaken ws) maxTests in
+    avoid-after 86 (checks (stageRules N c r ws)) d (λ x. testAll N c rs (storeLeft x))
+    (avoid-checks 86 (stageRules N c r ws) (both more true (lt→ltb (testsTaken ws) maxTests (omega (arith, few))) tt))
+    (all-counted N c rs (storeLeft d) (omega (arith, few, one)))
+
+no-audit-counted : (netlist : List ℕ) (class : ℕ) (testFile report ws work : List ℕ) → auditAnswer netlist class testFile report ws work ≡ refused 86 → ⊥
+unfolding auditAnswer auditCall
+no-audit-counted netlist class testFile report ws work = go (beforeTest netlist class ws work) refl
+  where
+    go : (x : Answer Netlist) → beforeTest netlist class ws work ≡ x → auditAnswer netlist class testFile report ws work ≡ refused 86 → ⊥
+    go (refused n) b =
+        let same : auditAnswer netlist class testFile report ws work ≡ refused n = rw b refl in
+        λ q. subst (λ (k : ℕ). T (early k)) (refused-inj (sym same ∙ q)) (before-numbers netlist class ws work n b)
+    go (value N) b =
+        let rules : List ℕ → List Rule = λ left. reportRules report (reportRecord (length (fileRecords N testFile)) (pathTotal N) (runsByEdge left)) in
+        let whole : Bool = wholeRecords N testFile in
+        let tests : Answer (List ℕ) = testAll N (classOf class) (fileRecords N testFile) emptyStore in
+        let len : ℕ = recordLength N in
+        let n : ℕ = length testFile / len in
+        let counted : T whole → Avoids 86 tests =
+        λ w. all-counted N (classOf class) (fileRecords N testFile) emptyStore
+        (omega (arith, length-records len n testFile, leb→le n maxTests (and-right (eqb (length testFile % len) 0) (leb n maxTests) w))) in
+        avoids 86 (auditAnswer netlist class testFile report ws work)
+        (rw b (avoid-then 86 (checks ((33, whole) ∷ []) >> tests >>= λ left. checks (rules left) >> value left) (value tt)
+        (avoid-bind 86 (checks ((33, whole) ∷ []) >> tests) (λ left. checks (rules left) >> value left)
+        (avoid-check-then 86 33 whole tests tt counted)
+        (λ left. avoid-then 86 (checks (rules left)) (value left) (avoid-checks 86 (rules left) tt) tt)) tt))
+
+pub few-tests-hold : FewTests
+few-tests-hold = record {
+  noAudit = no-audit-counted;
+  noAuditMade = λ r netlist class testFile report ws ws′ found left t full.
+      no-audit-counted netlist class testFile report ws found (sym (t .answer) ∙ ap auditedOf full);
 }

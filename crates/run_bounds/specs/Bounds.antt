@@ -73,3 +73,9 @@ pub record CallsFewRuns : Type 0 where
   pub noRecordFull : (r : PieceAnswer) (netlist : List ℕ) (N : Netlist) → readNetlist netlist ≡ value N → pathTotal N ≤ smallTotal
       → (class : ℕ) (bytes ws ws′ found left : List ℕ) → PieceTrue r netlist class bytes ws ws′ found left
       → (taken : ℕ) → r ≡ piece.RecordRefused taken refusal.StoreRuns → ⊥
+
+-- How many tests: an audit is never refused with 86, as 33 bounds its records. Of the definition, then of the value that the audit returns
+pub record FewTests : Type 0 where
+  pub noAudit : (netlist : List ℕ) (class : ℕ) (testFile report ws work : List ℕ) → auditAnswer netlist class testFile report ws work ≡ refused 86 → ⊥
+  pub noAuditMade : (r : AuditAnswer) (netlist : List ℕ) (class : ℕ) (testFile report ws ws′ found left : List ℕ)
+      → AuditTrue r netlist class testFile report ws ws′ found left → r ≡ audit.Refused refusal.TestsFull → ⊥
