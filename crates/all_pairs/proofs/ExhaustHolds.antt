@@ -9,7 +9,7 @@ use Prim.Native.Nat.{ℕ, suc, _+_, _*_, _-_, _^_, _≤_, _<_}
 use native.Mathlib.Omega.{arith}
 use lib.Dec.{T, leb, eqb, leb→le}
 use lib.ListN.{length, getD}
-use Rattle.model.specs.Base.{Answer, refused, value, _>>=_, _>>_, checks, anyOf}
+use Rattle.model.specs.Base.{Answer, refused, value, _into_, _then_, checks, anyOf}
 use Rattle.model.specs.Netlist.{Netlist, pathTotal, pinNet, outputNet}
 use Rattle.model.specs.Path.{Edge, rising, falling, Fault, valid, numberOf}
 use Rattle.model.specs.Detect.{Class, Test, openPin, hasEdge, allOpen, detects}

@@ -9,7 +9,7 @@ use native.Mathlib.Omega.{arith}
 use lib.Dec.{T, leb, ltb, eqb, leb→le, lt→ltb, eqb→eq, not-T}
 use lib.ListN.{length, getD, drop}
 use borrow.Author.Tests.{not-true}
-use Rattle.model.specs.Base.{Answer, refused, value, _>>=_, _>>_, check, Rule, checks, allOf, field}
+use Rattle.model.specs.Base.{Answer, refused, value, _into_, _then_, check, Rule, checks, allOf, field}
 use Rattle.model.specs.Netlist.{Netlist, Gate, netByNet, gateCount, outputCount, pathTotal}
 use Rattle.model.specs.Detect.{Class, Test}
 use Rattle.model.specs.Runs.{workingRuns}
@@ -32,11 +32,11 @@ abbrev Refuses : {A : Type 0} → (ℕ → Bool) → Answer A → Type 0
 Refuses P (refused n) = T (P n)
 Refuses P (value a) = Unit {0}
 
-refuses-then : {A B : Type 0} (P : ℕ → Bool) (m : Answer A) (n : Answer B) → Refuses P m → Refuses P n → Refuses P (m >> n)
+refuses-then : {A B : Type 0} (P : ℕ → Bool) (m : Answer A) (n : Answer B) → Refuses P m → Refuses P n → Refuses P (m then n)
 refuses-then P (refused k) n o p = o
 refuses-then P (value a) n o p = p
 
-refuses-bind : {A B : Type 0} (P : ℕ → Bool) (m : Answer A) (f : A → Answer B) → Refuses P m → ((a : A) → m ≡ value a → Refuses P (f a)) → Refuses P (m >>= f)
+refuses-bind : {A B : Type 0} (P : ℕ → Bool) (m : Answer A) (f : A → Answer B) → Refuses P m → ((a : A) → m ≡ value a → Refuses P (f a)) → Refuses P (m into f)
 refuses-bind P (refused k) f o p = o
 refuses-bind P (value a) f o p = p a refl
 
@@ -61,12 +61,12 @@ stage-only N c r ws D x m p =
     let before = testsRule ws ∷ work in
     let a : checks (stageRules N c r ws) ≡ checks work =
     checks-both (testRules N r) (sound ++ before)
-    ∙ ap (λ (m : Answer (Unit {0})). m >> checks (sound ++ before)) (→checks (testRules N r) p)
+    ∙ ap (λ (m : Answer (Unit {0})). m then checks (sound ++ before)) (→checks (testRules N r) p)
     ∙ checks-both sound before
-    ∙ ap (λ (m : Answer (Unit {0})). m >> checks before) (→checks sound (holding-passes N ws D x))
-    ∙ ap (λ (b : Bool). check 86 b >> checks work) (T→true (ltb (testsTaken ws) maxTests) (lt→ltb (testsTaken ws) maxTests m)) in
+    ∙ ap (λ (m : Answer (Unit {0})). m then checks before) (→checks sound (holding-passes N ws D x))
+    ∙ ap (λ (b : Bool). check 86 b then checks work) (T→true (ltb (testsTaken ws) maxTests) (lt→ltb (testsTaken ws) maxTests m)) in
     let taken = tested N (testsTaken ws) (runsByEdge ws) t in
-    subst (λ (m : Answer (Unit {0})). Refuses ofWork (m >> value taken)) (sym a)
+    subst (λ (m : Answer (Unit {0})). Refuses ofWork (m then value taken)) (sym a)
     (refuses-then ofWork (checks work) (value taken) (refuses-checks ofWork work tt) tt)
 
 all-only : (N : Netlist) (c : Class) (recs : List (List ℕ)) (ws : List ℕ) (D : Sets) → Holding N ws D → testsTaken ws + length recs ≤ maxTests
@@ -98,7 +98,7 @@ gates-other zero cs bs = tt
 gates-other (suc n) cs bs =
     let rules = gateRules (length cs) cs bs in
     let more = readGates n (cs ++ (countIn cs bs ∷ [])) (drop (4 + 2 * getD bs 3 0) bs) in
-    refuses-bind early (checks rules >> more) (λ r. value (gateIn bs ∷ r .0, r .1))
+    refuses-bind early (checks rules then more) (λ r. value (gateIn bs ∷ r .0, r .1))
     (refuses-then early (checks rules) more (refuses-checks early rules tt) (gates-other n _ _))
     (λ r e. tt)
 
@@ -108,7 +108,7 @@ outputs-other zero inputs nets cs least s bs = tt
 outputs-other (suc n) inputs nets cs least s bs =
     let rules = outputRules inputs nets cs least s bs in
     let more = readOutputs n inputs nets cs (suc (field 2 2 bs)) (s + outputCount inputs cs (field 2 2 bs)) (drop 4 bs) in
-    refuses-bind early (checks rules >> more) (λ r. value (field 2 2 bs ∷ r .0, r .1))
+    refuses-bind early (checks rules then more) (λ r. value (field 2 2 bs ∷ r .0, r .1))
     (refuses-then early (checks rules) more (refuses-checks early rules tt) (outputs-other n inputs nets cs _ _ _))
     (λ r e. tt)
 
@@ -120,8 +120,8 @@ netlist-other bs =
     λ g. readOutputs (outputsIn bs) (inputsIn bs) (inputsIn bs + gatesIn bs) (netByNet gateCount 0 (inputCounts bs) (g .0)) 0 0 (g .1) in
     let last : List ℕ × List ℕ → List Rule = λ o. (20, eqb (length (o .1)) 0) ∷ [] in
     let end : List Gate × List ℕ → List ℕ × List ℕ → Answer Netlist =
-    λ g o. checks (last o) >> value (record { inputs = inputsIn bs; gates = g .0; outputs = o .0 }) in
-    refuses-bind early (checks (headerRules bs) >> gs) (λ g. os g >>= end g)
+    λ g o. checks (last o) then value (record { inputs = inputsIn bs; gates = g .0; outputs = o .0 }) in
+    refuses-bind early (checks (headerRules bs) then gs) (λ g. os g into end g)
     (refuses-then early (checks (headerRules bs)) gs (refuses-checks early (headerRules bs) tt) (gates-other (gatesIn bs) (inputCounts bs) (drop 8 bs)))
     (λ g e. refuses-bind early (os g) (end g) (outputs-other _ _ _ _ _ _ _)
     (λ o q. refuses-then early (checks (last o)) _ (refuses-checks early (last o) tt) tt))
@@ -130,7 +130,7 @@ before-other : (netlist : List ℕ) (class : ℕ) (ws work : List ℕ) → Refus
 before-other netlist class ws work =
     let lent = storeRule ws ∷ workRule work ∷ [] in
     let known = classRule class ∷ [] in
-    refuses-bind early (checks lent >> readNetlist netlist) (λ N. checks known >> value N)
+    refuses-bind early (checks lent then readNetlist netlist) (λ N. checks known then value N)
     (refuses-then early (checks lent) (readNetlist netlist) (refuses-checks early lent tt) (netlist-other netlist))
     (λ N e. refuses-then early (checks known) (value N) (refuses-checks early known tt) tt)
 

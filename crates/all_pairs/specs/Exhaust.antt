@@ -8,7 +8,7 @@ use mathlib.Core.List.{List, [], _∷_, map}
 use Prim.Native.Nat.{ℕ, _*_, _-_, _^_}
 use lib.Dec.{T, leb, eqb}
 use lib.ListN.{length, drop}
-use Rattle.model.specs.Base.{Answer, refused, value, _>>=_, _>>_, Rule, checks}
+use Rattle.model.specs.Base.{Answer, refused, value, _into_, _then_, Rule, checks}
 use Rattle.model.specs.Netlist.{Netlist}
 use Rattle.model.specs.Path.{Edge, Fault, valid, numberOf}
 use Rattle.model.specs.Detect.{Class, detects}
@@ -29,15 +29,15 @@ fewInputs N = (91, leb (N .inputs) mostInputs)
 
 -- the pairs on a legal netlist, 91 before them, from the empty store: the store that they leave
 unfoldable pub pairsOn : Netlist → Class → Answer (List ℕ)
-pairsOn N c = checks (fewInputs N ∷ []) >> testAll N c (allPairs (N .inputs)) emptyStore
+pairsOn N c = checks (fewInputs N ∷ []) then testAll N c (allPairs (N .inputs)) emptyStore
 
 -- All pairs: the store that they leave
 unfoldable pub exhaustCall : List ℕ → ℕ → List ℕ → List ℕ → Answer (List ℕ)
-exhaustCall netlist class ws work = beforeTest netlist class ws work >>= λ N. pairsOn N (classOf class)
+exhaustCall netlist class ws work = beforeTest netlist class ws work into λ N. pairsOn N (classOf class)
 
 -- it returns the totals
 unfoldable pub exhaustAnswer : List ℕ → ℕ → List ℕ → List ℕ → Answer (ByEdge ℕ)
-exhaustAnswer netlist class ws work = exhaustCall netlist class ws work >>= λ left. value (byEdge (λ e. size (storeRuns left e)))
+exhaustAnswer netlist class ws work = exhaustCall netlist class ws work into λ left. value (byEdge (λ e. size (storeRuns left e)))
 
 -- the numbers of a refusal on the way, of the place Work
 abbrev pub ofWork : ℕ → Bool

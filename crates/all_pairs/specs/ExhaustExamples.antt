@@ -3,7 +3,7 @@
 use mathlib.Core.List.{List, [], _∷_, _++_}
 use Prim.Native.Nat.{ℕ}
 use lib.ListN.{replicate}
-use Rattle.model.specs.Base.{Answer, refused, value, _>>=_}
+use Rattle.model.specs.Base.{Answer, refused, value, _into_}
 use Rattle.model.specs.Runs.{run}
 use Rattle.model.specs.Store.{storeWords, emptyStore}
 use Rattle.model.specs.Calls.{workWords}
@@ -30,7 +30,7 @@ unfoldable pub enough : List ℕ
 enough = replicate workWords 0
 
 unfoldable pub totalsShown : List ℕ → ℕ → Answer (List ℕ)
-totalsShown netlist class = exhaustAnswer netlist class sevens enough >>= λ t. value (t .onRising ∷ t .onFalling ∷ [])
+totalsShown netlist class = exhaustAnswer netlist class sevens enough into λ t. value (t .onRising ∷ t .onFalling ∷ [])
 
 unfoldable pub storeShown : List ℕ → ℕ → List ℕ
 storeShown netlist class = exhaustStore netlist class sevens enough

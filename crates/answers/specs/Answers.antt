@@ -2,7 +2,7 @@
 -- Assumes nothing.
 use mathlib.Core.List.{List, [], _∷_}
 use Prim.Native.Nat.{ℕ}
-use Rattle.model.specs.Base.{Answer, refused, value, _>>=_, _>>_}
+use Rattle.model.specs.Base.{Answer, refused, value, _into_, _then_}
 use Rattle.model.specs.Calls.{Survey}
 use Rattle.model.specs.Refusals.{refusalNumber}
 use Rattle.netlist.specs.declared.SurveyAnswer.{SurveyAnswer}
@@ -22,8 +22,8 @@ surveyedOf r = surveyIn (r .answer) (r .survey)
 
 -- a piece of a test file: the number of its records if all were taken, else the number of the first refusal, of the call or of a record
 abbrev pub allTaken : Answer RecordsSaid → Answer ℕ
-allTaken x = x >>= λ r. r .said >> value (r .taken)
+allTaken x = x into λ r. r .said then value (r .taken)
 
 -- a load: the state afterwards, then the bytes written
 abbrev pub loadWords : Handed → List ℕ
-loadWords h = h .state ∷ h .length ∷ []
+loadWords h = h .state ∷ h .written ∷ []

@@ -7,7 +7,7 @@ use Prim.Native.Nat.{ℕ, _+_, _*_, _/_, _^_, _≤_, _<_}
 use borrow.Author.Needs.{needs}
 use borrow.Author.Tests.{le-leb, lt-leb, eq-eqb, ne-eqb, not-true, not-false}
 use lib.ListN.{length, drop, replicate}
-use Rattle.model.specs.Base.{Answer, refused, value, _>>=_, checks, passes}
+use Rattle.model.specs.Base.{Answer, refused, value, _into_, checks, passes}
 use Rattle.model.specs.Netlist.{Netlist}
 use Rattle.model.specs.Read.{within, classOf, vectorBytes, recordLength}
 use Rattle.model.specs.Refusals.{refusalNumber}
@@ -74,7 +74,7 @@ module _ (netlist : List ℕ) (loaded : Loaded) (ws work : List ℕ) (ready : Re
         taken = testAll C (classOf class) (fileRecords C testFile) ws
 
         -- in the numbers that the code has
-        call-is : call C ≡ (taken >>= λ left. reported (length testFile / each) (loaded .total) report left)
+        call-is : call C ≡ (taken into λ left. reported (length testFile / each) (loaded .total) report left)
         unfolding auditFile
         call-is =
             let count : length (fileRecords C testFile) ≡ length testFile / each =

@@ -4,7 +4,7 @@ use mathlib.Core.Path.{_≡_, refl, ap, sym, _∙_, subst}
 use mathlib.Core.List.{List, [], _∷_, _++_}
 use Prim.Native.Nat.{ℕ}
 use lib.ListN.{length}
-use Rattle.model.specs.Base.{Answer, refused, value, _>>=_}
+use Rattle.model.specs.Base.{Answer, refused, value, _into_}
 use Rattle.model.specs.Netlist.{Netlist}
 use Rattle.model.specs.Path.{rising, falling}
 use Rattle.model.specs.Detect.{Test}
@@ -33,7 +33,7 @@ use Rattle.file_judging.specs.declared.AuditAnswer.the-variants as audit
 abbrev pub stateOf : Netlist → State → List MadeCall → State
 stateOf N s ms = record { store = lastStore (s .store) ms; taken = takenTests N (s .taken) ms }
 
-same-taken : (a : Answer Tested) (t : Test) (ts : List Test) → demand.withTest a t ts ≡ withTaken (a >>= λ r. value (r .returned)) t ts
+same-taken : (a : Answer Tested) (t : Test) (ts : List Test) → demand.withTest a t ts ≡ withTaken (a into λ r. value (r .returned)) t ts
 same-taken (refused n) t ts = refl
 same-taken (value r) t ts = refl
 
@@ -100,7 +100,7 @@ module _ (netlist : List ℕ) (N : Netlist) where
       unfolding testAnswer
       →taken n =
           let t = earlier .takenExactly (m .call) .1 n in
-          record { returned = t .tested .returned; is = answered ∙ ap (λ (a : Answer Tested). a >>= λ r. value (r .returned)) (t .answer) }
+          record { returned = t .tested .returned; is = answered ∙ ap (λ (a : Answer Tested). a into λ r. value (r .returned)) (t .answer) }
 
     list-true : (ms : List MadeCall) → Promised netlist emptyStore ms → ListTrue netlist N ms
     list-true ms p = record {

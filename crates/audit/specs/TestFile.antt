@@ -4,7 +4,7 @@ use mathlib.Core.Path.{_≡_}
 use mathlib.Core.List.{List, [], _∷_}
 use Prim.Native.Nat.{ℕ}
 use lib.ListN.{length, drop}
-use Rattle.model.specs.Base.{Answer, value, _>>=_, _>>_, checks, passes}
+use Rattle.model.specs.Base.{Answer, value, _into_, _then_, checks, passes}
 use Rattle.model.specs.Netlist.{Netlist, pathTotal}
 use Rattle.model.specs.Detect.{Class}
 use Rattle.model.specs.Read.{readNetlist, classOf}
@@ -19,8 +19,8 @@ use Rattle.file_judging.specs.FileJudging.{auditedOf, reported}
 unfoldable pub auditFile : Netlist → Class → List ℕ → List ℕ → Answer (List ℕ)
 auditFile N c testFile report =
     checks ((33, wholeRecords N testFile) ∷ [])
-    >> testAll N c (fileRecords N testFile) emptyStore
-    >>= λ left. reported (length (fileRecords N testFile)) (pathTotal N) report left
+    then testAll N c (fileRecords N testFile) emptyStore
+    into λ left. reported (length (fileRecords N testFile)) (pathTotal N) report left
 
 -- its answer, the store afterwards, and what holds of the working memory
 pub record FileAudited (r : AuditAnswer) (netlist : List ℕ) (class : ℕ) (testFile report ws′ work work′ : List ℕ) : Type 0 where

@@ -8,7 +8,7 @@ use native.Mathlib.Omega.{arith}
 use borrow.Author.Tests.{le-leb, lt-leb}
 use lib.Dec.{leb}
 use lib.ListN.{length}
-use Rattle.model.specs.Base.{Answer, refused, value, _>>_, checks, allOf}
+use Rattle.model.specs.Base.{Answer, refused, value, _then_, checks, allOf}
 use Rattle.bench_lines.specs.Text.{linesOf, isIn}
 use Rattle.bench_circuit.specs.Circuit.{Circuit, netNames, endRules, undefinedFrom, endLine, lineIn, refusedLine}
 use Rattle.bench_circuit.specs.Circuit.{circuitOf}
@@ -21,7 +21,7 @@ use Rattle.bench_circuit.proofs.LineCases.{room-names, room-outputs}
 use Rattle.bench_circuit.proofs.EndLaws.{outputs-are}
 
 module _ (text is gs os : List ℕ) (n : NameCounts) (taken : TextTaken n text is gs os) where
-  pub at-end : circuitOf text ≡ (checks (endRules (taken .circuit)) >> value (taken .circuit))
+  pub at-end : circuitOf text ≡ (checks (endRules (taken .circuit)) then value (taken .circuit))
   unfolding circuitOf
   at-end = rw (taken .reads) refl
 
@@ -46,7 +46,7 @@ module _ (text is gs os : List ℕ) (n : NameCounts) (t : TextHeld text is gs os
   refused-end : (number line : ℕ) → checks (endRules c) ≡ refused number → line ≡ endLine c (linesOf text)
       → RefusedAt number line text
   refused-end number line e q = record {
-    answer = at-end text is gs os n taken ∙ ap (λ (x : Answer (Unit {0})). x >> value c) e;
+    answer = at-end text is gs os n taken ∙ ap (λ (x : Answer (Unit {0})). x then value c) e;
     place = q ∙ sym (at-line text is gs os n taken);
   }
 

@@ -5,7 +5,7 @@ use mathlib.Core.List.{List, [], _∷_, _++_, map}
 use Prim.Native.Nat.{ℕ, suc, _+_}
 use lib.Dec.{leb}
 use lib.ListN.{length}
-use Rattle.model.specs.Base.{Answer, refused, value, _>>=_, _>>_, Rule, checks, allOf}
+use Rattle.model.specs.Base.{Answer, refused, value, _into_, _then_, Rule, checks, allOf}
 use Rattle.model.specs.Netlist.{maxNets}
 use Rattle.model.specs.Read.{pinsFit, headerRange}
 use Rattle.bench_lines.specs.Text.{Statement, blank, input, output, gate, other, linesOf, tokensOf, statementOf, isIn}
@@ -63,7 +63,7 @@ added c (gate x k ys) = record { inputs = c .inputs; gates = c .gates ++ (record
 unfoldable pub lineByLine : Circuit → List (List ℕ) → Answer Circuit
 lineByLine c [] = value c
 lineByLine c (l ∷ ls) =
-    checks (lineRules c (statementOf (tokensOf l))) >> lineByLine (added c (statementOf (tokensOf l))) ls
+    checks (lineRules c (statementOf (tokensOf l))) then lineByLine (added c (statementOf (tokensOf l))) ls
 
 -- At the end: an output name never defined is 81, then no input or no output 82
 unfoldable pub endRules : Circuit → List Rule
@@ -71,7 +71,7 @@ endRules c =
     (81, allOf (λ x. isIn x (netNames c)) (c .outputs)) ∷ (82, leb 1 (length (c .inputs)) && leb 1 (length (c .outputs))) ∷ []
 
 unfoldable pub circuitOf : List ℕ → Answer Circuit
-circuitOf text = lineByLine emptyCircuit (linesOf text) >>= λ c. checks (endRules c) >> value c
+circuitOf text = lineByLine emptyCircuit (linesOf text) into λ c. checks (endRules c) then value c
 
 -- ---- the line of a refusal, so that a person finds it
 

@@ -5,7 +5,7 @@ use mathlib.Core.Path.{_≡_, refl, ap, sym, _∙_, subst}
 use mathlib.Core.List.{List, _++_}
 use borrow.Author.Tests.{le-leb, lt-leb}
 use lib.ListN.{length, drop}
-use Rattle.model.specs.Base.{Answer, refused, value, _>>=_, _>>_, checks, after}
+use Rattle.model.specs.Base.{Answer, refused, value, _into_, _then_, checks, after}
 use Rattle.model.specs.Refusals.{refusalNumber}
 use Rattle.bench_lines.specs.Text.{linesOf}
 use Rattle.bench_circuit.specs.Circuit.{Circuit, endRules, lineIn, refusedLine, circuitOf}
@@ -37,9 +37,9 @@ module _ (text out : List ℕ) (big : 10484 ≤ length out) where
   unfolding converted convertAnswer convertBuffer
   call-refused w line t =
       let z : convertCall text out ≡ refused (refusalNumber w) =
-      call-is ∙ ap (λ (x : Answer Circuit). x >>= λ c. value (netlistBytes c)) (t .answer) in
+      call-is ∙ ap (λ (x : Answer Circuit). x into λ c. value (netlistBytes c)) (t .answer) in
       record {
-        answer = sym (ap (λ (x : Answer (List ℕ)). x >>= λ bs. value (length bs)) z);
+        answer = sym (ap (λ (x : Answer (List ℕ)). x into λ bs. value (length bs)) z);
         line = t .place ∙ sym line-is;
         buffer = sym (ap (λ (x : Answer (List ℕ)). after x out (λ bs. bs ++ drop (length bs) out)) z);
       }
@@ -54,7 +54,7 @@ module _ (text out : List ℕ) (big : 10484 ≤ length out) where
   text-refused r w line is gs os t e =
       let z : LineRefused (refusalNumber w) line text = subst (λ (x : TextAnswer). TextTrue x text is gs os) e t in
       call-refused w line (record {
-        answer = ap (λ (x : Answer Circuit). x >>= (λ c. checks (endRules c) >> value c)) (z .reads);
+        answer = ap (λ (x : Answer Circuit). x into (λ c. checks (endRules c) then value c)) (z .reads);
         place = z .place ∙ sym (ap (λ (x : Answer Circuit). lineIn x (linesOf text)) (z .reads));
       })
 

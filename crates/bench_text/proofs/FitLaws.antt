@@ -6,7 +6,7 @@ use mathlib.Core.List.{List, _++_}
 use native.Mathlib.Omega.{arith}
 use lib.ListN.{length, take, drop, length-append}
 use lib.Seq.{length-take-le}
-use Rattle.model.specs.Base.{Answer, refused, value, _>>=_, after}
+use Rattle.model.specs.Base.{Answer, refused, value, _into_, after}
 use Rattle.model.proofs.AnswerLaws.{value-inj, not-refused}
 use Rattle.bench_text.specs.Calls.{convertCall, convertAnswer, convertBuffer}
 use Rattle.bench_text.specs.Converting.{ConvertTrue}
@@ -21,7 +21,7 @@ module _ (r : BenchAnswer) (text out out′ : List ℕ) (n : ℕ) (t : ConvertTr
       subst (λ (x : BenchAnswer). ConvertTrue x text out out′) e t in
       go (convertCall text out) (z .answer) (z .buffer)
     where
-      go : (x : Answer (List ℕ)) → value n ≡ (x >>= λ bs. value (length bs))
+      go : (x : Answer (List ℕ)) → value n ≡ (x into λ bs. value (length bs))
           → out′ ≡ after x out (λ bs. bs ++ drop (length bs) out) → n ≤ length out′
       go (refused m) p q = absurd (not-refused (sym p))
       go (value bs) p q =

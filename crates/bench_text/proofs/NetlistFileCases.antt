@@ -7,7 +7,7 @@ use native.Mathlib.Omega.{arith}
 use lib.Dec.{T}
 use lib.ListN.{length, drop, length-append, length-map}
 use lib.Seq.{sets, sets-eq, length-sets}
-use Rattle.model.specs.Base.{Answer, value, _>>=_, _>>_, after, allOf}
+use Rattle.model.specs.Base.{Answer, value, _into_, _then_, after, allOf}
 use Rattle.model.specs.Encode.{headerBytes}
 use Rattle.model.proofs.BoolLaws.{T→true}
 use Rattle.records.proofs.ByteLaws.{sets-append}
@@ -41,7 +41,7 @@ module _ (text out : List ℕ) (big : 10484 ≤ length out) where
       let b : bytes ++ drop (length bytes) out ≡ convertBuffer text out =
       sym (ap (λ (x : Answer (List ℕ)). after x out (λ bs. bs ++ drop (length bs) out)) z) in
       record {
-        answer = ap value l ∙ sym (ap (λ (x : Answer (List ℕ)). x >>= λ bs. value (length bs)) z);
+        answer = ap value l ∙ sym (ap (λ (x : Answer (List ℕ)). x into λ bs. value (length bs)) z);
         line = line ∙ sym (line-is text out big);
         buffer = q ∙ sets-eq bytes out 0 (omega arith) ∙ ap (λ (m : ℕ). bytes ++ drop m out) k ∙ b;
       }
@@ -183,7 +183,7 @@ module _ (text out is gs os : List ℕ) (n : NameCounts) (big : 10484 ≤ length
             let j : ((H ++ L) ++ A) ++ B ≡ netlistBytes c =
             append-assoc (H ++ L) A B ∙ append-assoc H L (A ++ B) ∙ sym whole in
             let v : circuitOf text ≡ value c =
-            at-end text is gs os n t ∙ ap (λ (x : Answer (Unit {0})). x >> value c) (end .sound) in
+            at-end text is gs os n t ∙ ap (λ (x : Answer (Unit {0})). x then value c) (end .sound) in
             let w : converted text ≡ value (netlistBytes c) =
-            ap (λ (x : Answer Circuit). x >>= λ r. value (netlistBytes r)) v in
+            ap (λ (x : Answer Circuit). x into λ r. value (netlistBytes r)) v in
             call-written text out big (netlistBytes c) d o₄ w no-line (omega (arith, sizes, e₂ .next, e₃ .next, e₄ .next)) (omega (arith, fits)) (q₄ ∙ ap (sets out 0) j)

@@ -9,7 +9,7 @@ use native.Mathlib.Omega.{arith}
 use lib.Dec.{T, ltb, leb, le→leb, lt→ltb}
 use lib.ListN.{length, getD, drop, length-append, length-map}
 use lib.Seq.{drop-drop}
-use Rattle.model.specs.Base.{Answer, refused, value, _>>=_, _>>_, check, Rule, checks, allOf}
+use Rattle.model.specs.Base.{Answer, refused, value, _into_, _then_, check, Rule, checks, allOf}
 use Rattle.model.specs.Netlist.{Gate, maxCount, gateCount, netByNet, atNets}
 use Rattle.model.specs.Read.{marked, within, kindOf, pinsFit, netFields, gateIn, countIn, gateRules, readGates}
 use Rattle.model.specs.Encode.{netBytes, gateBytes}
@@ -50,7 +50,7 @@ nets-after (n ∷ ns) rest =
     ∙ nets-after ns rest
 
 -- all rules but the last pass
-pub but-last : (rs : List Rule) (n : ℕ) (b : Bool) → AllPass rs → checks (rs ++ ((n, b) ∷ [])) ≡ (check n b >> value tt)
+pub but-last : (rs : List Rule) (n : ℕ) (b : Bool) → AllPass rs → checks (rs ++ ((n, b) ∷ [])) ≡ (check n b then value tt)
 but-last rs n b a = checks-both rs ((n, b) ∷ []) ∙ rw (→checks rs a) refl
 
 -- ---- pins lower than their gate
@@ -121,7 +121,7 @@ module _ (names : List (List ℕ)) (g : GateLine) (cs rest : List ℕ) (low : Be
   unfolding gateBytes
   gate-after = sym (drop-drop (2 * length ns) 4 bs) ∙ nets-after ns rest
 
-  gate-rules : checks (gateRules (length cs) cs bs) ≡ (check 17 (leb (countIn cs bs) maxCount) >> value tt)
+  gate-rules : checks (gateRules (length cs) cs bs) ≡ (check 17 (leb (countIn cs bs) maxCount) then value tt)
   unfolding gateBytes
   gate-rules =
       let n : length ns ≡ length (g .pins) = length-map (g .pins) (λ y. place y names) in
@@ -144,7 +144,7 @@ unfolding readGates
 gate-refused n cs bs e = rw (e, readGates) refl
 
 gate-taken : (n : ℕ) (cs bs : List ℕ) → checks (gateRules (length cs) cs bs) ≡ value tt → readGates (suc n) cs bs
-    ≡ (readGates n (cs ++ (countIn cs bs ∷ [])) (drop (4 + 2 * getD bs 3 0) bs) >>= λ r. value (gateIn bs ∷ r .0, r .1))
+    ≡ (readGates n (cs ++ (countIn cs bs ∷ [])) (drop (4 + 2 * getD bs 3 0) bs) into λ r. value (gateIn bs ∷ r .0, r .1))
 unfolding readGates
 gate-taken n cs bs e = rw (e, readGates) refl
 
@@ -164,9 +164,9 @@ before-fit (g ∷ gs) cs t =
     fit-left cs k (before-fit gs (cs ++ (k ∷ [])) t) .0
 
 abbrev pub gatesTo : Bool → List Gate → List ℕ → Answer (List Gate × List ℕ)
-gatesTo b gs rest = check 17 b >> value (gs, rest)
+gatesTo b gs rest = check 17 b then value (gs, rest)
 
-gates-cons : (b : Bool) (g : Gate) (gs : List Gate) (rest : List ℕ) → (gatesTo b gs rest >>= λ r. value (g ∷ r .0, r .1)) ≡ gatesTo b (g ∷ gs) rest
+gates-cons : (b : Bool) (g : Gate) (gs : List Gate) (rest : List ℕ) → (gatesTo b gs rest into λ r. value (g ∷ r .0, r .1)) ≡ gatesTo b (g ∷ gs) rest
 gates-cons true g gs rest = refl
 gates-cons false g gs rest = refl
 
@@ -188,8 +188,8 @@ module _ (n : ℕ) (names : List (List ℕ)) (g : GateLine) (gs : List Gate) (cs
   count-is : countIn cs file ≡ count
   count-is = ap (λ (x : Gate). gateCount x (atNets cs 0 (x .pins))) (gate-is names g cs tail low few fit)
 
-  rules-are : checks (gateRules (length cs) cs file) ≡ (check 17 (fits count) >> value tt)
-  rules-are = gate-rules names g cs tail low few fit ∙ ap (λ (m : ℕ). check 17 (fits m) >> value tt) count-is
+  rules-are : checks (gateRules (length cs) cs file) ≡ (check 17 (fits count) then value tt)
+  rules-are = gate-rules names g cs tail low few fit ∙ ap (λ (m : ℕ). check 17 (fits m) then value tt) count-is
 
   gates-over : fits count ≡ false → readGates (suc n) cs file ≡ gatesTo all (one ∷ gs) rest
   gates-over e =
@@ -199,12 +199,12 @@ module _ (n : ℕ) (names : List (List ℕ)) (g : GateLine) (gs : List Gate) (cs
   gates-more : fits count ≡ true → (T (allOf fits (cs ++ (count ∷ []))) → readGates n (cs ++ (count ∷ [])) tail ≡ gatesTo all gs rest)
       → readGates (suc n) cs file ≡ gatesTo all (one ∷ gs) rest
   gates-more e ih =
-      let go : List ℕ → ℕ → Gate → Answer (List Gate × List ℕ) = λ l k x. readGates n (cs ++ (k ∷ [])) l >>= λ r. value (x ∷ r .0, r .1) in
+      let go : List ℕ → ℕ → Gate → Answer (List Gate × List ℕ) = λ l k x. readGates n (cs ++ (k ∷ [])) l into λ r. value (x ∷ r .0, r .1) in
       gate-taken n cs file (rules-are ∙ rw e refl)
       ∙ ap (λ (l : List ℕ). go l (countIn cs file) (gateIn file)) (gate-after names g cs tail low few fit)
       ∙ ap (λ (k : ℕ). go tail k (gateIn file)) count-is
       ∙ ap (λ (x : Gate). go tail count x) (gate-is names g cs tail low few fit)
-      ∙ ap (λ (y : Answer (List Gate × List ℕ)). y >>= λ r. value (one ∷ r .0, r .1)) (ih (allOf-append fits cs count t (true→T (fits count) e)))
+      ∙ ap (λ (y : Answer (List Gate × List ℕ)). y into λ r. value (one ∷ r .0, r .1)) (ih (allOf-append fits cs count t (true→T (fits count) e)))
       ∙ gates-cons all one gs rest
 
 -- The gates are the circuit's, unless the count of a net passes 2^62

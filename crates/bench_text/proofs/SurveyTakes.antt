@@ -8,7 +8,7 @@ use mathlib.Core.List.{List, [], _∷_, _++_, map}
 use native.Mathlib.Omega.{arith}
 use lib.Dec.{T, ltb, leb, eqb, le→leb, lt→ltb, leb→le, ltb→lt}
 use lib.ListN.{length, drop, replicate, length-append, length-map, length-replicate}
-use Rattle.model.specs.Base.{Answer, refused, value, _>>=_, _>>_, check, checks, allOf, field, sumOf}
+use Rattle.model.specs.Base.{Answer, refused, value, _into_, _then_, check, checks, allOf, field, sumOf}
 use Rattle.model.specs.Netlist.{Netlist, Gate, netByNet, gateCount, counts, pathTotal, maxCount, outputCount}
 use Rattle.model.specs.Read.{marked, readGates, outputRules, readOutputs, inputsIn}
 use Rattle.model.specs.Read.{gatesIn, outputsIn, headerRules, readNetlist}
@@ -36,13 +36,13 @@ output-refused n ins nets cs least s bs e = rw (e, readOutputs) refl
 output-taken : (n ins nets : ℕ) (cs : List ℕ) (least s : ℕ) (bs : List ℕ)
     → checks (outputRules ins nets cs least s bs) ≡ value tt → readOutputs (suc n) ins nets cs least s bs
     ≡ (readOutputs n ins nets cs (suc (field 2 2 bs)) (s + outputCount ins cs (field 2 2 bs)) (drop 4 bs)
-    >>= λ r. value (field 2 2 bs ∷ r .0, r .1))
+    into λ r. value (field 2 2 bs ∷ r .0, r .1))
 unfolding readOutputs
 output-taken n ins nets cs least s bs e = rw (e, readOutputs) refl
 
 output-rules : (o ins nets : ℕ) (cs : List ℕ) (least s : ℕ) (rest : List ℕ) → least ≤ o → o < nets → nets ≤ 512
     → checks (outputRules ins nets cs least s (outputBytes o ++ rest))
-    ≡ (check 21 (leb (s + outputCount ins cs (field 2 2 (outputBytes o ++ rest))) maxCount) >> value tt)
+    ≡ (check 21 (leb (s + outputCount ins cs (field 2 2 (outputBytes o ++ rest))) maxCount) then value tt)
 unfolding outputBytes
 output-rules o ins nets cs least s rest l h f =
     let b = outputBytes o ++ rest in
@@ -54,9 +54,9 @@ output-rules o ins nets cs least s rest l h f =
     21 (leb (s + outputCount ins cs n) maxCount) (mark, (order, tt))
 
 abbrev outputsTo : Bool → List ℕ → Answer (List ℕ × List ℕ)
-outputsTo b os = check 21 b >> value (os, [])
+outputsTo b os = check 21 b then value (os, [])
 
-outputs-cons : (b : Bool) (o : ℕ) (os : List ℕ) → (outputsTo b os >>= λ r. value (o ∷ r .0, r .1)) ≡ outputsTo b (o ∷ os)
+outputs-cons : (b : Bool) (o : ℕ) (os : List ℕ) → (outputsTo b os into λ r. value (o ∷ r .0, r .1)) ≡ outputsTo b (o ∷ os)
 outputs-cons true o os = refl
 outputs-cons false o os = refl
 
@@ -74,8 +74,8 @@ module _ (n o : ℕ) (os : List ℕ) (ins nets : ℕ) (cs : List ℕ) (least s :
   unfolding outputBytes
   net-is = back o (omega arith)
 
-  rules-are : checks (outputRules ins nets cs least s file) ≡ (check 21 (fits sum) >> value tt)
-  rules-are = output-rules o ins nets cs least s rest l h f ∙ ap (λ (m : ℕ). check 21 (fits (s + outputCount ins cs m)) >> value tt) net-is
+  rules-are : checks (outputRules ins nets cs least s file) ≡ (check 21 (fits sum) then value tt)
+  rules-are = output-rules o ins nets cs least s rest l h f ∙ ap (λ (m : ℕ). check 21 (fits (s + outputCount ins cs m)) then value tt) net-is
 
   outputs-over : maxCount < sum → readOutputs (suc n) ins nets cs least s file ≡ outputsTo (fits (s + sumOf (map (outputCount ins cs) (o ∷ os)))) (o ∷ os)
   outputs-over q =
@@ -89,10 +89,10 @@ module _ (n o : ℕ) (os : List ℕ) (ins nets : ℕ) (cs : List ℕ) (least s :
   outputs-more q ih =
       let e : fits sum ≡ true = le-true sum maxCount q in
       let z : sum + later ≡ s + (outputCount ins cs o + later) = omega arith in
-      let go : ℕ → Answer (List ℕ × List ℕ) = λ m. readOutputs n ins nets cs (suc m) (s + outputCount ins cs m) rest >>= λ r. value (m ∷ r .0, r .1) in
+      let go : ℕ → Answer (List ℕ × List ℕ) = λ m. readOutputs n ins nets cs (suc m) (s + outputCount ins cs m) rest into λ r. value (m ∷ r .0, r .1) in
       output-taken n ins nets cs least s file (rules-are ∙ rw e refl)
       ∙ ap go net-is
-      ∙ ap (λ (y : Answer (List ℕ × List ℕ)). y >>= λ r. value (o ∷ r .0, r .1)) ih
+      ∙ ap (λ (y : Answer (List ℕ × List ℕ)). y into λ r. value (o ∷ r .0, r .1)) ih
       ∙ outputs-cons (fits (sum + later)) o os
       ∙ ap (λ (m : ℕ). outputsTo (fits m) (o ∷ os)) z
 
@@ -115,10 +115,10 @@ outputs-read (o ∷ os) ins nets cs least s h t q =
 
 body : Answer (Unit {0}) → ℕ → ℕ → ℕ → List ℕ → Answer Netlist
 body h i g u rest =
-    h >> readGates g (replicate i 1) rest
-    >>= λ gs. readOutputs u i (i + g) (netByNet gateCount 0 (replicate i 1) (gs .0)) 0 0 (gs .1)
-    >>= λ o. checks ((20, eqb (length (o .1)) 0) ∷ [])
-    >> value (record { inputs = i; gates = gs .0; outputs = o .0 })
+    h then readGates g (replicate i 1) rest
+    into λ gs. readOutputs u i (i + g) (netByNet gateCount 0 (replicate i 1) (gs .0)) 0 0 (gs .1)
+    into λ o. checks ((20, eqb (length (o .1)) 0) ∷ [])
+    then value (record { inputs = i; gates = gs .0; outputs = o .0 })
 
 module _ (i g u : ℕ) (rest : List ℕ) (i1 : 1 ≤ i) (i64 : i ≤ 64) (g511 : g ≤ 511) (n512 : i + g ≤ 512) (u1 : 1 ≤ u)
     (u64 : u ≤ 64) where
@@ -146,7 +146,7 @@ module _ (i g u : ℕ) (rest : List ℕ) (i1 : 1 ≤ i) (i64 : i ≤ 64) (g511 :
 module _ (i g u : ℕ) (rest : List ℕ) where
   body-is : (gs : List Gate) (rest′ os : List ℕ) (b d : Bool) → readGates g (replicate i 1) rest ≡ gatesTo b gs rest′
       → readOutputs u i (i + g) (netByNet gateCount 0 (replicate i 1) gs) 0 0 rest′ ≡ outputsTo d os
-      → body (value tt) i g u rest ≡ (checks ((17, b) ∷ (21, d) ∷ []) >> value (record { inputs = i; gates = gs; outputs = os }))
+      → body (value tt) i g u rest ≡ (checks ((17, b) ∷ (21, d) ∷ []) then value (record { inputs = i; gates = gs; outputs = os }))
   unfolding body
   body-is gs rest′ os true true e q = rw (e, q) refl
   body-is gs rest′ os true false e q = rw (e, q) refl
@@ -201,7 +201,7 @@ pub survey-takes : (text : List ℕ) (c : Circuit) → circuitOf text ≡ value 
     → (converted text ≡ value (netlistBytes c)) × TakenUnlessOver (netlistBytes c) c
 unfolding converted circuitOf
 survey-takes text c e =
-    let s = steps (lineByLine emptyCircuit (linesOf text)) (λ r. checks (endRules r) >> value r) e in
+    let s = steps (lineByLine emptyCircuit (linesOf text)) (λ r. checks (endRules r) then value r) e in
     let p = then-first (checks (endRules (s .got))) (value (s .got)) (s .second) in
     let q : s .got ≡ c = value-inj (then-second (checks (endRules (s .got))) (value (s .got)) (s .second)) in
     let l = lines-leave (linesOf text) emptyCircuit (s .got) legal-empty (s .first) in

@@ -4,7 +4,7 @@ use mathlib.Core.List.{List, [], _∷_, _++_}
 use Prim.Native.Nat.{ℕ}
 use lib.Dec.{leb}
 use lib.ListN.{length, drop}
-use Rattle.model.specs.Base.{Answer, refused, value, _>>=_, _>>_, Rule, checks, after}
+use Rattle.model.specs.Base.{Answer, refused, value, _into_, _then_, Rule, checks, after}
 use Rattle.model.specs.Refusals.{refusalNumber}
 use Rattle.bench_circuit.specs.Circuit.{refusedLine}
 use Rattle.bench_text.specs.NetlistFile.{converted}
@@ -20,11 +20,11 @@ abbrev pub bufferRule : List ℕ → Rule
 bufferRule buffer = (4, leb netlistBufferBytes (length buffer))
 
 unfoldable pub convertCall : List ℕ → List ℕ → Answer (List ℕ)
-convertCall text buffer = checks (bufferRule buffer ∷ []) >> converted text
+convertCall text buffer = checks (bufferRule buffer ∷ []) then converted text
 
 -- it returns the result's length
 unfoldable pub convertAnswer : List ℕ → List ℕ → Answer ℕ
-convertAnswer text buffer = convertCall text buffer >>= λ bs. value (length bs)
+convertAnswer text buffer = convertCall text buffer into λ bs. value (length bs)
 
 -- bytes past the result, and all after a refusal, are unchanged
 unfoldable pub convertBuffer : List ℕ → List ℕ → List ℕ

@@ -4,7 +4,7 @@ use mathlib.Core.Bool.{true, false}
 use mathlib.Core.List.{List, [], _∷_, _++_, map}
 use Prim.Native.Nat.{ℕ, suc}
 use lib.ListN.{length}
-use Rattle.model.specs.Base.{Answer, value, _>>=_}
+use Rattle.model.specs.Base.{Answer, value, _into_}
 use Rattle.model.specs.Encode.{headerBytes, gateBytes, outputBytes}
 use Rattle.bench_lines.specs.Text.{place, isIn}
 use Rattle.bench_circuit.specs.Circuit.{GateLine, Circuit, netNames, circuitOf}
@@ -35,4 +35,4 @@ netlistBytes c =
 
 -- The netlist file of a .bench text
 unfoldable pub converted : List ℕ → Answer (List ℕ)
-converted text = circuitOf text >>= λ c. value (netlistBytes c)
+converted text = circuitOf text into λ c. value (netlistBytes c)

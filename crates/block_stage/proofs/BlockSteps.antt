@@ -7,7 +7,7 @@ use native.Mathlib.Numerals.{add-one}
 use native.Mathlib.Omega.{arith}
 use borrow.Author.Needs.{needs}
 use lib.ListN.{length, getD, take, drop}
-use Rattle.model.specs.Base.{Answer, refused, _>>=_, after}
+use Rattle.model.specs.Base.{Answer, refused, _into_, after}
 use Rattle.model.specs.Netlist.{Netlist, nets}
 use Rattle.model.specs.Detect.{Test}
 use Rattle.model.specs.Refusals.{refusalNumber}
@@ -98,11 +98,11 @@ module _ (N : Netlist) (tests : ℕ → Test) (t records : ℕ) (h : t < records
   one-less : records - t ≡ suc (records - (t + 1))
   one-less = let e : records - t ≡ records - (t + 1) + 1 = omega arith in e ∙ add-one (records - (t + 1))
 
-  all-next : workAll N tests t (records - t) ws ≡ (workStage N (tests t) ws >>= λ d. workAll N tests (t + 1) (records - (t + 1)) (storeLeft d))
+  all-next : workAll N tests t (records - t) ws ≡ (workStage N (tests t) ws into λ d. workAll N tests (t + 1) (records - (t + 1)) (storeLeft d))
   unfolding workAll
   all-next =
       ap (λ (n : ℕ). workAll N tests t n ws) one-less
-      ∙ ap (λ (s : ℕ). workStage N (tests t) ws >>= λ d. workAll N tests s (records - (t + 1)) (storeLeft d)) (sym (add-one t))
+      ∙ ap (λ (s : ℕ). workStage N (tests t) ws into λ d. workAll N tests s (records - (t + 1)) (storeLeft d)) (sym (add-one t))
 
   taken-next : workTaken N tests t (records - t) ws ≡ oneMoreTest (workStage N (tests t) ws) (λ d. workTaken N tests (t + 1) (records - (t + 1)) (storeLeft d))
   unfolding workTaken

@@ -4,7 +4,7 @@ use mathlib.Core.Path.{_≡_}
 use mathlib.Core.List.{List}
 use Prim.Native.Nat.{ℕ, zero, suc, _+_, _≤_}
 use lib.ListN.{length, drop}
-use Rattle.model.specs.Base.{Answer, refused, value, _>>=_, _>>_}
+use Rattle.model.specs.Base.{Answer, refused, value, _into_, _then_}
 use Rattle.model.specs.Netlist.{Netlist}
 use Rattle.model.specs.Detect.{Test}
 use Rattle.model.specs.Store.{storeWords}
@@ -18,7 +18,7 @@ use Rattle.block_stage.specs.declared.inner.Applied.{Applied}
 -- the place Work with n tests in order, from test t on: the number of the first refusal, or the store that they leave
 unfoldable pub workAll : Netlist → (ℕ → Test) → ℕ → ℕ → List ℕ → Answer (List ℕ)
 workAll N tests t zero ws = value ws
-workAll N tests t (suc n) ws = workStage N (tests t) ws >>= λ d. workAll N tests (suc t) n (storeLeft d)
+workAll N tests t (suc n) ws = workStage N (tests t) ws into λ d. workAll N tests (suc t) n (storeLeft d)
 
 -- one more if a test is taken, and none once one is refused
 abbrev pub oneMoreTest : Answer Tested → (Tested → ℕ) → ℕ
@@ -45,7 +45,7 @@ pub record BlockReady (table places ups downs marks : List ℕ) (batch : Batch) 
 
 -- the answer with the store that is left, how many were taken, and what holds of the lent memory
 pub record BlockTaken (r : Applied) (N : Netlist) (tests : ℕ → Test) (n : ℕ) (ws ws′ : List ℕ) : Type 0 where
-  pub answer : (stageOf (r .answer) >> value ws′) ≡ workAll N tests 0 n ws
+  pub answer : (stageOf (r .answer) then value ws′) ≡ workAll N tests 0 n ws
   pub taken : r .taken ≡ workTaken N tests 0 n ws
 
 pub record MemoryKept (ws′ work work′ : List ℕ) : Type 0 where

@@ -3,7 +3,7 @@
 use mathlib.Core.Path.{_≡_, refl, ap, sym, _∙_}
 use mathlib.Core.List.{List, _∷_, append-assoc}
 use Prim.Native.Nat.{ℕ}
-use Rattle.model.specs.Base.{Answer, refused, value, _>>_, Rule, checks}
+use Rattle.model.specs.Base.{Answer, refused, value, _then_, Rule, checks}
 use Rattle.model.specs.Netlist.{Netlist, pathTotal}
 use Rattle.model.specs.Detect.{Class}
 use Rattle.model.specs.Read.{testRules, testOf}
@@ -13,17 +13,17 @@ use Rattle.model.proofs.AnswerLaws.{checks→, →checks, pass-first, pass-seco
 use Rattle.coverage.specs.Stage.{placeRules, workStage}
 
 module _ (N : Netlist) (c : Class) (rec ws : List ℕ) where
-  then-again : (x y : Answer (Unit {0})) (t : Tested) → ((x >> y) >> value t) ≡ (x >> (y >> value t))
+  then-again : (x y : Answer (Unit {0})) (t : Tested) → ((x then y) then value t) ≡ (x then (y then value t))
   then-again (refused n) y t = refl
   then-again (value u) y t = refl
 
-  stage-after : testStage N c rec ws ≡ (checks (placeRules N rec ws) >> workStage N (testOf N c rec) ws)
+  stage-after : testStage N c rec ws ≡ (checks (placeRules N rec ws) then workStage N (testOf N c rec) ws)
   unfolding testStage workStage
   stage-after =
       let works : List Rule = testsRule ws ∷ workRules N (runsByEdge ws) (testOf N c rec) in
       let made : Tested = tested N (testsTaken ws) (runsByEdge ws) (testOf N c rec) in
-      ap (λ (rs : List Rule). checks rs >> value made) (sym (append-assoc (testRules N rec) (storeRules (pathTotal N) ws) works))
-      ∙ ap (λ (x : Answer (Unit {0})). x >> value made) (checks-both (placeRules N rec ws) works)
+      ap (λ (rs : List Rule). checks rs then value made) (sym (append-assoc (testRules N rec) (storeRules (pathTotal N) ws) works))
+      ∙ ap (λ (x : Answer (Unit {0})). x then value made) (checks-both (placeRules N rec ws) works)
       ∙ then-again (checks (placeRules N rec ws)) (checks works) made
 
   pub stage-refused : (n : ℕ) → refused n ≡ checks (placeRules N rec ws) → testStage N c rec ws ≡ refused n

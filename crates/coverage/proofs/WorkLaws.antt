@@ -9,7 +9,7 @@ use borrow.Author.Needs.{needs}
 use borrow.Author.Tests.{not-true, not-false}
 use lib.Dec.{ltb, ltb→lt}
 use lib.ListN.{length, set}
-use Rattle.model.specs.Base.{Answer, refused, value, _>>_, check, checks, passes, after}
+use Rattle.model.specs.Base.{Answer, refused, value, _then_, check, checks, passes, after}
 use Rattle.model.specs.Netlist.{Netlist, pathTotal}
 use Rattle.model.specs.Path.{Edge, rising, falling}
 use Rattle.model.specs.Detect.{Test}
@@ -62,11 +62,11 @@ module _ {N : Netlist} {t : Test} {ws work work′ : List ℕ} (m : MemoryReady 
       }
     where
       either : (a : Bool) (d : Tested) (y : Answer (Unit {0})) (k : ℕ) → y ≡ refused k
-          → (checks ((86, a) ∷ []) >> refused k) ≡ passes (check 86 a >> y >> value d)
+          → (checks ((86, a) ∷ []) then refused k) ≡ passes (check 86 a then y then value d)
       either true d y k e = rw e refl
       either false d y k e = refl
 
-      kept-store : (a : Bool) (d : Tested) (y : Answer (Unit {0})) (k : ℕ) → y ≡ refused k → ws ≡ after (check 86 a >> y >> value d) ws storeLeft
+      kept-store : (a : Bool) (d : Tested) (y : Answer (Unit {0})) (k : ℕ) → y ≡ refused k → ws ≡ after (check 86 a then y then value d) ws storeLeft
       kept-store true d y k e = rw e refl
       kept-store false d y k e = refl
 

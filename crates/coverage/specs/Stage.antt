@@ -4,7 +4,7 @@ use mathlib.Core.Path.{_≡_}
 use mathlib.Core.List.{List, [], _∷_, _++_}
 use Prim.Native.Nat.{ℕ, _≤_}
 use lib.ListN.{length, drop}
-use Rattle.model.specs.Base.{Answer, refused, value, _>>_, Rule, checks, passes, after}
+use Rattle.model.specs.Base.{Answer, refused, value, _then_, Rule, checks, passes, after}
 use Rattle.model.specs.Netlist.{Netlist, pathTotal}
 use Rattle.model.specs.Detect.{Test}
 use Rattle.model.specs.Read.{testRules}
@@ -54,7 +54,7 @@ stageOf (stage.Refused why) = refused (refusalNumber why)
 
 -- 86, or another refusal after it
 abbrev pub refusedAfter : List ℕ → Refusal → Answer (Unit {0})
-refusedAfter ws why = checks (testsRule ws ∷ []) >> refused (refusalNumber why)
+refusedAfter ws why = checks (testsRule ws ∷ []) then refused (refusalNumber why)
 
 -- the store that a stage leaves
 unfoldable pub storeAfter : Answer Tested → List ℕ → List ℕ
@@ -62,7 +62,7 @@ storeAfter x ws = after x ws storeLeft
 
 -- 86 and the place Work alone, for a test whose record and store no rule of the places Test and Store refuses
 unfoldable pub workStage : Netlist → Test → List ℕ → Answer Tested
-workStage N t ws = checks (testsRule ws ∷ workRules N (runsByEdge ws) t) >> value (tested N (testsTaken ws) (runsByEdge ws) t)
+workStage N t ws = checks (testsRule ws ∷ workRules N (runsByEdge ws) t) then value (tested N (testsTaken ws) (runsByEdge ws) t)
 
 -- whether it is taken and the store are those of the stage `x`; working memory past its first 8,192 words is as found
 pub record StageIs (x : Answer Tested) (ws ws′ work work′ : List ℕ) (r : StageAnswer) : Type 0 where

@@ -9,7 +9,7 @@ use borrow.Author.Needs.{needs}
 use borrow.Author.Tests.{le-leb, lt-leb, eq-eqb, ne-eqb, not-true, not-false}
 use lib.Dec.{T, le→leb, T-not}
 use lib.ListN.{length, replicate}
-use Rattle.model.specs.Base.{Answer, refused, value, _>>=_, checks}
+use Rattle.model.specs.Base.{Answer, refused, value, _into_, checks}
 use Rattle.model.specs.Netlist.{Netlist}
 use Rattle.model.specs.Read.{within, classOf}
 use Rattle.model.specs.Refusals.{refusalNumber}
@@ -49,7 +49,7 @@ use Rattle.exhaust.specs.declared.ExhaustAnswer.the-variants as exhaust
 
 -- the totals of the store that some tests leave
 abbrev summed : Answer (List ℕ) → Answer (ByEdge ℕ)
-summed x = x >>= λ left. value (totalsBoth left)
+summed x = x into λ left. value (totalsBoth left)
 
 module _ (netlist : List ℕ) (loaded : Loaded) (ws work : List ℕ) (ready : Ready netlist loaded ws work) (start : (ws ≡ emptyStore) × (loaded .shape .inputs ≤ 6)) where
   abbrev C : Netlist

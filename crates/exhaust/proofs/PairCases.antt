@@ -6,7 +6,7 @@ use Prim.Native.Nat.{ℕ, suc, _+_, _-_, _^_, _≤_, _<_}
 use native.Mathlib.Omega.{arith}
 use borrow.Author.Needs.{needs}
 use lib.ListN.{length, getD, drop, replicate}
-use Rattle.model.specs.Base.{refused, value, _>>=_, _>>_}
+use Rattle.model.specs.Base.{refused, value, _into_, _then_}
 use Rattle.model.specs.Netlist.{Netlist}
 use Rattle.model.specs.Detect.{Class, Test}
 use Rattle.model.specs.Read.{classOf, testOf}
@@ -90,7 +90,7 @@ module _ {table places : List ℕ} {numbers : FileNumbers} {ups downs ws work : 
             ∙ sym (block-all N c (heldPair vectors) work n m legal) ∙ ap (λ (rs : List (List ℕ)). testAll N c rs ws) are;
       }
         where
-          file-is : (a : StageAnswer) → fileOf a ws′ ≡ (stageOf a >> value ws′)
+          file-is : (a : StageAnswer) → fileOf a ws′ ≡ (stageOf a then value ws′)
           file-is stage.Taken = refl
           file-is (stage.Refused w) = refl
 
@@ -167,15 +167,15 @@ module _ (table places : List ℕ) (numbers : FileNumbers) (ups₀ downs₀ ws�
           abbrev others : List (List ℕ)
           others = pairsFrom m₀ (first + 1) (m₀ - (first + 1))
 
-          split : testAll N cl (allPairs (N .inputs)) ws₀ ≡ (fileOf r ws′ >>= λ left. testAll N cl others left)
+          split : testAll N cl (allPairs (N .inputs)) ws₀ ≡ (fileOf r ws′ into λ left. testAll N cl others left)
           unfolding pairsFrom
           split =
               let k : m₀ - first ≡ suc (m₀ - (first + 1)) = omega (arith, count-is N t, more) in
               let one : suc first ≡ first + 1 = omega arith in
               sym (g .goes N t m .rest) ∙ ap (λ (j : ℕ). testAll N cl (pairsFrom m₀ first j) ws) k
               ∙ testAll-append N cl (pairsWith first 0 m₀) (pairsFrom m₀ (suc first) (m₀ - (first + 1))) ws
-              ∙ ap (λ (j : ℕ). testAll N cl (pairsWith first 0 m₀) ws >>= λ left. testAll N cl (pairsFrom m₀ j (m₀ - (first + 1))) left) one
-              ∙ ap (λ x. x >>= λ left. testAll N cl others left) (sym (d .ofCircuit N t (g .goes N t m .memory)))
+              ∙ ap (λ (j : ℕ). testAll N cl (pairsWith first 0 m₀) ws into λ left. testAll N cl (pairsFrom m₀ j (m₀ - (first + 1))) left) one
+              ∙ ap (λ x. x into λ left. testAll N cl others left) (sym (d .ofCircuit N t (g .goes N t m .memory)))
 
         pub taking-refused : {w : Refusal} → r ≡ stage.Refused w → {ws″ : List ℕ} → ws″ ≡ replicate (length ws′) 0
             → AllTaken (stage.Refused w) table places numbers ws₀ ws″ work₀ work′

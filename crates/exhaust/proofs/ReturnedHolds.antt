@@ -5,7 +5,7 @@ use mathlib.Core.Bool.{not}
 use mathlib.Core.List.{List}
 use Prim.Native.Nat.{ℕ}
 use lib.Dec.{T}
-use Rattle.model.specs.Base.{Answer, refused, value, _>>=_}
+use Rattle.model.specs.Base.{Answer, refused, value, _into_}
 use Rattle.model.specs.Netlist.{Netlist}
 use Rattle.model.specs.Read.{readNetlist}
 use Rattle.model.specs.Refusals.{refusalNumber}
@@ -22,7 +22,7 @@ use Rattle.exhaust.specs.declared.ExhaustAnswer.{ExhaustAnswer}
 use Rattle.exhaust.specs.declared.ExhaustAnswer.the-variants as exhaust
 
 -- a value at the end refuses nothing
-bound-refused : {A B : Type 0} (n : ℕ) (x : Answer A) (f : A → B) → (x >>= λ a. value (f a)) ≡ refused n → x ≡ refused n
+bound-refused : {A B : Type 0} (n : ℕ) (x : Answer A) (f : A → B) → (x into λ a. value (f a)) ≡ refused n → x ≡ refused n
 bound-refused n (refused k) f q = ap refused (refused-inj q)
 bound-refused n (value a) f q = absurd (not-refused (sym q))
 

@@ -4,7 +4,7 @@ use mathlib.Core.Path.{_≡_}
 use mathlib.Core.List.{List}
 use Prim.Native.Nat.{ℕ}
 use lib.ListN.{length, drop}
-use Rattle.model.specs.Base.{Answer, refused, value, _>>=_}
+use Rattle.model.specs.Base.{Answer, refused, value, _into_}
 use Rattle.model.specs.Netlist.{Netlist}
 use Rattle.model.specs.Read.{readNetlist, classOf}
 use Rattle.model.specs.Refusals.{refusalNumber}
@@ -32,7 +32,7 @@ pub record ExhaustTrue (r : ExhaustAnswer) (netlist : List ℕ) (class : ℕ) (w
 -- the same on a legal netlist of few inputs, from an empty store
 pub record PairsApplied (r : ExhaustAnswer) (netlist : List ℕ) (class : ℕ) (ws′ work work′ : List ℕ) : Type 0 where
   pub answer : (N : Netlist) → readNetlist netlist ≡ value N
-      → exhaustOf r ≡ (testAll N (classOf class) (allPairs (N .inputs)) emptyStore >>= λ ws. value (totalsBoth ws))
+      → exhaustOf r ≡ (testAll N (classOf class) (allPairs (N .inputs)) emptyStore into λ ws. value (totalsBoth ws))
   pub store : (N : Netlist) → readNetlist netlist ≡ value N → ws′ ≡ leftStore (testAll N (classOf class) (allPairs (N .inputs)) emptyStore)
   pub sameLength : length work′ ≡ length work
   pub pastWork : drop workWords work′ ≡ drop workWords work

@@ -7,7 +7,7 @@ use Prim.Native.Nat.{ℕ, _^_, _≤_}
 use native.Mathlib.Omega.{arith}
 use borrow.Author.Needs.{needs}
 use Rattle.io.specs.Counts.{Counts}
-use Rattle.model.specs.Base.{Answer, refused, value, _>>=_}
+use Rattle.model.specs.Base.{Answer, refused, value, _into_}
 use Rattle.model.specs.Netlist.{Netlist, pathTotal}
 use Rattle.model.specs.Read.{readNetlist, classOf}
 use Rattle.model.specs.Refusals.{refusalNumber}
@@ -40,11 +40,11 @@ abbrev totalsOf : List ℕ → ByEdge ℕ
 totalsOf left = byEdge (λ e. size (storeRuns left e))
 
 -- what is known of the call by the totals that it answers, or by the number
-call-refused : (n : ℕ) (x : Answer (List ℕ)) → refused n ≡ (x >>= λ left. value (totalsOf left)) → x ≡ refused n
+call-refused : (n : ℕ) (x : Answer (List ℕ)) → refused n ≡ (x into λ left. value (totalsOf left)) → x ≡ refused n
 call-refused n (refused k) q = ap refused (sym (refused-inj q))
 call-refused n (value left) q = absurd (not-refused q)
 
-call-taken : (t : ByEdge ℕ) (ws ws′ : List ℕ) (x : Answer (List ℕ)) → value t ≡ (x >>= λ left. value (totalsOf left)) → ws′ ≡ exhaustAfter x ws → x ≡ value ws′
+call-taken : (t : ByEdge ℕ) (ws ws′ : List ℕ) (x : Answer (List ℕ)) → value t ≡ (x into λ left. value (totalsOf left)) → ws′ ≡ exhaustAfter x ws → x ≡ value ws′
 call-taken t ws ws′ (refused k) q s = absurd (not-refused (sym q))
 call-taken t ws ws′ (value left) q s = ap value (sym s)
 
@@ -53,7 +53,7 @@ module _ (netlist : List ℕ) (r : Surveyed) (v : SurveyTrue r netlist) where
   unfolding surveyCall surveyOf
   paths-are = ap (λ (d : NetlistSurvey). d .total) (v .survey) ∙ of-answer (readNetlist netlist)
     where
-      of-answer : (y : Answer Netlist) → surveyData (y >>= λ N. value (surveyOf N)) .total ≡ pathsOf y
+      of-answer : (y : Answer Netlist) → surveyData (y into λ N. value (surveyOf N)) .total ≡ pathsOf y
       of-answer (refused n) = refl
       of-answer (value N) = refl
 

@@ -8,7 +8,7 @@ use native.Mathlib.Omega.{arith}
 use lib.Dec.{T, ltb, eqb}
 use lib.ListN.{length, drop}
 use borrow.Author.Tests.{eq-eqb, ne-eqb}
-use Rattle.model.specs.Base.{Answer, refused, value, _>>=_, _>>_, check, Rule, checks, allOf, field}
+use Rattle.model.specs.Base.{Answer, refused, value, _into_, _then_, check, Rule, checks, allOf, field}
 use Rattle.model.specs.Netlist.{pathTotal, gateCount, netByNet}
 use Rattle.model.specs.Read.{gateIn, gateRules, readGates, outputRules, readOutputs, inputsIn, gatesIn, outputsIn, headerRules, inputCounts, readNetlist, recordLength}
 use Rattle.model.specs.Store.{storeRules, runsByEdge}
@@ -32,11 +32,11 @@ code-numbered (refused m) p n e = let z : n ≡ m = cc in rw z (rw (ne-eqb m 0 p
 code-numbered (value u) p n e = absurd (not-refused (sym e))
 
 -- step by step
-then-numbered : {A B : Type 0} (x : Answer A) (y : Answer B) → Numbered x → Numbered y → Numbered (x >> y)
+then-numbered : {A B : Type 0} (x : Answer A) (y : Answer B) → Numbered x → Numbered y → Numbered (x then y)
 then-numbered (refused n) y p q = p
 then-numbered (value a) y p q = q
 
-step-numbered : {A B : Type 0} (x : Answer A) (f : A → Answer B) → Numbered x → ((a : A) → Numbered (f a)) → Numbered (x >>= f)
+step-numbered : {A B : Type 0} (x : Answer A) (f : A → Answer B) → Numbered x → ((a : A) → Numbered (f a)) → Numbered (x into f)
 step-numbered (refused n) f p q = p
 step-numbered (value a) f p q = q a
 
@@ -63,14 +63,14 @@ unfolding readGates
 gates-numbered zero cs bs = tt
 gates-numbered (suc n) cs bs =
     let rules = gateRules (length cs) cs bs in
-    step-numbered (checks rules >> _) (λ r. value (gateIn bs ∷ r .0, r .1)) (then-numbered (checks rules) _ (checks-numbered rules tt) (gates-numbered n _ _)) (λ r. tt)
+    step-numbered (checks rules then _) (λ r. value (gateIn bs ∷ r .0, r .1)) (then-numbered (checks rules) _ (checks-numbered rules tt) (gates-numbered n _ _)) (λ r. tt)
 
 outputs-numbered : (n inputs nets : ℕ) (cs : List ℕ) (least s : ℕ) (bs : List ℕ) → Numbered (readOutputs n inputs nets cs least s bs)
 unfolding readOutputs
 outputs-numbered zero inputs nets cs least s bs = tt
 outputs-numbered (suc n) inputs nets cs least s bs =
     let rules = outputRules inputs nets cs least s bs in
-    step-numbered (checks rules >> _) (λ r. value (field 2 2 bs ∷ r .0, r .1))
+    step-numbered (checks rules then _) (λ r. value (field 2 2 bs ∷ r .0, r .1))
     (then-numbered (checks rules) _ (checks-numbered rules tt) (outputs-numbered n inputs nets cs _ _ _)) (λ r. tt)
 
 netlist-numbered : (bs : List ℕ) → Numbered (readNetlist bs)
@@ -78,7 +78,7 @@ unfolding readNetlist
 netlist-numbered bs =
     let rules = headerRules bs in
     let gates = readGates (gatesIn bs) (inputCounts bs) (drop 8 bs) in
-    step-numbered (checks rules >> gates) _ (then-numbered (checks rules) gates (checks-numbered rules tt) (gates-numbered (gatesIn bs) (inputCounts bs) (drop 8 bs)))
+    step-numbered (checks rules then gates) _ (then-numbered (checks rules) gates (checks-numbered rules tt) (gates-numbered (gatesIn bs) (inputCounts bs) (drop 8 bs)))
     (λ g. step-numbered (readOutputs (outputsIn bs) (inputsIn bs) (inputsIn bs + gatesIn bs) (netByNet gateCount 0 (inputCounts bs) (g .0)) 0 0 (g .1)) _
     (outputs-numbered (outputsIn bs) (inputsIn bs) (inputsIn bs + gatesIn bs) (netByNet gateCount 0 (inputCounts bs) (g .0)) 0 0 (g .1))
     (λ o. then-numbered (checks ((20, eqb (length (o .1)) 0) ∷ [])) _ (checks-numbered ((20, eqb (length (o .1)) 0) ∷ []) tt) tt))
@@ -97,12 +97,12 @@ legal-numbered : (each paths total first : ℕ) (report ws : List ℕ) → Numbe
 unfolding endLegal endBy
 legal-numbered each paths total first report ws =
     let whole : List Rule = (33, wholeLength each total) ∷ [] in
-    let state = soFar first ws >>= λ left. storeChecked paths left in
+    let state = soFar first ws into λ left. storeChecked paths left in
     let stateIs : Numbered state =
     step-numbered (soFar first ws) (λ left. storeChecked paths left) (so-far-numbered first ws)
     (λ left. then-numbered (checks (storeRules paths left)) (value left) (checks-numbered (storeRules paths left) tt) tt) in
     let rules : List ℕ → List Rule = λ left. reportRules report (reportRecord (total / each) paths (runsByEdge left)) in
-    step-numbered (checks whole >> state) (λ left. checks (rules left) >> value left) (then-numbered (checks whole) state (checks-numbered whole tt) stateIs)
+    step-numbered (checks whole then state) (λ left. checks (rules left) then value left) (then-numbered (checks whole) state (checks-numbered whole tt) stateIs)
     (λ left. then-numbered (checks (rules left)) (value left) (checks-numbered (rules left) tt) tt)
 
 stage-numbered : (netlist : List ℕ) (total first : ℕ) (report ws : List ℕ) → Numbered (endStage netlist total first report ws)
@@ -116,4 +116,4 @@ unfolding endAnswer endCall
 end-numbered netlist total first report ws =
     let lent : List Rule = storeRule ws ∷ [] in
     let stage = endStage netlist total first report ws in
-    then-numbered (checks lent >> stage) (value tt) (then-numbered (checks lent) stage (checks-numbered lent tt) (stage-numbered netlist total first report ws)) tt
+    then-numbered (checks lent then stage) (value tt) (then-numbered (checks lent) stage (checks-numbered lent tt) (stage-numbered netlist total first report ws)) tt

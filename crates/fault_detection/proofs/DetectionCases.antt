@@ -8,7 +8,7 @@ use native.Mathlib.Omega.{arith}
 use borrow.Author.Needs.{needs}
 use borrow.Author.Tests.{not-true, not-false, le-leb, lt-leb}
 use lib.Dec.{leb}
-use Rattle.model.specs.Base.{Answer, refused, value, _>>_, checks}
+use Rattle.model.specs.Base.{Answer, refused, value, _then_, checks}
 use Rattle.model.specs.Netlist.{Netlist, pathTotal}
 use Rattle.model.specs.Path.{Edge, edgeOfFault, pathOfFault}
 use Rattle.model.specs.Detect.{detectsNumber}
@@ -59,12 +59,12 @@ module _ (file ps cs : List ℕ) (shape : Shape) (total : ℕ) (a : Asked file p
       found : Bool
       found = detectsFault N (testOf N (classOf class) rec) fault
 
-      as-asked : (x : Answer (Unit {0})) → recordOf r ≡ x → (x >> checks ((60, in-range) ∷ []) >> value found) ≡ detectionOn N class rec fault
+      as-asked : (x : Answer (Unit {0})) → recordOf r ≡ x → (x then checks ((60, in-range) ∷ []) then value found) ≡ detectionOn N class rec fault
       unfolding detectionOn in-range found
       as-asked x e =
           let q : within 1 2 class ≡ true = sym ek ∙ not-false k h in
-          ap (λ (y : Answer (Unit {0})). y >> checks ((60, in-range) ∷ []) >> value found) (sym e ∙ rt .answer N (sym (a .tables .inputsAre)))
-          ∙ ap (λ (y : Answer (Unit {0})). y >> value found) (sym (checks-both (testRules N rec) ((60, in-range) ∷ [])))
+          ap (λ (y : Answer (Unit {0})). y then checks ((60, in-range) ∷ []) then value found) (sym e ∙ rt .answer N (sym (a .tables .inputsAre)))
+          ∙ ap (λ (y : Answer (Unit {0})). y then value found) (sym (checks-both (testRules N rec) ((60, in-range) ∷ [])))
           ∙ rw q refl
 
       pub on-record : (w : Refusal) → r ≡ record-answer.Refused w
@@ -72,7 +72,7 @@ module _ (file ps cs : List ℕ) (shape : Shape) (total : ℕ) (a : Asked file p
       on-record w e = every (refused (refusalNumber w)) class fault rec (as-asked (refused (refusalNumber w)) (ap recordOf e))
 
       module _ (e : r ≡ record-answer.Legal) (number : ℕ) (en : number ≡ pathOfFault fault) where
-        legal-asked : (checks ((60, in-range) ∷ []) >> value found) ≡ detectionOn N class rec fault
+        legal-asked : (checks ((60, in-range) ∷ []) then value found) ≡ detectionOn N class rec fault
         legal-asked = as-asked (value tt) (ap recordOf e)
 
         pub on-low : number < 1 → (M : Netlist) → CircuitTables M file ps cs shape → detectionOf (detection.Refused why.NoSuchNumber) ≡ detectionOn M class rec fault

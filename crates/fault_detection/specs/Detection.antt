@@ -5,7 +5,7 @@
 use mathlib.Core.Bool.{Bool, true, false}
 use mathlib.Core.List.{List, [], _∷_, _++_}
 use Prim.Native.Nat.{ℕ, _*_}
-use Rattle.model.specs.Base.{Answer, refused, value, _>>=_, _>>_, Rule, checks}
+use Rattle.model.specs.Base.{Answer, refused, value, _into_, _then_, Rule, checks}
 use Rattle.model.specs.Netlist.{Netlist, pathTotal}
 use Rattle.model.specs.Path.{edgeOfFault, pathOfFault}
 use Rattle.model.specs.Detect.{Test, detectsNumber}
@@ -24,11 +24,11 @@ detectionRules N class rec fault = classRule class ∷ (testRules N rec ++ ((60,
 
 -- once the netlist is read
 unfoldable pub detectionOn : Netlist → ℕ → List ℕ → ℕ → Answer Bool
-detectionOn N class rec fault = checks (detectionRules N class rec fault) >> value (detectsFault N (testOf N (classOf class) rec) fault)
+detectionOn N class rec fault = checks (detectionRules N class rec fault) then value (detectsFault N (testOf N (classOf class) rec) fault)
 
 -- The call
 unfoldable pub detectionCall : List ℕ → ℕ → List ℕ → ℕ → Answer Bool
-detectionCall netlist class rec fault = readNetlist netlist >>= λ N. detectionOn N class rec fault
+detectionCall netlist class rec fault = readNetlist netlist into λ N. detectionOn N class rec fault
 
 -- the papers' number of a refusal, or whether the fault is detected
 abbrev pub detectionOf : DetectionAnswer → Answer Bool

@@ -7,7 +7,7 @@ use mathlib.Core.List.{List, [], _∷_, map, List·Memᴰ}
 use mathlib.Core.Logic.{_↔_}
 use Prim.Native.Nat.{ℕ, suc, _-_, _*_, _≤_}
 use lib.ListN.{length, getD}
-use Rattle.model.specs.Base.{Answer, value, _>>=_, _>>_, checks}
+use Rattle.model.specs.Base.{Answer, value, _into_, _then_, checks}
 use Rattle.model.specs.Netlist.{Netlist, pathTotal}
 use Rattle.model.specs.Detect.{Test, nonRobust}
 use Rattle.model.specs.Read.{within, readNetlist, classOf, classRule, testRules, testOf}
@@ -26,16 +26,16 @@ placesFrom N fault k (t ∷ ts) =
 -- the place Test for each record in order, with no store and no working memory
 abbrev pub recordsLegal : Netlist → List (List ℕ) → Answer (Unit {0})
 recordsLegal N [] = value tt
-recordsLegal N (r ∷ rs) = checks (testRules N r) >> recordsLegal N rs
+recordsLegal N (r ∷ rs) = checks (testRules N r) then recordsLegal N rs
 
 -- The call: 83, 33, the records, then 60
 unfoldable pub whichCall : List ℕ → ℕ → List ℕ → ℕ → Answer (List ℕ)
 whichCall netlist class testFile fault =
     readNetlist netlist
-    >>= λ N. checks (classRule class ∷ (33, wholeRecords N testFile) ∷ [])
-    >> recordsLegal N (fileRecords N testFile)
-    >> checks ((60, within 1 (2 * pathTotal N) fault) ∷ [])
-    >> value (placesFrom N fault 1 (map (testOf N (classOf class)) (fileRecords N testFile)))
+    into λ N. checks (classRule class ∷ (33, wholeRecords N testFile) ∷ [])
+    then recordsLegal N (fileRecords N testFile)
+    then checks ((60, within 1 (2 * pathTotal N) fault) ∷ [])
+    then value (placesFrom N fault 1 (map (testOf N (classOf class)) (fileRecords N testFile)))
 
 -- no test
 abbrev pub noTest : Test

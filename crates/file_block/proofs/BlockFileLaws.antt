@@ -8,7 +8,7 @@ use native.Mathlib.Numerals.{add-one}
 use native.Mathlib.Omega.{arith}
 use lib.ListN.{length, take, drop, length-drop, length-map}
 use lib.Seq.{drop-drop}
-use Rattle.model.specs.Base.{Answer, refused, value, _>>=_, checks, numbersFrom}
+use Rattle.model.specs.Base.{Answer, refused, value, _into_, checks, numbersFrom}
 use Rattle.model.specs.Netlist.{Netlist, pathTotal}
 use Rattle.model.specs.Detect.{Class, Test}
 use Rattle.model.specs.Read.{testRules, testOf, recordLength}
@@ -79,10 +79,10 @@ module _ (N : Netlist) (part : List ℕ) where
 
 -- ---- the test calls with them
 
-same-bind : {x y : Answer Tested} → x ≡ y → (f g : Tested → Answer (List ℕ)) → ((d : Tested) → x ≡ value d → f d ≡ g d) → (x >>= f) ≡ (y >>= g)
-same-bind {x} {y} e f g h = go x h ∙ ap (λ (a : Answer Tested). a >>= g) e
+same-bind : {x y : Answer Tested} → x ≡ y → (f g : Tested → Answer (List ℕ)) → ((d : Tested) → x ≡ value d → f d ≡ g d) → (x into f) ≡ (y into g)
+same-bind {x} {y} e f g h = go x h ∙ ap (λ (a : Answer Tested). a into g) e
   where
-    go : (x : Answer Tested) → ((d : Tested) → x ≡ value d → f d ≡ g d) → (x >>= f) ≡ (x >>= g)
+    go : (x : Answer Tested) → ((d : Tested) → x ≡ value d → f d ≡ g d) → (x into f) ≡ (x into g)
     go (refused n) h = refl
     go (value d) h = h d refl
 

@@ -8,7 +8,7 @@ use native.Mathlib.Nat.{le-trans, mul-le-mul-left, mul-one}
 use native.Mathlib.Omega.{arith}
 use borrow.Author.Needs.{needs}
 use lib.ListN.{length, drop}
-use Rattle.model.specs.Base.{refused, value, _>>=_, _>>_}
+use Rattle.model.specs.Base.{refused, value, _into_, _then_}
 use Rattle.model.specs.Netlist.{Netlist}
 use Rattle.model.specs.Detect.{Class}
 use Rattle.model.specs.Read.{classOf, recordLength}
@@ -95,13 +95,13 @@ module _ {table places : List ℕ} {file : FileNumbers} {ups downs ws work : Lis
         abbrev rest : List (List ℕ)
         rest = fileRecords N (drop (recordLength N * n) part)
 
-        answers : testAll N c block ws ≡ (stageOf (r .answer) >> value ws′)
+        answers : testAll N c block ws ≡ (stageOf (r .answer) then value ws′)
         answers = block-all N c (recordAt N part) work n m (b .legal) ∙ sym (done .ofTests N (testAt N c part) (read-tests N t) m .answer)
 
         count : r .taken ≡ takenOf N c block ws
         count = done .ofTests N (testAt N c part) (read-tests N t) m .taken ∙ sym (block-taken N c (recordAt N part) work n m (b .legal))
 
-        all-of : testAll N c (fileRecords N part) ws ≡ (testAll N c block ws >>= λ left. testAll N c rest left)
+        all-of : testAll N c (fileRecords N part) ws ≡ (testAll N c block ws into λ left. testAll N c rest left)
         all-of = ap (λ (rs : List (List ℕ)). testAll N c rs ws) (file-block N part n (b .whole)) ∙ testAll-append N c block rest ws
 
         counted : takenOf N c (fileRecords N part) ws ≡ takenThen N c rest (testAll N c block ws) (takenOf N c block ws)
@@ -121,12 +121,12 @@ module _ {table places : List ℕ} {file : FileNumbers} {ups downs ws work : Lis
 
         true-refused : (w : Refusal) → r .answer ≡ stage.Refused w → BlockTrue (record { taken = r .taken; answer = stage.Refused w }) N c part ws ws′ work′
         true-refused w e =
-            let q : testAll N c block ws ≡ refused (refusalNumber w) = answers ∙ ap (λ (a : StageAnswer). stageOf a >> value ws′) e in
+            let q : testAll N c block ws ≡ refused (refusalNumber w) = answers ∙ ap (λ (a : StageAnswer). stageOf a then value ws′) e in
             refused-at taken-few (all-of ∙ rw q refl) (count ∙ sym (counted ∙ rw q refl))
 
         module _ (e : r .answer ≡ stage.Taken) where
           made : testAll N c block ws ≡ value ws′
-          made = answers ∙ ap (λ (a : StageAnswer). stageOf a >> value ws′) e
+          made = answers ∙ ap (λ (a : StageAnswer). stageOf a then value ws′) e
 
           all-taken : takenOf N c block ws ≡ n
           all-taken = taken-all N c block ws ws′ made ∙ length-block N part 0 n

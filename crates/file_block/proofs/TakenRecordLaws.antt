@@ -6,7 +6,7 @@ use Prim.Native.Nat.{ℕ, suc, _+_, _≤_}
 use native.Mathlib.Nat.{zero-add}
 use native.Mathlib.Omega.{arith}
 use lib.ListN.{length}
-use Rattle.model.specs.Base.{Answer, refused, value, _>>=_}
+use Rattle.model.specs.Base.{Answer, refused, value, _into_}
 use Rattle.model.specs.Netlist.{Netlist}
 use Rattle.model.specs.Detect.{Class}
 use Rattle.model.specs.Calls.{Tested, testStage, storeLeft}
@@ -27,7 +27,7 @@ then-more N c qs (value left) j k = omega arith
 -- one record, then the others
 taken-one : (N : Netlist) (c : Class) (qs : List (List ℕ)) (x : Answer Tested) (f g : List ℕ → ℕ) (h : List ℕ → Answer (List ℕ))
     → ((ws : List ℕ) → f ws ≡ takenThen N c qs (h ws) (g ws))
-    → oneMoreTest x (λ d. f (storeLeft d)) ≡ takenThen N c qs (x >>= λ d. h (storeLeft d)) (oneMoreTest x (λ d. g (storeLeft d)))
+    → oneMoreTest x (λ d. f (storeLeft d)) ≡ takenThen N c qs (x into λ d. h (storeLeft d)) (oneMoreTest x (λ d. g (storeLeft d)))
 taken-one N c qs (refused n) f g h q = refl
 taken-one N c qs (value d) f g h q =
     let ws : List ℕ = storeLeft d in

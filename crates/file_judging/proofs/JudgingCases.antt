@@ -8,7 +8,7 @@ use borrow.Author.Needs.{needs}
 use borrow.Author.Tests.{eq-eqb, ne-eqb, not-true, not-false}
 use lib.Dec.{leb, eqb}
 use lib.ListN.{length, replicate}
-use Rattle.model.specs.Base.{Answer, refused, value, _>>=_, checks, passes}
+use Rattle.model.specs.Base.{Answer, refused, value, _into_, checks, passes}
 use Rattle.model.specs.Read.{vectorBytes}
 use Rattle.model.specs.Refusals.{refusalNumber}
 use Rattle.model.specs.Store.{maxTests, runsByEdge, storeRules}
@@ -78,7 +78,7 @@ module _ (each paths total : ℕ) (report : List ℕ) (x : Answer (List ℕ)) (b
 module _ (inputs paths total first : ℕ) (report ws : List ℕ) (each : ℕ) (ee : each ≡ 2 + 2 * vectorBytes inputs)
     (b : Bool) (eb : b ≡ wholeLength each total) where
   abbrev state : Answer (List ℕ)
-  state = soFar first ws >>= λ left. storeChecked paths left
+  state = soFar first ws into λ left. storeChecked paths left
 
   ends : (a : Answer (List ℕ)) → endBy each paths total report state ≡ a → passes a ≡ passes (endLegal (2 + 2 * vectorBytes inputs) paths total first report ws)
   unfolding endLegal

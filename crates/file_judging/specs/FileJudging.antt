@@ -5,7 +5,7 @@ use mathlib.Core.Bool.{Bool, true, false, _&&_}
 use mathlib.Core.List.{List, [], _∷_}
 use Prim.Native.Nat.{ℕ, _/_, _%_}
 use lib.Dec.{leb, eqb}
-use Rattle.model.specs.Base.{Answer, refused, value, _>>=_, _>>_, checks, passes}
+use Rattle.model.specs.Base.{Answer, refused, value, _into_, _then_, checks, passes}
 use Rattle.model.specs.Refusals.{refusalNumber}
 use Rattle.model.specs.Store.{maxTests, runsByEdge, storeRules}
 use Rattle.model.specs.Report.{reportRecord, reportRules}
@@ -26,7 +26,7 @@ wholeLength each total = eqb (total % each) 0 && leb (total / each) maxTests
 
 -- The place Report, with the store that the test calls leave: the number of a refusal, or that store
 abbrev pub reported : ℕ → ℕ → List ℕ → List ℕ → Answer (List ℕ)
-reported testCount paths report left = checks (reportRules report (reportRecord testCount paths (runsByEdge left))) >> value left
+reported testCount paths report left = checks (reportRules report (reportRecord testCount paths (runsByEdge left))) then value left
 
 pub record Judged (r : AuditAnswer) (testCount paths : ℕ) (report ws ws′ : List ℕ) : Type 0 where
   pub answer : auditedOf r ≡ passes (reported testCount paths report ws)
@@ -38,12 +38,12 @@ pub record Judged (r : AuditAnswer) (testCount paths : ℕ) (report ws ws′ : L
 unfoldable pub endBy : ℕ → ℕ → ℕ → List ℕ → Answer (List ℕ) → Answer (List ℕ)
 endBy each paths total report x =
     checks ((33, wholeLength each total) ∷ [])
-    >> x
-    >>= λ left. reported (total / each) paths report left
+    then x
+    into λ left. reported (total / each) paths report left
 
 -- a store that is checked: 40 to 42
 abbrev pub storeChecked : ℕ → List ℕ → Answer (List ℕ)
-storeChecked paths ws = checks (storeRules paths ws) >> value ws
+storeChecked paths ws = checks (storeRules paths ws) then value ws
 
 -- The end: that it accepts, or the number of the refusal
 abbrev pub endedOf : EndAnswer → Answer (Unit {0})
@@ -56,4 +56,4 @@ soFar first ws = elim (eqb first 0) [ true ↦ value ws | false ↦ refused firs
 
 -- 33 by the length of the whole file, the first refusal, 40 to 42, then the report
 unfoldable pub endLegal : ℕ → ℕ → ℕ → ℕ → List ℕ → List ℕ → Answer (List ℕ)
-endLegal each paths total first report ws = endBy each paths total report (soFar first ws >>= λ left. storeChecked paths left)
+endLegal each paths total first report ws = endBy each paths total report (soFar first ws into λ left. storeChecked paths left)

@@ -5,7 +5,7 @@ use mathlib.Core.Path.{_≡_}
 use mathlib.Core.List.{List, [], _∷_}
 use Prim.Native.Nat.{ℕ, _*_}
 use lib.ListN.{length, drop}
-use Rattle.model.specs.Base.{Answer, value, _>>_, checks}
+use Rattle.model.specs.Base.{Answer, value, _then_, checks}
 use Rattle.model.specs.Netlist.{Netlist}
 use Rattle.model.specs.Detect.{Class}
 use Rattle.model.specs.Read.{readNetlist, classOf}
@@ -28,7 +28,7 @@ recordsTaken N c testFile = testAll N c (fileRecords N testFile) emptyStore
 
 -- 33 by the length of the file, then its records
 unfoldable pub fileTaken : Netlist → Class → List ℕ → Answer (List ℕ)
-fileTaken N c testFile = checks ((33, wholeRecords N testFile) ∷ []) >> testAll N c (fileRecords N testFile) emptyStore
+fileTaken N c testFile = checks ((33, wholeRecords N testFile) ∷ []) then testAll N c (fileRecords N testFile) emptyStore
 
 -- The walk over a file: its length, what it answers by `call`, the store that it leaves, and the number of records taken before the first refused
 pub record Walked (call : Netlist → Class → List ℕ → Answer (List ℕ)) (r : Walk) (netlist : List ℕ) (loaded : Loaded) (class : ℕ) (space ws work work′ : List ℕ)

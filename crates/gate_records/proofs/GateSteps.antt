@@ -12,7 +12,7 @@ use lib.Seq.{drop-drop, getD-drop}
 use lib.Dec.{leb, ltb, leb→le}
 use mir.Val.{Fits}
 use mir.Syntax.{w16, w64}
-use Rattle.model.specs.Base.{Answer, refused, value, _>>=_, _>>_, checks, allOf}
+use Rattle.model.specs.Base.{Answer, refused, value, _into_, _then_, checks, allOf}
 use Rattle.model.specs.Netlist.{Gate, netByNet, gateCount, atNets}
 use Rattle.model.specs.Read.{readGates, gateRules, gateIn, countIn, netFields}
 use Rattle.model.proofs.AnswerLaws.{then-first, then-second, checks→, value-inj, not-refused}
@@ -101,7 +101,7 @@ gates-end zero net at array places s inputs number h w l p = record {
 gates-end (suc left) net at array places s inputs number h w l p = absurd (omega arith)
 
 gates-step : (left : ℕ) (cs s : List ℕ) (count size : ℕ) → 0 < left → GateTaken cs s count size
-    → readGates left cs s ≡ (readGates (left - 1) (cs ++ (count ∷ [])) (drop size s) >>= λ r. value (gateIn s ∷ r .0, r .1))
+    → readGates left cs s ≡ (readGates (left - 1) (cs ++ (count ∷ [])) (drop size s) into λ r. value (gateIn s ∷ r .0, r .1))
 unfolding readGates
 gates-step zero cs s count size h t = absurd (omega arith)
 gates-step (suc left) cs s count size h t = rw (t .passed, sub-one (suc left), ← t .count-is, ← t .size-is) refl
@@ -111,10 +111,10 @@ unfolding readGates gateStep
 gates-refused zero cs s n h t = absurd (omega arith)
 gates-refused (suc left) cs s n h t =
     let v : GateSize = record { count = countIn (padded cs) s; size = 4 + 2 * getD s 3 0 } in
-    go (checks (gateRules (length cs) cs s)) v _ _ (subst (λ (c : Answer (Unit {0})). (c >> value v) ≡ refused n) (rules-pad cs s) t)
+    go (checks (gateRules (length cs) cs s)) v _ _ (subst (λ (c : Answer (Unit {0})). (c then value v) ≡ refused n) (rules-pad cs s) t)
   where
     go : (c : Answer (Unit {0})) (v : GateSize) (r : Answer (List Gate × List ℕ)) (f : List Gate × List ℕ → Answer (List Gate × List ℕ))
-        → (c >> value v) ≡ refused n → ((c >> r) >>= f) ≡ refused n
+        → (c then value v) ≡ refused n → ((c then r) into f) ≡ refused n
     go (refused k) v r f e = let z : k ≡ n = cc in ap (λ m. refused m) z
     go (value u) v r f e = absurd (not-refused (sym e))
 

@@ -6,7 +6,7 @@ use mathlib.Core.List.{List, [], _∷_, _++_}
 use mathlib.Core.Bool.{Bool}
 use lib.ListN.{length, getD, drop, replicate}
 use lib.Dec.{ltb}
-use Rattle.model.specs.Base.{Answer, refused, value, checks, allOf, sumOf, _>>_}
+use Rattle.model.specs.Base.{Answer, refused, value, checks, allOf, sumOf, _then_}
 use Rattle.model.specs.Netlist.{Gate, netByNet, gateCount, atNets, maxNets, maxCount}
 use Rattle.model.specs.Read.{gateRules, countIn, netFields, readGates}
 use Rattle.model.specs.Refusals.{refusalNumber}
@@ -42,7 +42,7 @@ gateOf (gate.Refused w) = refused (refusalNumber w)
 
 -- Gate by gate: the rules of one gate, then its count and the length of its record
 unfoldable pub gateStep : ℕ → List ℕ → List ℕ → Answer GateSize
-gateStep net cs bs = checks (gateRules net cs bs) >> value (record { count = countIn cs bs; size = 4 + 2 * getD bs 3 0 })
+gateStep net cs bs = checks (gateRules net cs bs) then value (record { count = countIn cs bs; size = 4 + 2 * getD bs 3 0 })
 
 -- `n` pins from a position on: whether each names a net below `net`, and the sum of their counts
 unfoldable pub pinsLower : ℕ → ℕ → ℕ → List ℕ → Bool

@@ -8,7 +8,7 @@ use Prim.Native.Nat.{ℕ, _+_, _-_, _≤_, _<_}
 use native.Mathlib.Omega.{arith}
 use lib.Dec.{T, leb, ltb, eqb, eqb→eq}
 use lib.ListN.{length, getD}
-use Rattle.model.specs.Base.{Answer, refused, value, _>>_, checks, sumOf}
+use Rattle.model.specs.Base.{Answer, refused, value, _then_, checks, sumOf}
 use Rattle.model.specs.Netlist.{Netlist, pathTotal}
 use Rattle.model.specs.Path.{Edge, pathOf}
 use Rattle.model.specs.Runs.{Run, Separated, inRuns, size, howMany, separatedRuns}
@@ -117,8 +117,8 @@ pub rows-true : (netlist ws : List ℕ) (r : ByEdge Rows) → lengthsCall netlis
 unfolding lengthsCall totalsCall
 rows-true netlist ws r q =
     let lent = checks (storeRule ws ∷ []) in
-    let rest : Netlist → Answer (ByEdge Rows) = λ N. checks (storeRules (pathTotal N) ws ++ (lengthRule N ∷ [])) >> value (byEdge (rowsOf N ws)) in
-    let s = steps (lent >> readNetlist netlist) rest q in
+    let rest : Netlist → Answer (ByEdge Rows) = λ N. checks (storeRules (pathTotal N) ws ++ (lengthRule N ∷ [])) then value (byEdge (rowsOf N ws)) in
+    let s = steps (lent then readNetlist netlist) rest q in
     let N : Netlist = s .got in
     let rules = storeRules (pathTotal N) ws in
     let all = checks (rules ++ (lengthRule N ∷ [])) in
@@ -151,22 +151,22 @@ rows-true netlist ws r q =
     }
 
 -- 84
-last-rule→ : {A : Type 0} (b : Bool) (x : A) → (checks ((84, b) ∷ []) >> value x) ≡ refused 84 → b ≡ false
+last-rule→ : {A : Type 0} (b : Bool) (x : A) → (checks ((84, b) ∷ []) then value x) ≡ refused 84 → b ≡ false
 last-rule→ true x q = absurd (not-refused (sym q))
 last-rule→ false x q = refl
 
-→last-rule : {A : Type 0} (b : Bool) (x : A) → b ≡ false → (checks ((84, b) ∷ []) >> value x) ≡ refused 84
+→last-rule : {A : Type 0} (b : Bool) (x : A) → b ≡ false → (checks ((84, b) ∷ []) then value x) ≡ refused 84
 →last-rule true x q = absurd (subst T q tt)
 →last-rule false x q = refl
 
 past-checks : (netlist ws : List ℕ) (N : Netlist) → readNetlist netlist ≡ value N → length ws ≡ storeWords → checks (storeRules (pathTotal N) ws) ≡ value tt
-    → lengthsCall netlist ws ≡ (checks (lengthRule N ∷ []) >> value (byEdge (rowsOf N ws)))
+    → lengthsCall netlist ws ≡ (checks (lengthRule N ∷ []) then value (byEdge (rowsOf N ws)))
 unfolding lengthsCall
 past-checks netlist ws N read l sound =
     let lent : checks (storeRule ws ∷ []) ≡ value tt = →checks (storeRule ws ∷ []) (eq→eqb (length ws) storeWords l, tt) in
     let rules : checks (storeRules (pathTotal N) ws ++ (lengthRule N ∷ [])) ≡ checks (lengthRule N ∷ []) =
-    checks-both (storeRules (pathTotal N) ws) (lengthRule N ∷ []) ∙ ap (λ (x : Answer (Unit {0})). x >> checks (lengthRule N ∷ [])) sound in
-    rw (lent, read) (ap (λ (x : Answer (Unit {0})). x >> value (byEdge (rowsOf N ws))) rules)
+    checks-both (storeRules (pathTotal N) ws) (lengthRule N ∷ []) ∙ ap (λ (x : Answer (Unit {0})). x then checks (lengthRule N ∷ [])) sound in
+    rw (lent, read) (ap (λ (x : Answer (Unit {0})). x then value (byEdge (rowsOf N ws))) rules)
 
 pub too-long-holds : TooLong
 too-long-holds = record {

@@ -3,7 +3,7 @@
 use mathlib.Core.List.{List, [], _∷_, _++_}
 use Prim.Native.Nat.{ℕ, _-_}
 use lib.ListN.{length, replicate}
-use Rattle.model.specs.Base.{Answer, refused, value, _>>=_}
+use Rattle.model.specs.Base.{Answer, refused, value, _into_}
 use Rattle.model.specs.Runs.{run}
 use Rattle.model.specs.Store.{emptyStore}
 use Rattle.model.specs.Encode.{headerBytes, outputBytes}
@@ -21,7 +21,7 @@ noExample = record { netlist = []; store = []; answer = refused 1 }
 
 -- an answer as 256 numbers
 unfoldable pub rowsAnswered : List ℕ → List ℕ → Answer (List ℕ)
-rowsAnswered netlist ws = lengthsCall netlist ws >>= λ r. value (lengthWords r)
+rowsAnswered netlist ws = lengthsCall netlist ws into λ r. value (lengthWords r)
 
 -- a row that ends in zeros
 unfoldable pub upTo : List ℕ → List ℕ

@@ -8,7 +8,7 @@ use mathlib.Core.List.{List, [], _∷_, _++_, map, List·Memᴰ, List·Nodup}
 use Prim.Native.Nat.{ℕ, _≤_, _<_}
 use lib.Dec.{T, leb, eqb}
 use lib.ListN.{length, getD}
-use Rattle.model.specs.Base.{Answer, refused, value, _>>=_, _>>_, Rule, checks, sumOf, numbersFrom}
+use Rattle.model.specs.Base.{Answer, refused, value, _into_, _then_, Rule, checks, sumOf, numbersFrom}
 use Rattle.model.specs.Netlist.{Netlist, counts, pathTotal}
 use Rattle.model.specs.Path.{CircuitPath, Edge, valid, numberOf, pathAt, pathOf}
 use Rattle.model.specs.Runs.{inRuns, howMany}
@@ -65,9 +65,9 @@ lengthRule N = (84, eqb (howMany (λ k. leb lengths (lengthOf N k)) (pathTotal N
 unfoldable pub lengthsCall : List ℕ → List ℕ → Answer (ByEdge Rows)
 lengthsCall netlist ws =
     checks (storeRule ws ∷ [])
-    >> readNetlist netlist
-    >>= λ N. checks (storeRules (pathTotal N) ws ++ (lengthRule N ∷ []))
-    >> value (byEdge (rowsOf N ws))
+    then readNetlist netlist
+    into λ N. checks (storeRules (pathTotal N) ws ++ (lengthRule N ∷ []))
+    then value (byEdge (rowsOf N ws))
 
 -- Partial paths: how many of those 1 to `k` of a net have `l` gates, and how many of all of them
 unfoldable pub partialsUpTo : Netlist → ℕ → ℕ → ℕ → ℕ

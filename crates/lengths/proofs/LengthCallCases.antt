@@ -7,7 +7,7 @@ use native.Mathlib.Omega.{arith}
 use borrow.Author.Needs.{needs}
 use borrow.Author.Tests.{eq-eqb, ne-eqb}
 use lib.ListN.{length}
-use Rattle.model.specs.Base.{Answer, refused, value, _>>_, checks}
+use Rattle.model.specs.Base.{Answer, refused, value, _then_, checks}
 use Rattle.model.specs.Netlist.{Netlist, pathTotal}
 use Rattle.model.specs.Read.{readNetlist}
 use Rattle.model.specs.Refusals.{refusalNumber}
@@ -60,21 +60,21 @@ module _ (file ws : List ℕ) (l : length ws ≡ storeWords) (cs ps : List ℕ) 
 
     module _ (c : StoreCheck) (checked : checkOf c ≡ checks (storeRules total ws)) where
       -- the call, from what the checks of the store's words answer
-      on-words : lengthsCall file ws ≡ (checkOf c >> checks (lengthRule N ∷ []) >> value (byEdge (rowsOf N ws)))
+      on-words : lengthsCall file ws ≡ (checkOf c then checks (lengthRule N ∷ []) then value (byEdge (rowsOf N ws)))
       unfolding lengthsCall
       on-words =
           let rows : Answer (ByEdge Rows) = value (byEdge (rowsOf N ws)) in
           let words : checkOf c ≡ checks (storeRules (pathTotal N) ws) = checked ∙ ap (λ n. checks (storeRules n ws)) (is .totalIs) in
-          let begun : lengthsCall file ws ≡ (checks (storeRules (pathTotal N) ws ++ (lengthRule N ∷ [])) >> rows) =
+          let begun : lengthsCall file ws ≡ (checks (storeRules (pathTotal N) ws ++ (lengthRule N ∷ [])) then rows) =
           rw (eq-eqb (length ws) storeWords l, is .tables .legal) refl in
           begun
-          ∙ ap (λ (x : Answer (Unit {0})). x >> rows) (checks-both (storeRules (pathTotal N) ws) (lengthRule N ∷ []))
-          ∙ ap (λ (x : Answer (Unit {0})). x >> checks (lengthRule N ∷ []) >> rows) (sym words)
+          ∙ ap (λ (x : Answer (Unit {0})). x then rows) (checks-both (storeRules (pathTotal N) ws) (lengthRule N ∷ []))
+          ∙ ap (λ (x : Answer (Unit {0})). x then checks (lengthRule N ∷ []) then rows) (sym words)
 
       pub call-store : (w : Refusal) → c ≡ check.Refused w → (r : LengthRows) → r ≡ nothing (lengthsAnswer.Refused w) → LengthsTrue r file ws
       call-store w k r er =
           refused-rows w file ws r
-          (on-words ∙ ap (λ (x : StoreCheck). checkOf x >> checks (lengthRule N ∷ []) >> value (byEdge (rowsOf N ws))) k) er
+          (on-words ∙ ap (λ (x : StoreCheck). checkOf x then checks (lengthRule N ∷ []) then value (byEdge (rowsOf N ws))) k) er
 
       module _ (k : c ≡ check.Sound) where
         pub call-countable : Countable file ps cs shape total ws
@@ -89,7 +89,7 @@ module _ (file ws : List ℕ) (l : length ws ≡ storeWords) (cs ps : List ℕ) 
         unfolding lengthsOn
         call-counted r f =
             subst (RowsAre r)
-            (sym (on-words ∙ ap (λ (x : StoreCheck). checkOf x >> checks (lengthRule N ∷ []) >> value (byEdge (rowsOf N ws))) k))
+            (sym (on-words ∙ ap (λ (x : StoreCheck). checkOf x then checks (lengthRule N ∷ []) then value (byEdge (rowsOf N ws))) k))
             (f N (is .tables .legal))
 
 pub ruleset call-cases = (zeros-are, call-short, call-netlist, call-fit, call-store, call-countable, call-counted, needs)

@@ -5,7 +5,7 @@ use mathlib.Core.Bool.{Bool}
 use mathlib.Core.List.{List, [], _∷_}
 use Prim.Native.Nat.{ℕ, _/_}
 use lib.ListN.{length, replicate}
-use Rattle.model.specs.Base.{Answer, refused, value, _>>_, checks, passes}
+use Rattle.model.specs.Base.{Answer, refused, value, _then_, checks, passes}
 use Rattle.model.specs.Netlist.{Netlist, pathTotal}
 use Rattle.model.specs.Runs.{inRuns}
 use Rattle.model.specs.Store.{ByEdge, byEdge}
@@ -60,7 +60,7 @@ LengthsTrue r netlist ws = RowsAre r (lengthsCall netlist ws)
 
 -- the call once store length, netlist and the store's words are passed
 unfoldable pub lengthsOn : Netlist → List ℕ → Answer (ByEdge Rows)
-lengthsOn N ws = checks (lengthRule N ∷ []) >> value (byEdge (rowsOf N ws))
+lengthsOn N ws = checks (lengthRule N ∷ []) then value (byEdge (rowsOf N ws))
 
 -- the tables of a legal netlist and a sound store
 pub record Countable (file positions counts : List ℕ) (shape : Shape) (total : ℕ) (ws : List ℕ) : Type 0 where

@@ -8,7 +8,7 @@ use Prim.Native.Nat.{ℕ, zero, suc, _+_, _*_}
 use native.Mathlib.Omega.{arith}
 use lib.Dec.{T}
 use lib.ListN.{length, length-append}
-use Rattle.model.specs.Base.{Answer, value, _>>=_, _>>_, checks}
+use Rattle.model.specs.Base.{Answer, value, _into_, _then_, checks}
 use Rattle.model.specs.Netlist.{Netlist, pathTotal}
 use Rattle.model.specs.Detect.{Class}
 use Rattle.model.specs.Read.{within, readNetlist, classOf, classRule, recordLength}
@@ -89,6 +89,6 @@ unfolding listingText listingOf
 pieces-hold N netlist class ps e k w =
     let c : Class = classOf class in
     let known : within 1 2 class ≡ true = T→true (within 1 2 class) k in
-    let before : (readNetlist netlist >>= λ M. checks (classRule class ∷ []) >> value M) ≡ value N = rw e (rw known refl) in
+    let before : (readNetlist netlist into λ M. checks (classRule class ∷ []) then value M) ≡ value N = rw e (rw known refl) in
     ap₂ (λ (x y : List ℕ). pathsLine (pathTotal N) ++ x ++ storeLines y) (pieces-lines N c 1 ps emptyStore w) (pieces-store N c ps emptyStore w)
     ∙ sym (ap (λ (a : Answer Netlist). listingOf a c (joined ps)) before)

@@ -4,7 +4,7 @@
 use mathlib.Core.List.{List, [], _∷_, _++_}
 use Prim.Native.Nat.{ℕ, suc, _+_, _-_, _/_}
 use lib.ListN.{length}
-use Rattle.model.specs.Base.{Answer, refused, value, _>>=_, _>>_, checks}
+use Rattle.model.specs.Base.{Answer, refused, value, _into_, _then_, checks}
 use Rattle.model.specs.Netlist.{Netlist, pathTotal}
 use Rattle.model.specs.Path.{rising, falling}
 use Rattle.model.specs.Detect.{Class}
@@ -71,4 +71,4 @@ listingOf (value N) c testFile =
 
 -- What the listing program prints
 unfoldable pub listingText : List ℕ → ℕ → List ℕ → List ℕ
-listingText netlist class testFile = listingOf (readNetlist netlist >>= λ N. checks (classRule class ∷ []) >> value N) (classOf class) testFile
+listingText netlist class testFile = listingOf (readNetlist netlist into λ N. checks (classRule class ∷ []) then value N) (classOf class) testFile

@@ -183,11 +183,11 @@ module _ (inputs size vectors : ℕ) (found : List ℕ) (sized : size ≡ vector
   pub fill-true : size ≤ 2304 → 2304 ≤ length found → (state left after : ℕ) (bytes : List ℕ) → vectors ≤ left
       → (0 < left → 0 < length found / size → 0 < vectors) → after ≡ stateAfter (vectors * inputs) state
       → bytes ≡ sets found 0 (vectorRecords inputs vectors state)
-      → FilledTrue (record { vectors = vectors; length = vectors * size; state = after }) state inputs left found bytes
+      → FilledTrue (record { vectors = vectors; size = vectors * size; state = after }) state inputs left found bytes
   fill-true l h state left after bytes few any steps put = record {
     written = put;
     stateIs = steps;
-    lengthIs = ap (λ k. vectors * k) sized;
+    sizeIs = ap (λ k. vectors * k) sized;
     inside = fit-bytes inputs size (length found) vectors sized some fit;
     few = few;
     some = λ m. any m (fit-some inputs size (length found) vectors sized some l h);

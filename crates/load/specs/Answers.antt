@@ -17,7 +17,7 @@ use Rattle.load.specs.declared.inner.Filled.{Filled}
 
 -- the load call: the state afterwards, and the length of the records
 abbrev pub loadedOf : LoadAnswer → Answer Handed
-loadedOf (load.Written s n) = value (record { state = s; length = n })
+loadedOf (load.Written s n) = value (record { state = s; written = n })
 loadedOf (load.Refused w) = refused (refusalNumber w)
 
 -- The load call: its answer, and every byte of the buffer afterwards
@@ -36,7 +36,7 @@ vectorSize inputs = inputs * (2 * recordSize inputs)
 pub record FilledTrue (r : Filled) (state inputs left : ℕ) (found bytes : List ℕ) : Type 0 where
   pub written : bytes ≡ sets found 0 (vectorRecords inputs (r .vectors) state)
   pub stateIs : r .state ≡ stateAfter (r .vectors * inputs) state
-  pub lengthIs : r .length ≡ r .vectors * vectorSize inputs
-  pub inside : r .length ≤ length found
+  pub sizeIs : r .size ≡ r .vectors * vectorSize inputs
+  pub inside : r .size ≤ length found
   pub few : r .vectors ≤ left
   pub some : 0 < left → 0 < r .vectors

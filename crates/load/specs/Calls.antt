@@ -7,7 +7,7 @@ use mathlib.Core.Option.{Option, none, some}
 use Prim.Native.Nat.{ℕ}
 use lib.Dec.{leb}
 use lib.ListN.{length, drop}
-use Rattle.model.specs.Base.{Answer, value, _>>=_, _>>_, Rule, checks, after}
+use Rattle.model.specs.Base.{Answer, value, _into_, _then_, Rule, checks, after}
 use Rattle.model.specs.Read.{within}
 use Rattle.load_request.specs.Requests.{Request}
 use Rattle.drawing.specs.Drawing.{stateAfter}
@@ -23,16 +23,16 @@ loadRules inputs buffer = (4, leb loadBufferBytes (length buffer)) ∷ (11, with
 
 -- One call writes one vector's records
 unfoldable pub loadCall : ℕ → ℕ → List ℕ → Answer (List ℕ)
-loadCall state inputs buffer = checks (loadRules inputs buffer) >> value (loadRecords inputs state)
+loadCall state inputs buffer = checks (loadRules inputs buffer) then value (loadRecords inputs state)
 
 -- What a call that is not refused hands back: the state afterwards, and the length of the records
 pub record Handed : Type 0 where
   pub state : ℕ
-  pub length : ℕ
+  pub written : ℕ
 
 unfoldable pub loadAnswer : ℕ → ℕ → List ℕ → Answer Handed
 loadAnswer state inputs buffer =
-    loadCall state inputs buffer >>= λ r. value (record { state = stateAfter inputs state; length = length r })
+    loadCall state inputs buffer into λ r. value (record { state = stateAfter inputs state; written = length r })
 
 -- nothing past the records is written, and nothing when refused
 unfoldable pub loadBuffer : ℕ → ℕ → List ℕ → List ℕ

@@ -13,7 +13,7 @@ use test_writing::inner::put_test;
 // What a buffer was filled with: the number of vectors, the bytes of their records, and the state afterwards.
 pub struct Filled {
     pub vectors: usize,
-    pub length: usize,
+    pub size: usize,
     pub state: u32,
 }
 
@@ -103,7 +103,7 @@ pub fn fill(state: u32, inputs: usize, left: usize, records: &mut [u8]) -> Fille
     let after = put_vectors(state, inputs, vectors, records);
     Filled {
         vectors,
-        length: vectors * size,
+        size: vectors * size,
         state: after,
     }
 }

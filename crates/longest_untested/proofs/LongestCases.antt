@@ -9,7 +9,7 @@ use borrow.Author.Needs.{needs}
 use borrow.Author.Tests.{eq-eqb, ne-eqb, le-leb, lt-leb}
 use lib.Dec.{leb}
 use lib.ListN.{length}
-use Rattle.model.specs.Base.{Answer, refused, value, _>>_, checks}
+use Rattle.model.specs.Base.{Answer, refused, value, _then_, checks}
 use Rattle.model.specs.Netlist.{Netlist, pathTotal}
 use Rattle.model.specs.Path.{Edge}
 use Rattle.model.specs.Runs.{Run}
@@ -156,20 +156,20 @@ module _ (file ws : List ℕ) (e : Edge) (gates from : ℕ) where
       N = is .circuit
 
       module _ (c : StoreCheck) (checked : checkOf c ≡ checks (storeRules total ws)) where
-        on-words : longestCall file ws e gates from ≡ (checkOf c >> checks (lengthRule N ∷ []) >> value (longestFrom N (storeRuns ws e) (beginGates gates) (beginFrom gates from)))
+        on-words : longestCall file ws e gates from ≡ (checkOf c then checks (lengthRule N ∷ []) then value (longestFrom N (storeRuns ws e) (beginGates gates) (beginFrom gates from)))
         unfolding longestCall
         on-words =
             let found : Answer Untested = value (longestFrom N (storeRuns ws e) (beginGates gates) (beginFrom gates from)) in
             let words : checkOf c ≡ checks (storeRules (pathTotal N) ws) = checked ∙ ap (λ n. checks (storeRules n ws)) (is .totalIs) in
-            let first : longestCall file ws e gates from ≡ (checks (storeRules (pathTotal N) ws ++ (lengthRule N ∷ [])) >> found) =
+            let first : longestCall file ws e gates from ≡ (checks (storeRules (pathTotal N) ws ++ (lengthRule N ∷ [])) then found) =
             rw (eq-eqb (length ws) storeWords l, is .tables .legal) refl in
             first
-            ∙ ap (λ (x : Answer (Unit {0})). x >> found) (checks-both (storeRules (pathTotal N) ws) (lengthRule N ∷ []))
-            ∙ ap (λ (x : Answer (Unit {0})). x >> checks (lengthRule N ∷ []) >> found) (sym words)
+            ∙ ap (λ (x : Answer (Unit {0})). x then found) (checks-both (storeRules (pathTotal N) ws) (lengthRule N ∷ []))
+            ∙ ap (λ (x : Answer (Unit {0})). x then checks (lengthRule N ∷ []) then found) (sym words)
 
         pub call-store : (w : Refusal) → c ≡ check.Refused w → longestOf (longest.Refused w) ≡ longestCall file ws e gates from
         call-store w k =
-            sym (on-words ∙ ap (λ (x : StoreCheck). checkOf x >> checks (lengthRule N ∷ []) >> value (longestFrom N (storeRuns ws e) (beginGates gates) (beginFrom gates from))) k)
+            sym (on-words ∙ ap (λ (x : StoreCheck). checkOf x then checks (lengthRule N ∷ []) then value (longestFrom N (storeRuns ws e) (beginGates gates) (beginFrom gates from))) k)
 
         module _ (k : c ≡ check.Sound) (wanted : Search) (ew : wanted ≡ begun gates from total) where
           pub call-found : (r : LongestAnswer) → ((M : Netlist) → readNetlist file ≡ value M → longestOf r ≡ longestIn M (storeRuns ws e) (wanted .gates) (wanted .from))
@@ -178,6 +178,6 @@ module _ (file ws : List ℕ) (e : Edge) (gates from : ℕ) where
           call-found r f =
               f N (is .tables .legal)
               ∙ ap (λ (x : Search). longestIn N (storeRuns ws e) (x .gates) (x .from)) ew
-              ∙ sym (on-words ∙ ap (λ (x : StoreCheck). checkOf x >> checks (lengthRule N ∷ []) >> value (longestFrom N (storeRuns ws e) (beginGates gates) (beginFrom gates from))) k)
+              ∙ sym (on-words ∙ ap (λ (x : StoreCheck). checkOf x then checks (lengthRule N ∷ []) then value (longestFrom N (storeRuns ws e) (beginGates gates) (beginFrom gates from))) k)
 
 pub ruleset call-cases = (zeros-are, call-short, call-netlist, call-fit, call-store, call-prepared, call-found, needs)

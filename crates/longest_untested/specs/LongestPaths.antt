@@ -6,7 +6,7 @@ use mathlib.Core.Bool.{true, false}
 use mathlib.Core.List.{List, [], _∷_, _++_}
 use Prim.Native.Nat.{ℕ, _≤_, _<_}
 use lib.Dec.{leb}
-use Rattle.model.specs.Base.{Answer, refused, value, _>>=_, _>>_, checks}
+use Rattle.model.specs.Base.{Answer, refused, value, _into_, _then_, checks}
 use Rattle.model.specs.Netlist.{Netlist, pathTotal}
 use Rattle.model.specs.Path.{Edge}
 use Rattle.model.specs.Runs.{Run}
@@ -31,7 +31,7 @@ beginFrom gates from = elim (leb gates 63) [ true ↦ elim (leb 1 from) [ true �
 
 -- once the runs are known
 unfoldable pub longestIn : Netlist → List Run → ℕ → ℕ → Answer Untested
-longestIn N rs gates from = checks (lengthRule N ∷ []) >> value (longestFrom N rs gates from)
+longestIn N rs gates from = checks (lengthRule N ∷ []) then value (longestFrom N rs gates from)
 
 abbrev pub longestOn : Netlist → List ℕ → Edge → ℕ → ℕ → Answer Untested
 longestOn N ws e gates from = longestIn N (storeRuns ws e) gates from
@@ -40,9 +40,9 @@ longestOn N ws e gates from = longestIn N (storeRuns ws e) gates from
 unfoldable pub longestCall : List ℕ → List ℕ → Edge → ℕ → ℕ → Answer Untested
 longestCall netlist ws e gates from =
     checks (storeRule ws ∷ [])
-    >> readNetlist netlist
-    >>= λ N. checks (storeRules (pathTotal N) ws ++ (lengthRule N ∷ []))
-    >> value (longestFrom N (storeRuns ws e) (beginGates gates) (beginFrom gates from))
+    then readNetlist netlist
+    into λ N. checks (storeRules (pathTotal N) ws ++ (lengthRule N ∷ []))
+    then value (longestFrom N (storeRuns ws e) (beginGates gates) (beginFrom gates from))
 
 -- the papers' number of a refusal, or the path
 abbrev pub longestOf : LongestAnswer → Answer Untested

@@ -60,8 +60,8 @@ fn write_vectors(state: u32, vectors: usize, inputs: usize, records: &mut [u8]) 
     let mut left = vectors;
     while 0 < left {
         let filled = fill(last, inputs, left, records);
-        let length = filled.length;
-        if !io::write_all(STDOUT_FILENO, &records[..length]) {
+        let size = filled.size;
+        if !io::write_all(STDOUT_FILENO, &records[..size]) {
             return false;
         }
         last = filled.state;

@@ -6,7 +6,7 @@ use mathlib.Core.List.{List, [], _∷_, _++_}
 use Prim.Native.Nat.{ℕ}
 use native.Mathlib.Omega.{arith}
 use lib.Dec.{T, eqb, eqb→eq, eqb-refl}
-use Rattle.model.specs.Base.{Answer, refused, value, _>>=_, _>>_, check, Rule, checks}
+use Rattle.model.specs.Base.{Answer, refused, value, _into_, _then_, check, Rule, checks}
 use Rattle.model.specs.Report.{sameBytes}
 use Rattle.model.proofs.BoolLaws.{both, and-left, and-right}
 
@@ -21,11 +21,11 @@ not-refused p = let z : _≡_ {A = ℕ} 0 1 = cc in omega arith
 pub value-inj : {A : Type 0} {a b : A} → value a ≡ value b → a ≡ b
 value-inj p = cc
 
-pub then-first : {A B : Type 0} (m : Answer A) (n : Answer B) {b : B} → (m >> n) ≡ value b → Passed m
+pub then-first : {A B : Type 0} (m : Answer A) (n : Answer B) {b : B} → (m then n) ≡ value b → Passed m
 then-first (refused k) n p = absurd (not-refused p)
 then-first (value a) n p = record { got = a; is = refl }
 
-pub then-second : {A B : Type 0} (m : Answer A) (n : Answer B) {b : B} → (m >> n) ≡ value b → n ≡ value b
+pub then-second : {A B : Type 0} (m : Answer A) (n : Answer B) {b : B} → (m then n) ≡ value b → n ≡ value b
 then-second (refused k) n p = absurd (not-refused p)
 then-second (value a) n p = p
 
@@ -34,7 +34,7 @@ pub record Steps {A B : Type 0} (m : Answer A) (f : A → Answer B) (b : B) : Ty
   pub first : m ≡ value got
   pub second : f got ≡ value b
 
-pub steps : {A B : Type 0} (m : Answer A) (f : A → Answer B) {b : B} → (m >>= f) ≡ value b → Steps m f b
+pub steps : {A B : Type 0} (m : Answer A) (f : A → Answer B) {b : B} → (m into f) ≡ value b → Steps m f b
 steps (refused k) f p = absurd (not-refused p)
 steps (value a) f p = record { got = a; first = refl; second = p }
 
@@ -75,11 +75,11 @@ pass-both [] ys p q = q
 pass-both (x ∷ xs) ys p q = (p .0, pass-both xs ys (p .1) q)
 
 -- rules after rules
-pub checks-both : (xs ys : List Rule) → checks (xs ++ ys) ≡ (checks xs >> checks ys)
+pub checks-both : (xs ys : List Rule) → checks (xs ++ ys) ≡ (checks xs then checks ys)
 checks-both [] ys = refl
-checks-both (x ∷ xs) ys = ap (λ (a : Answer (Unit {0})). check (x .0) (x .1) >> a) (checks-both xs ys) ∙ go (check (x .0) (x .1))
+checks-both (x ∷ xs) ys = ap (λ (a : Answer (Unit {0})). check (x .0) (x .1) then a) (checks-both xs ys) ∙ go (check (x .0) (x .1))
   where
-    go : (a : Answer (Unit {0})) → (a >> (checks xs >> checks ys)) ≡ (a >> checks xs >> checks ys)
+    go : (a : Answer (Unit {0})) → (a then (checks xs then checks ys)) ≡ (a then checks xs then checks ys)
     go (refused n) = refl
     go (value u) = refl
 

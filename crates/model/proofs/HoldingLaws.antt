@@ -7,7 +7,7 @@ use Prim.Native.Nat.{ℕ, suc, _≤_, _<_}
 use native.Mathlib.Omega.{arith}
 use lib.Dec.{T, leb, eqb, leb→le, le→leb, ltb→lt, lt→ltb, lit≤}
 use lib.ListN.{length}
-use Rattle.model.specs.Base.{refused, value, _>>_, Rule, checks}
+use Rattle.model.specs.Base.{refused, value, _then_, Rule, checks}
 use Rattle.model.specs.Netlist.{Netlist, pathTotal}
 use Rattle.model.specs.Path.{Edge, rising, falling}
 use Rattle.model.specs.Detect.{Class, Test, detectsNumber}
@@ -121,10 +121,10 @@ pub store-refused : (N : Netlist) (c : Class) (rec ws : List ℕ) (n : ℕ) → 
 unfolding testStage
 store-refused N c rec ws n p q =
     let rest : List Rule = testsRule ws ∷ workRules N (runsByEdge ws) (testOf N c rec) in
-    let stores : checks (storeRules (pathTotal N) ws ++ rest) ≡ refused n = checks-both (storeRules (pathTotal N) ws) rest ∙ ap (λ a. a >> checks rest) q in
+    let stores : checks (storeRules (pathTotal N) ws ++ rest) ≡ refused n = checks-both (storeRules (pathTotal N) ws) rest ∙ ap (λ a. a then checks rest) q in
     let whole : checks (stageRules N c rec ws) ≡ refused n =
-    checks-both (testRules N rec) (storeRules (pathTotal N) ws ++ rest) ∙ ap (λ a. a >> checks (storeRules (pathTotal N) ws ++ rest)) p ∙ stores in
-    ap (λ a. a >> value (tested N (testsTaken ws) (runsByEdge ws) (testOf N c rec))) whole
+    checks-both (testRules N rec) (storeRules (pathTotal N) ws ++ rest) ∙ ap (λ a. a then checks (storeRules (pathTotal N) ws ++ rest)) p ∙ stores in
+    ap (λ a. a then value (tested N (testsTaken ws) (runsByEdge ws) (testOf N c rec))) whole
 
 module _ (N : Netlist) (c : Class) (rec ws : List ℕ) (D : Sets) (x : Holding N ws D) where
   abbrev works : List Rule

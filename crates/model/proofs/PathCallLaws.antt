@@ -7,7 +7,7 @@ use Prim.Native.Nat.{ℕ, suc, _+_, _-_, _≤_, _<_}
 use native.Mathlib.Omega.{arith}
 use lib.Dec.{T, leb, eqb, eqb→eq, leb→le, le→leb}
 use lib.ListN.{length, getD}
-use Rattle.model.specs.Base.{Answer, value, _>>_, checks}
+use Rattle.model.specs.Base.{Answer, value, _then_, checks}
 use Rattle.model.specs.Netlist.{Netlist, pathTotal, nets, pinNet, outputNet}
 use Rattle.model.specs.Path.{CircuitPath, valid, validAt, numberOf, pathOf}
 use Rattle.model.specs.Read.{readNetlist, within}
@@ -39,10 +39,10 @@ module _ (file : List ℕ) (N : Netlist) (e : readNetlist file ≡ value N) wher
   unfolding numberToPathCall pathToNumberCall
   number-path-number k buf p q =
       let room : Answer (Unit {0}) = checks ((3, leb pathWords (length buf)) ∷ []) in
-      let s = steps (room >> readNetlist file) (λ M. checks ((60, within 1 (pathTotal M) k) ∷ []) >> value (pathOf M k)) q in
+      let s = steps (room then readNetlist file) (λ M. checks ((60, within 1 (pathTotal M) k) ∷ []) then value (pathOf M k)) q in
       let m : s .got ≡ N = value-inj (sym (then-second room (readNetlist file) (s .first)) ∙ e) in
-      let z : (checks ((60, within 1 (pathTotal N) k) ∷ []) >> value (pathOf N k)) ≡ value p =
-      subst (λ M. (checks ((60, within 1 (pathTotal M) k) ∷ []) >> value (pathOf M k)) ≡ value p) m (s .second) in
+      let z : (checks ((60, within 1 (pathTotal N) k) ∷ []) then value (pathOf N k)) ≡ value p =
+      subst (λ M. (checks ((60, within 1 (pathTotal M) k) ∷ []) then value (pathOf M k)) ≡ value p) m (s .second) in
       let h = checks→ ((60, within 1 (pathTotal N) k) ∷ []) (then-first (checks ((60, within 1 (pathTotal N) k) ∷ [])) (value (pathOf N k)) z) .0 in
       let b = number-of-path N (legal file N e) k (leb→le 1 k (and-left (leb 1 k) (leb k (pathTotal N)) h)) (leb→le k (pathTotal N) (and-right (leb 1 k) (leb k (pathTotal N)) h)) in
       let i : pathOf N k ≡ p = value-inj (then-second (checks ((60, within 1 (pathTotal N) k) ∷ [])) (value (pathOf N k)) z) in
@@ -71,10 +71,10 @@ module _ (file : List ℕ) (N : Netlist) (e : readNetlist file ≡ value N) wher
   unfolding numberToPathCall pathToNumberCall
   path-number-path words k q buf l =
       let p : CircuitPath = pathIn words in
-      let s = steps (readNetlist file) (λ M. checks ((61, isPath M words) ∷ []) >> value (numberOf M p)) q in
+      let s = steps (readNetlist file) (λ M. checks ((61, isPath M words) ∷ []) then value (numberOf M p)) q in
       let m : s .got ≡ N = value-inj (sym (s .first) ∙ e) in
-      let z : (checks ((61, isPath N words) ∷ []) >> value (numberOf N p)) ≡ value k =
-      subst (λ M. (checks ((61, isPath M words) ∷ []) >> value (numberOf M p)) ≡ value k) m (s .second) in
+      let z : (checks ((61, isPath N words) ∷ []) then value (numberOf N p)) ≡ value k =
+      subst (λ M. (checks ((61, isPath M words) ∷ []) then value (numberOf M p)) ≡ value k) m (s .second) in
       let h : T (isPath N words) = checks→ ((61, isPath N words) ∷ []) (then-first (checks ((61, isPath N words) ∷ [])) (value (numberOf N p)) z) .0 in
       let i : numberOf N p ≡ k = value-inj (then-second (checks ((61, isPath N words) ∷ [])) (value (numberOf N p)) z) in
       let v : T (valid N p) = and-right (leb 2 (length words) && eqb (length words) (2 + getD words 1 0)) (valid N p) h in

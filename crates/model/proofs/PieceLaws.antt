@@ -7,7 +7,7 @@ use native.Mathlib.Nat.{zero-add, suc-add, suc-mul, mul-add-div-right, mod-add-d
 use native.Mathlib.Omega.{arith}
 use lib.ListN.{length, take, drop, length-append, length-drop}
 use lib.Seq.{take-append-le, drop-append-le}
-use Rattle.model.specs.Base.{Answer, refused, value, _>>=_}
+use Rattle.model.specs.Base.{Answer, refused, value, _into_}
 use Rattle.model.specs.Netlist.{Netlist}
 use Rattle.model.specs.Detect.{Class}
 use Rattle.model.specs.Read.{recordLength}
@@ -38,13 +38,13 @@ file-records-append N piece rest h =
     ap (λ (k : ℕ). records len k (piece ++ rest)) n ∙ records-append len m (length rest / len) piece rest whole
 
 -- one record, then the others
-record-first : (N : Netlist) (x : Answer Tested) (f g : List ℕ → Answer (List ℕ)) (h : List ℕ → Answer (List ℕ)) → ((ws : List ℕ) → f ws ≡ (g ws >>= h))
-    → (x >>= λ d. f (storeLeft d)) ≡ ((x >>= λ d. g (storeLeft d)) >>= h)
+record-first : (N : Netlist) (x : Answer Tested) (f g : List ℕ → Answer (List ℕ)) (h : List ℕ → Answer (List ℕ)) → ((ws : List ℕ) → f ws ≡ (g ws into h))
+    → (x into λ d. f (storeLeft d)) ≡ ((x into λ d. g (storeLeft d)) into h)
 record-first N (refused n) f g h q = refl
 record-first N (value d) f g h q = q (storeLeft d)
 
 pub testAll-append : (N : Netlist) (c : Class) (rs qs : List (List ℕ)) (ws : List ℕ)
-    → testAll N c (rs ++ qs) ws ≡ (testAll N c rs ws >>= λ left. testAll N c qs left)
+    → testAll N c (rs ++ qs) ws ≡ (testAll N c rs ws into λ left. testAll N c qs left)
 unfolding testAll
 testAll-append N c [] qs ws = refl
 testAll-append N c (r ∷ rs) qs ws =
@@ -53,6 +53,6 @@ testAll-append N c (r ∷ rs) qs ws =
 
 -- A piece of whole records, then the rest
 pub piece-first : (N : Netlist) (c : Class) (piece rest ws : List ℕ) → length piece % recordLength N ≡ 0
-    → testAll N c (fileRecords N (piece ++ rest)) ws ≡ (testAll N c (fileRecords N piece) ws >>= λ left. testAll N c (fileRecords N rest) left)
+    → testAll N c (fileRecords N (piece ++ rest)) ws ≡ (testAll N c (fileRecords N piece) ws into λ left. testAll N c (fileRecords N rest) left)
 piece-first N c piece rest ws h =
     ap (λ (rs : List (List ℕ)). testAll N c rs ws) (file-records-append N piece rest h) ∙ testAll-append N c (fileRecords N piece) (fileRecords N rest) ws

@@ -9,7 +9,7 @@ use native.Mathlib.Omega.{arith}
 use native.Mathlib.Numerals.{add-one}
 use lib.Dec.{T, ltb, leb, eqb, leb→le, le→leb, eqb→eq}
 use lib.ListN.{length, getD, drop, replicate, length-append, length-replicate}
-use Rattle.model.specs.Base.{Answer, value, _>>=_, _>>_, checks, allOf, field, sumOf}
+use Rattle.model.specs.Base.{Answer, value, _into_, _then_, checks, allOf, field, sumOf}
 use Rattle.model.specs.Netlist.{Netlist, Gate, nets, netByNet, gateCount, counts, outputCount, pathTotal, maxCount}
 use Rattle.model.specs.Read.{readGates, readOutputs, readNetlist, gateRules, outputRules, headerRules, gateIn, countIn, within, pinsFit, netFields, inputsIn, gatesIn, outputsIn, inputCounts}
 use Rattle.model.proofs.ListLaws.{allOf-head, allOf-tail, allOf-append}
@@ -23,7 +23,7 @@ gates-lower zero cs bs r e = subst (λ (x : List Gate × List ℕ). T (lower (le
 gates-lower (suc n) cs bs r e =
     let cs′ = cs ++ (countIn cs bs ∷ []) in
     let bs′ = drop (4 + 2 * getD bs 3 0) bs in
-    let s = steps (checks (gateRules (length cs) cs bs) >> readGates n cs′ bs′) (λ r. value (gateIn bs ∷ r .0, r .1)) e in
+    let s = steps (checks (gateRules (length cs) cs bs) then readGates n cs′ bs′) (λ r. value (gateIn bs ∷ r .0, r .1)) e in
     let ih = gates-lower n cs′ bs′ (s .got) (then-second (checks (gateRules (length cs) cs bs)) (readGates n cs′ bs′) (s .first)) in
     let q : length cs′ ≡ suc (length cs) = simp (length-append, add-one) in
     subst (λ (x : List Gate × List ℕ). T (lower (length cs) (x .0))) (value-inj (s .second))
@@ -39,7 +39,7 @@ outputs-ok (suc n) inputs nets cs least s bs r e =
     let o = field 2 2 bs in
     let rules = outputRules inputs nets cs least s bs in
     let m = readOutputs n inputs nets cs (suc o) (s + outputCount inputs cs o) (drop 4 bs) in
-    let p = steps (checks rules >> m) (λ r. value (field 2 2 bs ∷ r .0, r .1)) e in
+    let p = steps (checks rules then m) (λ r. value (field 2 2 bs ∷ r .0, r .1)) e in
     let ih = outputs-ok n inputs nets cs (suc o) (s + outputCount inputs cs o) (drop 4 bs) (p .got) (then-second (checks rules) m (p .first)) in
     let q = checks→ rules (then-first (checks rules) m (p .first)) .1 .0 in
     subst (λ (x : List ℕ × List ℕ). T (ascendingNets nets least (x .0))) (value-inj (p .second))
@@ -64,7 +64,7 @@ module _ (n : ℕ) (cs bs : List ℕ) (r : List Gate × List ℕ) (e : readGates
   pub first : First
   unfolding readGates
   first =
-      let s = steps (checks (gateRules (length cs) cs bs) >> readGates n (nextCounts cs bs) (nextBytes bs)) (λ r. value (gateIn bs ∷ r .0, r .1)) e in
+      let s = steps (checks (gateRules (length cs) cs bs) then readGates n (nextCounts cs bs) (nextBytes bs)) (λ r. value (gateIn bs ∷ r .0, r .1)) e in
       record {
         rest = s .got;
         others = then-second (checks (gateRules (length cs) cs bs)) (readGates n (nextCounts cs bs) (nextBytes bs)) (s .first);
@@ -97,8 +97,8 @@ parts bs N e =
     let os : List Gate × List ℕ → Answer (List ℕ × List ℕ) =
     λ g. readOutputs (outputsIn bs) (inputsIn bs) (inputsIn bs + gatesIn bs) (netByNet gateCount 0 (inputCounts bs) (g .0)) 0 0 (g .1) in
     let end : List Gate × List ℕ → List ℕ × List ℕ → Answer Netlist =
-    λ g o. checks ((20, eqb (length (o .1)) 0) ∷ []) >> value (record { inputs = inputsIn bs; gates = g .0; outputs = o .0 }) in
-    let p = steps (checks (headerRules bs) >> gs) (λ g. os g >>= end g) e in
+    λ g o. checks ((20, eqb (length (o .1)) 0) ∷ []) then value (record { inputs = inputsIn bs; gates = g .0; outputs = o .0 }) in
+    let p = steps (checks (headerRules bs) then gs) (λ g. os g into end g) e in
     let q = steps (os (p .got)) (end (p .got)) (p .second) in
     let last = checks ((20, eqb (length (q .got .1)) 0) ∷ []) in
     subst (Parts bs) (value-inj (then-second last _ (q .second)))
@@ -155,7 +155,7 @@ outputs-fit (suc n) inputs nets cs least s bs r e h =
     let next = s + outputCount inputs cs o in
     let rules = outputRules inputs nets cs least s bs in
     let m = readOutputs n inputs nets cs (suc o) next (drop 4 bs) in
-    let p = steps (checks rules >> m) (λ r. value (field 2 2 bs ∷ r .0, r .1)) e in
+    let p = steps (checks rules then m) (λ r. value (field 2 2 bs ∷ r .0, r .1)) e in
     let q = checks→ rules (then-first (checks rules) m (p .first)) .1 .1 .0 in
     let ih = outputs-fit n inputs nets cs (suc o) next (drop 4 bs) (p .got) (then-second (checks rules) m (p .first)) (leb→le next maxCount q) in
     subst (λ (x : List ℕ × List ℕ). (length (x .0) ≡ suc n) × (s + sumOf (map (outputCount inputs cs) (x .0)) ≤ maxCount)) (value-inj (p .second))

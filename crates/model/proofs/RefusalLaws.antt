@@ -8,7 +8,7 @@ use native.Mathlib.Omega.{arith}
 use lib.Dec.{T, ltb, eqb, ltb→lt}
 use lib.ListN.{length, getD, drop}
 use borrow.Author.Tests.{le-leb, lt-leb}
-use Rattle.model.specs.Base.{Answer, refused, value, _>>=_, _>>_, check, Rule, checks, allOf, field}
+use Rattle.model.specs.Base.{Answer, refused, value, _into_, _then_, check, Rule, checks, allOf, field}
 use Rattle.model.specs.Netlist.{Netlist, Gate, netByNet, gateCount, outputCount, pathTotal}
 use Rattle.model.specs.Detect.{Class}
 use Rattle.model.specs.Read.{readGates, readOutputs, readNetlist, gateRules, outputRules, headerRules, gateIn, countIn, inputsIn, gatesIn, outputsIn, inputCounts, classOf, classRule, testOf}
@@ -28,11 +28,11 @@ refused-over {A} k n m o q = subst (λ (a : Answer A). RefusesOver k a) q o
 pub refused-inj : {A : Type 0} {m n : ℕ} → _≡_ {A = Answer A} (refused m) (refused n) → m ≡ n
 refused-inj p = cc
 
-over-then : {A B : Type 0} (k : ℕ) (m : Answer A) (n : Answer B) → RefusesOver k m → RefusesOver k n → RefusesOver k (m >> n)
+over-then : {A B : Type 0} (k : ℕ) (m : Answer A) (n : Answer B) → RefusesOver k m → RefusesOver k n → RefusesOver k (m then n)
 over-then k (refused j) n o p = o
 over-then k (value a) n o p = p
 
-over-bind : {A B : Type 0} (k : ℕ) (m : Answer A) (f : A → Answer B) → RefusesOver k m → ((a : A) → RefusesOver k (f a)) → RefusesOver k (m >>= f)
+over-bind : {A B : Type 0} (k : ℕ) (m : Answer A) (f : A → Answer B) → RefusesOver k m → ((a : A) → RefusesOver k (f a)) → RefusesOver k (m into f)
 over-bind k (refused j) f o p = o
 over-bind k (value a) f o p = p a
 
@@ -57,7 +57,7 @@ unfolding readGates
 gates-over zero cs bs = tt
 gates-over (suc n) cs bs =
     let more = readGates n (cs ++ (countIn cs bs ∷ [])) (drop (4 + 2 * getD bs 3 0) bs) in
-    over-bind 2 (checks (gateRules (length cs) cs bs) >> more) (λ r. value (gateIn bs ∷ r .0, r .1))
+    over-bind 2 (checks (gateRules (length cs) cs bs) then more) (λ r. value (gateIn bs ∷ r .0, r .1))
     (over-then 2 (checks (gateRules (length cs) cs bs)) more (over-checks 2 (gateRules (length cs) cs bs) tt) (gates-over n _ _))
     (λ r. tt)
 
@@ -67,7 +67,7 @@ outputs-over zero inputs nets cs least s bs = tt
 outputs-over (suc n) inputs nets cs least s bs =
     let rules = outputRules inputs nets cs least s bs in
     let more = readOutputs n inputs nets cs (suc (field 2 2 bs)) (s + outputCount inputs cs (field 2 2 bs)) (drop 4 bs) in
-    over-bind 2 (checks rules >> more) (λ r. value (field 2 2 bs ∷ r .0, r .1))
+    over-bind 2 (checks rules then more) (λ r. value (field 2 2 bs ∷ r .0, r .1))
     (over-then 2 (checks rules) more (over-checks 2 rules tt) (outputs-over n inputs nets cs _ _ _))
     (λ r. tt)
 
@@ -78,8 +78,8 @@ netlist-over bs =
     let os : List Gate × List ℕ → Answer (List ℕ × List ℕ) =
     λ g. readOutputs (outputsIn bs) (inputsIn bs) (inputsIn bs + gatesIn bs) (netByNet gateCount 0 (inputCounts bs) (g .0)) 0 0 (g .1) in
     let end : List Gate × List ℕ → List ℕ × List ℕ → Answer Netlist =
-    λ g o. checks ((20, eqb (length (o .1)) 0) ∷ []) >> value (record { inputs = inputsIn bs; gates = g .0; outputs = o .0 }) in
-    over-bind 2 (checks (headerRules bs) >> gs) (λ g. os g >>= end g)
+    λ g o. checks ((20, eqb (length (o .1)) 0) ∷ []) then value (record { inputs = inputsIn bs; gates = g .0; outputs = o .0 }) in
+    over-bind 2 (checks (headerRules bs) then gs) (λ g. os g into end g)
     (over-then 2 (checks (headerRules bs)) gs (over-checks 2 (headerRules bs) tt) (gates-over (gatesIn bs) (inputCounts bs) (drop 8 bs)))
     (λ g. over-bind 2 (os g) (end g) (outputs-over _ _ _ _ _ _ _)
     (λ o. over-then 2 (checks ((20, eqb (length (o .1)) 0) ∷ [])) _ (over-checks 2 ((20, eqb (length (o .1)) 0) ∷ []) tt) tt))
@@ -119,9 +119,9 @@ module _ (netlist : List ℕ) (class : ℕ) (testFile report ws work : List ℕ)
   auditRest : Netlist → Answer (List ℕ)
   auditRest N =
       checks ((33, wholeRecords N testFile) ∷ [])
-      >> testAll N (classOf class) (fileRecords N testFile) emptyStore
-      >>= λ left. checks (reportRules report (reportRecord (length (fileRecords N testFile)) (pathTotal N) (runsByEdge left)))
-      >> value left
+      then testAll N (classOf class) (fileRecords N testFile) emptyStore
+      into λ left. checks (reportRules report (reportRecord (length (fileRecords N testFile)) (pathTotal N) (runsByEdge left)))
+      then value left
 
   rest-over : (N : Netlist) → RefusesOver 2 (auditRest N)
   unfolding auditRest
@@ -129,7 +129,7 @@ module _ (netlist : List ℕ) (class : ℕ) (testFile report ws work : List ℕ)
       let whole = checks ((33, wholeRecords N testFile) ∷ []) in
       let rules : List ℕ → List Rule = λ left. reportRules report (reportRecord (length (fileRecords N testFile)) (pathTotal N) (runsByEdge left)) in
       let tests = testAll N (classOf class) (fileRecords N testFile) emptyStore in
-      over-bind 2 (whole >> tests) (λ left. checks (rules left) >> value left)
+      over-bind 2 (whole then tests) (λ left. checks (rules left) then value left)
       (over-then 2 whole tests (over-checks 2 ((33, wholeRecords N testFile) ∷ []) tt) (all-over N (classOf class) (fileRecords N testFile) emptyStore))
       (λ left. over-then 2 (checks (rules left)) (value left) (report-over report _) tt)
 
@@ -147,11 +147,11 @@ module _ (netlist : List ℕ) (class : ℕ) (testFile report ws work : List ℕ)
   pub audit-emptied : (n : ℕ) → lent ≡ value tt → auditCall netlist class testFile report ws work ≡ refused n → auditStore netlist class testFile report ws work ≡ emptyStore
   unfolding auditCall auditStore auditRest
   audit-emptied n p q =
-      let o : RefusesOver 2 (beforeTest netlist class ws work >>= auditRest) =
+      let o : RefusesOver 2 (beforeTest netlist class ws work into auditRest) =
       over-bind 2 (beforeTest netlist class ws work) auditRest
-      (over-bind 2 (lent >> readNetlist netlist) (λ N. aClass >> value N) (rw p (netlist-over netlist))
+      (over-bind 2 (lent then readNetlist netlist) (λ N. aClass then value N) (rw p (netlist-over netlist))
       (λ N. over-then 2 aClass (value N) (over-checks 2 (classRule class ∷ []) tt) tt)) rest-over in
-      ap (λ (a : Answer (List ℕ)). auditAfter a ws) q ∙ emptied-over n ws (refused-over 2 n (beforeTest netlist class ws work >>= auditRest) o q)
+      ap (λ (a : Answer (List ℕ)). auditAfter a ws) q ∙ emptied-over n ws (refused-over 2 n (beforeTest netlist class ws work into auditRest) o q)
 
   -- Accepted, it leaves the store that the test calls left
   pub audit-kept : (left : List ℕ) → auditCall netlist class testFile report ws work ≡ value left → auditStore netlist class testFile report ws work ≡ left

@@ -7,7 +7,7 @@ use mathlib.Core.List.{List, [], _∷_, _++_}
 use Prim.Native.Nat.{ℕ, _≤_}
 use lib.Dec.{T, leb→le, le→leb, eqb→eq}
 use lib.ListN.{length, drop}
-use Rattle.model.specs.Base.{Answer, refused, value, _>>=_, _>>_, Rule, checks, after}
+use Rattle.model.specs.Base.{Answer, refused, value, _into_, _then_, Rule, checks, after}
 use Rattle.model.specs.Netlist.{Netlist, pathTotal, maxCount}
 use Rattle.model.specs.Path.{Edge, rising, falling}
 use Rattle.model.specs.Detect.{Class, Test}
@@ -90,7 +90,7 @@ module _ (netlist : List ℕ) (N : Netlist) (e : readNetlist netlist ≡ value N
     isTrue = left-true N (legal netlist N e) (testsOf N c testFile) left (left-holding N c (fileRecords N testFile) left t) n (length-testsOf N c testFile);
     names = left-names N (legal netlist N e) (testsOf N c testFile) left (left-holding N c (fileRecords N testFile) left t)
         (limits netlist N e .totalFits) n;
-    returned = ap (λ a. a >>= λ r. value (length r)) writer-gives;
+    returned = ap (λ a. a into λ r. value (length r)) writer-gives;
     written = ap (λ a. after a buffer (λ r. r ++ drop (length r) buffer)) writer-gives;
   }
 
@@ -116,12 +116,12 @@ module _ (netlist : List ℕ) (class : ℕ) (testFile report ws work : List ℕ)
   accepts→ : auditAnswer netlist class testFile report ws work ≡ value tt → Acceptable netlist class testFile report ws work
   unfolding auditAnswer auditCall whole rules c
   accepts→ a =
-      let end : Netlist → List ℕ → Answer (List ℕ) = λ N left. checks (rules N left) >> value left in
-      let p = steps (beforeTest netlist class ws work) (λ N. (whole N >> testAll N c (fileRecords N testFile) emptyStore) >>= end N)
+      let end : Netlist → List ℕ → Answer (List ℕ) = λ N left. checks (rules N left) then value left in
+      let p = steps (beforeTest netlist class ws work) (λ N. (whole N then testAll N c (fileRecords N testFile) emptyStore) into end N)
       (then-first (auditCall netlist class testFile report ws work) (value tt) a .is) in
       let N : Netlist = p .got in
       let h = reached→ netlist class ws work N (p .first) in
-      let q = steps (whole N >> testAll N c (fileRecords N testFile) emptyStore) (end N) (p .second) in
+      let q = steps (whole N then testAll N c (fileRecords N testFile) emptyStore) (end N) (p .second) in
       let left : List ℕ = q .got in
       let e : readNetlist netlist ≡ value N = h .isLegal in
       let v = checks→ ((33, wholeRecords N testFile) ∷ []) (then-first (whole N) (testAll N c (fileRecords N testFile) emptyStore) (q .first)) .0 in

@@ -9,7 +9,7 @@ use Prim.Native.Nat.{ℕ, zero, suc, _+_}
 use native.Mathlib.Omega.{arith}
 use lib.Dec.{T, leb, eqb, leb→le, le→leb}
 use lib.ListN.{length, getD, drop}
-use Rattle.model.specs.Base.{Answer, value, _>>=_, _>>_, checks}
+use Rattle.model.specs.Base.{Answer, value, _into_, _then_, checks}
 use Rattle.model.specs.Netlist.{Netlist, Gate, Kind, buffer, inverter, and, nand, or, nor, xor, xnor, gateCount, netByNet}
 use Rattle.model.specs.Detect.{nonRobust, robust, Evaluation, gateValue, differs, robustAmong, isOpen}
 use Rattle.model.specs.Read.{within, pinsFit, gateIn, readGates, readOutputs, inputsIn, gatesIn, outputsIn, headerRules, inputCounts, readNetlist}
@@ -90,7 +90,7 @@ module _ (strict loose : ℕ → ℕ → Bool) (looser : (kind n : ℕ) → T (s
   gates-too (suc n) cs bs r e =
       let rules = checks (gateRulesBy strict (length cs) cs bs) in
       let others = readGatesBy strict n (nextCounts cs bs) (nextBytes bs) in
-      let s = steps (rules >> others) (λ r. value (gateIn bs ∷ r .0, r .1)) e in
+      let s = steps (rules then others) (λ r. value (gateIn bs ∷ r .0, r .1)) e in
       let now : checks (gateRulesBy loose (length cs) cs bs) ≡ value tt =
       →checks (gateRulesBy loose (length cs) cs bs)
       (rules-too (length cs) cs bs (checks→ (gateRulesBy strict (length cs) cs bs) (then-first rules others (s .first)))) in
@@ -103,8 +103,8 @@ module _ (strict loose : ℕ → ℕ → Bool) (looser : (kind n : ℕ) → T (s
       let gs = readGatesBy strict (gatesIn bs) (inputCounts bs) (drop 8 bs) in
       let end : List Gate × List ℕ → Answer Netlist =
       λ g. readOutputs (outputsIn bs) (inputsIn bs) (inputsIn bs + gatesIn bs) (netByNet gateCount 0 (inputCounts bs) (g .0)) 0 0 (g .1)
-      >>= λ o. checks ((20, eqb (length (o .1)) 0) ∷ []) >> value (record { inputs = inputsIn bs; gates = g .0; outputs = o .0 }) in
-      let s = steps (checks (headerRules bs) >> gs) end e in
+      into λ o. checks ((20, eqb (length (o .1)) 0) ∷ []) then value (record { inputs = inputsIn bs; gates = g .0; outputs = o .0 }) in
+      let s = steps (checks (headerRules bs) then gs) end e in
       let head : checks (headerRules bs) ≡ value tt =
       →checks (headerRules bs) (checks→ (headerRules bs) (then-first (checks (headerRules bs)) gs (s .first))) in
       let rest = gates-too (gatesIn bs) (inputCounts bs) (drop 8 bs) (s .got) (then-second (checks (headerRules bs)) gs (s .first)) in

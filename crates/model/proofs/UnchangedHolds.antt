@@ -7,7 +7,7 @@ use mathlib.Core.List.{List, [], _∷_, _++_, map, List·Memᴰ, List·Memᴰ·c
 use Prim.Native.Nat.{ℕ, zero, suc}
 use lib.Dec.{T, T-not}
 use lib.ListN.{getD, drop}
-use Rattle.model.specs.Base.{Answer, refused, value, _>>_, Rule, checks, anyOf, numbersFrom}
+use Rattle.model.specs.Base.{Answer, refused, value, _then_, Rule, checks, anyOf, numbersFrom}
 use Rattle.model.specs.Netlist.{Netlist, pathTotal}
 use Rattle.model.specs.Detect.{Class, Test}
 use Rattle.model.specs.Read.{inputBit, isChanged, someChange, v1Part, v2Part, readNetlist, classOf, testRules, testOf}
@@ -57,7 +57,7 @@ module _ (N : Netlist) (rec : List ℕ) where
   →unchanged t = none→same (v1Part N rec) (v2Part N rec) (N .inputs) 0 t
 
   -- the place Test is 30 to 32, then 85
-  then-change : checks (testRules N rec) ≡ (checks (rulesBefore N rec) >> checks ((85, some) ∷ []))
+  then-change : checks (testRules N rec) ≡ (checks (rulesBefore N rec) then checks ((85, some) ∷ []))
   then-change = checks-both (rulesBefore N rec) ((85, someChange (N .inputs) (v1Part N rec) (v2Part N rec)) ∷ [])
 
   some-false : Unchanged N rec → some ≡ false
@@ -73,7 +73,7 @@ module _ (N : Netlist) (rec : List ℕ) where
   as-before : (Unchanged N rec → ⊥) → checks (testRules N rec) ≡ checks (rulesBefore N rec)
   as-before h = then-change ∙ rw (some-true h) (past (checks (rulesBefore N rec)))
     where
-      past : (a : Answer (Unit {0})) → (a >> value tt) ≡ a
+      past : (a : Answer (Unit {0})) → (a then value tt) ≡ a
       past (refused n) = refl
       past (value u) = refl
 
@@ -83,8 +83,8 @@ module _ (N : Netlist) (rec : List ℕ) where
     unfolding testStage
     refused-stage n q =
         let rest : List Rule = storeRules (pathTotal N) ws ++ (testsRule ws ∷ workRules N (runsByEdge ws) (testOf N c rec)) in
-        let both : checks (testRules N rec ++ rest) ≡ refused n = checks-both (testRules N rec) rest ∙ ap (λ a. a >> checks rest) q in
-        ap (λ a. a >> value (tested N (testsTaken ws) (runsByEdge ws) (testOf N c rec))) both
+        let both : checks (testRules N rec ++ rest) ≡ refused n = checks-both (testRules N rec) rest ∙ ap (λ a. a then checks rest) q in
+        ap (λ a. a then value (tested N (testsTaken ws) (runsByEdge ws) (testOf N c rec))) both
 
     earlier-refused : (n : ℕ) → checks (rulesBefore N rec) ≡ refused n → testStage N c rec ws ≡ refused n
     earlier-refused n q = refused-stage n (then-change ∙ rw q refl)

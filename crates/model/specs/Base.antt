@@ -12,16 +12,16 @@ pub data Answer (A : Type 0) : Type 0 where
   refused : ℕ → Answer A
   value : A → Answer A
 
-infixl 10 _>>=_
-infixl 10 _>>_
+infixl 10 _into_
+infixl 10 _then_
 -- one step after another; the first refusal ends the call
-abbrev pub _>>=_ : {A B : Type 0} → Answer A → (A → Answer B) → Answer B
-refused n >>= f = refused n
-value a >>= f = f a
+abbrev pub _into_ : {A B : Type 0} → Answer A → (A → Answer B) → Answer B
+refused n into f = refused n
+value a into f = f a
 
-abbrev pub _>>_ : {A B : Type 0} → Answer A → Answer B → Answer B
-refused n >> b = refused n
-value a >> b = b
+abbrev pub _then_ : {A B : Type 0} → Answer A → Answer B → Answer B
+refused n then b = refused n
+value a then b = b
 
 -- the refusal `n`, unless the test passes
 abbrev pub check : ℕ → Bool → Answer (Unit {0})
@@ -35,11 +35,11 @@ Rule = ℕ × Bool
 -- the rules in their order: the first that fails refuses
 abbrev pub checks : List Rule → Answer (Unit {0})
 checks [] = value tt
-checks (r ∷ rs) = check (r .0) (r .1) >> checks rs
+checks (r ∷ rs) = check (r .0) (r .1) then checks rs
 
 -- whether there is an answer, without its value
 abbrev pub passes : {A : Type 0} → Answer A → Answer (Unit {0})
-passes x = x >> value tt
+passes x = x then value tt
 
 -- what lent memory holds after a call: as found if it was refused
 abbrev pub after : {A : Type 0} → Answer A → List ℕ → (A → List ℕ) → List ℕ

@@ -8,7 +8,7 @@ use mathlib.Core.List.{List, [], _∷_, _++_}
 use Prim.Native.Nat.{ℕ, suc, _+_, _-_, _*_}
 use lib.Dec.{leb, ltb, eqb}
 use lib.ListN.{length, getD, drop, replicate}
-use Rattle.model.specs.Base.{Answer, refused, value, _>>=_, _>>_, Rule, checks, passes, after}
+use Rattle.model.specs.Base.{Answer, refused, value, _into_, _then_, Rule, checks, passes, after}
 use Rattle.model.specs.Netlist.{Netlist, maxNets, counts, pathTotal}
 use Rattle.model.specs.Path.{CircuitPath, Edge, valid, numberOf, pathOf, edgeOfFault, pathOfFault}
 use Rattle.model.specs.Detect.{Class, Test, detectsNumber}
@@ -56,7 +56,7 @@ surveyOf N = record {
 }
 
 unfoldable pub surveyCall : List ℕ → Answer Survey
-surveyCall netlist = readNetlist netlist >>= λ N. value (surveyOf N)
+surveyCall netlist = readNetlist netlist into λ N. value (surveyOf N)
 
 -- Emptying the store, of any words: refused by 1 alone
 unfoldable pub emptyCall : List ℕ → Answer (Unit {0})
@@ -69,17 +69,17 @@ emptiedStore ws = after (emptyCall ws) ws (λ u. emptyStore)
 unfoldable pub totalsCall : List ℕ → List ℕ → Answer (ByEdge ℕ)
 totalsCall netlist ws =
     checks (storeRule ws ∷ [])
-    >> readNetlist netlist
-    >>= λ N. checks (storeRules (pathTotal N) ws)
-    >> value (byEdge (λ e. size (storeRuns ws e)))
+    then readNetlist netlist
+    into λ N. checks (storeRules (pathTotal N) ws)
+    then value (byEdge (λ e. size (storeRuns ws e)))
 
 -- Fault in store: whether the store holds fault number `fault`
 unfoldable pub faultCall : List ℕ → List ℕ → ℕ → Answer Bool
 faultCall netlist ws fault =
     checks (storeRule ws ∷ [])
-    >> readNetlist netlist
-    >>= λ N. checks (storeRules (pathTotal N) ws ++ ((60, within 1 (2 * pathTotal N) fault) ∷ []))
-    >> value (inRuns (storeRuns ws (edgeOfFault fault)) (pathOfFault fault))
+    then readNetlist netlist
+    into λ N. checks (storeRules (pathTotal N) ws ++ ((60, within 1 (2 * pathTotal N) fault) ∷ []))
+    then value (inRuns (storeRuns ws (edgeOfFault fault)) (pathOfFault fault))
 
 -- A path in memory: output place, number of pins n, then n pins
 abbrev pub wordsOf : CircuitPath → List ℕ
@@ -94,15 +94,15 @@ isPath N words = leb 2 (length words) && eqb (length words) (2 + getD words 1 0)
 
 -- Path to number, the reading call
 unfoldable pub pathToNumberCall : List ℕ → List ℕ → Answer ℕ
-pathToNumberCall netlist words = readNetlist netlist >>= λ N. checks ((61, isPath N words) ∷ []) >> value (numberOf N (pathIn words))
+pathToNumberCall netlist words = readNetlist netlist into λ N. checks ((61, isPath N words) ∷ []) then value (numberOf N (pathIn words))
 
 -- Number to path, the writing call
 unfoldable pub numberToPathCall : List ℕ → ℕ → List ℕ → Answer CircuitPath
 numberToPathCall netlist number buffer =
     checks (pathRule buffer ∷ [])
-    >> readNetlist netlist
-    >>= λ N. checks ((60, within 1 (pathTotal N) number) ∷ [])
-    >> value (pathOf N number)
+    then readNetlist netlist
+    into λ N. checks ((60, within 1 (pathTotal N) number) ∷ [])
+    then value (pathOf N number)
 
 -- it returns only that it was not refused
 unfoldable pub numberToPathAnswer : List ℕ → ℕ → List ℕ → Answer (Unit {0})
@@ -169,19 +169,19 @@ abbrev pub stageRules : Netlist → Class → List ℕ → List ℕ → List Rul
 stageRules N c rec ws = testRules N rec ++ (storeRules (pathTotal N) ws ++ (testsRule ws ∷ workRules N (runsByEdge ws) (testOf N c rec)))
 
 unfoldable pub testStage : Netlist → Class → List ℕ → List ℕ → Answer Tested
-testStage N c rec ws = checks (stageRules N c rec ws) >> value (tested N (testsTaken ws) (runsByEdge ws) (testOf N c rec))
+testStage N c rec ws = checks (stageRules N c rec ws) then value (tested N (testsTaken ws) (runsByEdge ws) (testOf N c rec))
 
 -- the places before Test, for a call that is handed a class, a store and working memory: the test stage is reached where they refuse nothing
 abbrev pub beforeTest : List ℕ → ℕ → List ℕ → List ℕ → Answer Netlist
 beforeTest netlist class ws work =
-    checks (storeRule ws ∷ workRule work ∷ []) >> readNetlist netlist >>= λ N. checks (classRule class ∷ []) >> value N
+    checks (storeRule ws ∷ workRule work ∷ []) then readNetlist netlist into λ N. checks (classRule class ∷ []) then value N
 
 -- The test call
 unfoldable pub testCall : List ℕ → ℕ → List ℕ → List ℕ → List ℕ → Answer Tested
-testCall netlist class rec ws work = beforeTest netlist class ws work >>= λ N. testStage N (classOf class) rec ws
+testCall netlist class rec ws work = beforeTest netlist class ws work into λ N. testStage N (classOf class) rec ws
 
 unfoldable pub testAnswer : List ℕ → ℕ → List ℕ → List ℕ → List ℕ → Answer FaultCounts
-testAnswer netlist class rec ws work = testCall netlist class rec ws work >>= λ r. value (r .returned)
+testAnswer netlist class rec ws work = testCall netlist class rec ws work into λ r. value (r .returned)
 
 unfoldable pub testStore : List ℕ → ℕ → List ℕ → List ℕ → List ℕ → List ℕ
 testStore netlist class rec ws work = after (testCall netlist class rec ws work) ws storeLeft

@@ -6,7 +6,7 @@ use mathlib.Core.Bool.{Bool, true, false}
 use mathlib.Core.List.{List, [], _∷_, _++_, map}
 use Prim.Native.Nat.{ℕ, zero, suc, _+_, _-_, _^_}
 use lib.ListN.{length, replicate, take, drop, set}
-use Rattle.model.specs.Base.{Answer, refused, value, _>>=_, _>>_, checks, numbersFrom, littleEndian}
+use Rattle.model.specs.Base.{Answer, refused, value, _into_, _then_, checks, numbersFrom, littleEndian}
 use Rattle.model.specs.Netlist.{Netlist, counts, pathTotal}
 use Rattle.model.specs.Path.{Edge, rising, falling, pathOf, faultNumber}
 use Rattle.model.specs.Detect.{Class, nonRobust, robust, Test, Evaluation, evaluate, detectsNumber}
@@ -60,20 +60,20 @@ unfoldable pub firstRuns : List ℕ → List ℕ
 firstRuns ws = take (headWords + 2) ws ++ take 2 (drop (firstWord falling) ws)
 
 unfoldable pub reply : List ℕ → Question → Answer (List ℕ)
-reply netlist netCounts = readNetlist netlist >>= λ N. value (counts N)
-reply netlist paths = readNetlist netlist >>= λ N. value (pathTotal N ∷ [])
+reply netlist netCounts = readNetlist netlist into λ N. value (counts N)
+reply netlist paths = readNetlist netlist into λ N. value (pathTotal N ∷ [])
 -- as `paths`, with the pin rule before ticket 1
-reply netlist pathsBefore = readNetlistBy pinsFitBefore netlist >>= λ N. value (pathTotal N ∷ [])
-reply netlist (pathNumber k) = readNetlist netlist >>= λ N. value (wordsOf (pathOf N k))
-reply netlist (steadyNets rec) = readNetlist netlist >>= λ N. checks (testRules N rec) >> value (steadyOf N (testOf N robust rec))
-reply netlist (faultsOf c rec) = readNetlist netlist >>= λ N. checks (testRules N rec) >> value (faultList N (testOf N c rec) (numbersFrom 1 (pathTotal N)))
-reply netlist (risingWork c rec) = readNetlist netlist >>= λ N. checks (testRules N rec) >> value (workingRuns N (testOf N c rec) rising ∷ [])
-reply netlist (newRising class rec) = testCall netlist class rec emptyStore enoughWork >>= λ r. value (r .returned .newFaults .onRising ∷ [])
+reply netlist pathsBefore = readNetlistBy pinsFitBefore netlist into λ N. value (pathTotal N ∷ [])
+reply netlist (pathNumber k) = readNetlist netlist into λ N. value (wordsOf (pathOf N k))
+reply netlist (steadyNets rec) = readNetlist netlist into λ N. checks (testRules N rec) then value (steadyOf N (testOf N robust rec))
+reply netlist (faultsOf c rec) = readNetlist netlist into λ N. checks (testRules N rec) then value (faultList N (testOf N c rec) (numbersFrom 1 (pathTotal N)))
+reply netlist (risingWork c rec) = readNetlist netlist into λ N. checks (testRules N rec) then value (workingRuns N (testOf N c rec) rising ∷ [])
+reply netlist (newRising class rec) = testCall netlist class rec emptyStore enoughWork into λ r. value (r .returned .newFaults .onRising ∷ [])
 -- as `newRising` in class 1, on a store
-reply netlist (newRisingOn ws rec) = testCall netlist 1 rec ws enoughWork >>= λ r. value (r .returned .newFaults .onRising ∷ [])
-reply netlist (listed calls) = readNetlist netlist >>= λ N. value (firstRuns (afterCalls netlist N start calls .store))
-reply netlist (audited class testFile report) = auditCall netlist class testFile report emptyStore enoughWork >>= λ left. value (firstRuns left)
-reply netlist (testedOn ws rec) = testCall netlist 1 rec ws enoughWork >>= λ r. value (firstRuns (storeLeft r))
+reply netlist (newRisingOn ws rec) = testCall netlist 1 rec ws enoughWork into λ r. value (r .returned .newFaults .onRising ∷ [])
+reply netlist (listed calls) = readNetlist netlist into λ N. value (firstRuns (afterCalls netlist N start calls .store))
+reply netlist (audited class testFile report) = auditCall netlist class testFile report emptyStore enoughWork into λ left. value (firstRuns left)
+reply netlist (testedOn ws rec) = testCall netlist 1 rec ws enoughWork into λ r. value (firstRuns (storeLeft r))
 reply netlist (reportOf ws) = writerCall netlist ws (replicate reportBufferBytes 0)
 
 -- document 01's Q: net 2 AND of 0, 1; net 3 OR of 2, 1

@@ -5,7 +5,7 @@ use mathlib.Core.List.{List, [], _∷_, _++_, map}
 use Prim.Native.Nat.{ℕ, zero, suc, _+_, _-_, _*_, _/_, _%_}
 use lib.Dec.{ltb, leb, eqb}
 use lib.ListN.{length, getD, drop, replicate}
-use Rattle.model.specs.Base.{Answer, value, _>>=_, _>>_, Rule, checks, allOf, anyOf, numbersFrom, field, bit}
+use Rattle.model.specs.Base.{Answer, value, _into_, _then_, Rule, checks, allOf, anyOf, numbersFrom, field, bit}
 use Rattle.model.specs.Netlist.{Netlist, Gate, Kind, buffer, inverter, and, nand, or, nor, xor, xnor, maxNets, maxCount, gateCount, netByNet, atNets, outputCount}
 use Rattle.model.specs.Detect.{Class, nonRobust, robust, Test}
 
@@ -54,8 +54,8 @@ unfoldable pub readGates : ℕ → List ℕ → List ℕ → Answer (List Gate �
 readGates zero cs bs = value ([], bs)
 readGates (suc n) cs bs =
     checks (gateRules (length cs) cs bs)
-    >> readGates n (cs ++ (countIn cs bs ∷ [])) (drop (4 + 2 * getD bs 3 0) bs)
-    >>= λ r. value (gateIn bs ∷ r .0, r .1)
+    then readGates n (cs ++ (countIn cs bs ∷ [])) (drop (4 + 2 * getD bs 3 0) bs)
+    into λ r. value (gateIn bs ∷ r .0, r .1)
 
 -- Output by output: the rules of one output, at a net from `least` to below `nets`; the nets below `inputs` are the inputs. `s` is the sum so far
 abbrev pub outputRules : ℕ → ℕ → List ℕ → ℕ → ℕ → List ℕ → List Rule
@@ -70,8 +70,8 @@ unfoldable pub readOutputs : ℕ → ℕ → ℕ → List ℕ → ℕ → ℕ �
 readOutputs zero inputs nets cs least s bs = value ([], bs)
 readOutputs (suc n) inputs nets cs least s bs =
     checks (outputRules inputs nets cs least s bs)
-    >> readOutputs n inputs nets cs (suc (field 2 2 bs)) (s + outputCount inputs cs (field 2 2 bs)) (drop 4 bs)
-    >>= λ r. value (field 2 2 bs ∷ r .0, r .1)
+    then readOutputs n inputs nets cs (suc (field 2 2 bs)) (s + outputCount inputs cs (field 2 2 bs)) (drop 4 bs)
+    into λ r. value (field 2 2 bs ∷ r .0, r .1)
 
 -- I, G and U of the header
 abbrev pub inputsIn : List ℕ → ℕ
@@ -102,10 +102,10 @@ inputCounts bs = replicate (inputsIn bs) 1
 unfoldable pub readNetlist : List ℕ → Answer Netlist
 readNetlist bs =
     checks (headerRules bs)
-    >> readGates (gatesIn bs) (inputCounts bs) (drop 8 bs)
-    >>= λ g. readOutputs (outputsIn bs) (inputsIn bs) (inputsIn bs + gatesIn bs) (netByNet gateCount 0 (inputCounts bs) (g .0)) 0 0 (g .1)
-    >>= λ o. checks ((20, eqb (length (o .1)) 0) ∷ [])
-    >> value (record { inputs = inputsIn bs; gates = g .0; outputs = o .0 })
+    then readGates (gatesIn bs) (inputCounts bs) (drop 8 bs)
+    into λ g. readOutputs (outputsIn bs) (inputsIn bs) (inputsIn bs + gatesIn bs) (netByNet gateCount 0 (inputCounts bs) (g .0)) 0 0 (g .1)
+    into λ o. checks ((20, eqb (length (o .1)) 0) ∷ [])
+    then value (record { inputs = inputsIn bs; gates = g .0; outputs = o .0 })
 
 -- I bits in whole bytes
 abbrev pub vectorBytes : ℕ → ℕ

@@ -7,7 +7,7 @@ use mathlib.Core.List.{List, [], _∷_, _++_}
 use Prim.Native.Nat.{ℕ, zero, suc, _+_, _*_, _/_, _%_}
 use lib.Dec.{leb, eqb}
 use lib.ListN.{length, take, drop}
-use Rattle.model.specs.Base.{Answer, refused, value, _>>=_, _>>_, Rule, checks, passes, after, littleEndian, field}
+use Rattle.model.specs.Base.{Answer, refused, value, _into_, _then_, Rule, checks, passes, after, littleEndian, field}
 use Rattle.model.specs.Netlist.{Netlist, pathTotal}
 use Rattle.model.specs.Path.{Edge, rising, falling}
 use Rattle.model.specs.Runs.{Run, size}
@@ -57,13 +57,13 @@ namedRuns report falling = runsIn (drop (34 + 16 * field 14 2 report) report) (f
 unfoldable pub writerCall : List ℕ → List ℕ → List ℕ → Answer (List ℕ)
 writerCall netlist ws buffer =
     checks (storeRule ws ∷ reportRule buffer ∷ [])
-    >> readNetlist netlist
-    >>= λ N. checks (storeRules (pathTotal N) ws)
-    >> value (reportRecord (testsTaken ws) (pathTotal N) (runsByEdge ws))
+    then readNetlist netlist
+    into λ N. checks (storeRules (pathTotal N) ws)
+    then value (reportRecord (testsTaken ws) (pathTotal N) (runsByEdge ws))
 
 -- it returns the record's length, and bytes past the record are untouched
 unfoldable pub writerAnswer : List ℕ → List ℕ → List ℕ → Answer ℕ
-writerAnswer netlist ws buffer = writerCall netlist ws buffer >>= λ r. value (length r)
+writerAnswer netlist ws buffer = writerCall netlist ws buffer into λ r. value (length r)
 
 unfoldable pub writerBuffer : List ℕ → List ℕ → List ℕ → List ℕ
 writerBuffer netlist ws buffer = after (writerCall netlist ws buffer) buffer (λ r. r ++ drop (length r) buffer)
@@ -83,7 +83,7 @@ wholeRecords N testFile = eqb (length testFile % recordLength N) 0 && leb (lengt
 -- the test calls with the records in order, all in one class; the store that they leave
 unfoldable pub testAll : Netlist → Class → List (List ℕ) → List ℕ → Answer (List ℕ)
 testAll N c [] ws = value ws
-testAll N c (r ∷ rs) ws = testStage N c r ws >>= λ d. testAll N c rs (storeLeft d)
+testAll N c (r ∷ rs) ws = testStage N c r ws into λ d. testAll N c rs (storeLeft d)
 
 abbrev pub sameBytes : List ℕ → List ℕ → Bool
 sameBytes [] [] = true
@@ -104,10 +104,10 @@ reportRules report written =
 unfoldable pub auditCall : List ℕ → ℕ → List ℕ → List ℕ → List ℕ → List ℕ → Answer (List ℕ)
 auditCall netlist class testFile report ws work =
     beforeTest netlist class ws work
-    >>= λ N. checks ((33, wholeRecords N testFile) ∷ [])
-    >> testAll N (classOf class) (fileRecords N testFile) emptyStore
-    >>= λ left. checks (reportRules report (reportRecord (length (fileRecords N testFile)) (pathTotal N) (runsByEdge left)))
-    >> value left
+    into λ N. checks ((33, wholeRecords N testFile) ∷ [])
+    then testAll N (classOf class) (fileRecords N testFile) emptyStore
+    into λ left. checks (reportRules report (reportRecord (length (fileRecords N testFile)) (pathTotal N) (runsByEdge left)))
+    then value left
 
 unfoldable pub auditAnswer : List ℕ → ℕ → List ℕ → List ℕ → List ℕ → List ℕ → Answer (Unit {0})
 auditAnswer netlist class testFile report ws work = passes (auditCall netlist class testFile report ws work)

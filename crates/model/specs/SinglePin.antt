@@ -7,7 +7,7 @@ use mathlib.Core.List.{List, [], _∷_, _++_}
 use Prim.Native.Nat.{ℕ, zero, suc, _+_, _*_}
 use lib.Dec.{ltb, leb, eqb}
 use lib.ListN.{length, getD, drop}
-use Rattle.model.specs.Base.{Answer, value, _>>=_, _>>_, Rule, checks, allOf}
+use Rattle.model.specs.Base.{Answer, value, _into_, _then_, Rule, checks, allOf}
 use Rattle.model.specs.Netlist.{Netlist, Gate, Kind, buffer, inverter, and, nand, or, nor, xor, xnor, maxCount, gateCount, netByNet}
 use Rattle.model.specs.Detect.{nonRobust, robust, Evaluation, gateValue, differs, isOpen}
 use Rattle.model.specs.Read.{marked, within, pinsFit, gateIn, countIn, readOutputs, inputsIn, gatesIn, outputsIn, headerRules, inputCounts, readNetlist}
@@ -43,16 +43,16 @@ unfoldable pub readGatesBy : (ℕ → ℕ → Bool) → ℕ → List ℕ → Lis
 readGatesBy fit zero cs bs = value ([], bs)
 readGatesBy fit (suc n) cs bs =
     checks (gateRulesBy fit (length cs) cs bs)
-    >> readGatesBy fit n (cs ++ (countIn cs bs ∷ [])) (drop (4 + 2 * getD bs 3 0) bs)
-    >>= λ r. value (gateIn bs ∷ r .0, r .1)
+    then readGatesBy fit n (cs ++ (countIn cs bs ∷ [])) (drop (4 + 2 * getD bs 3 0) bs)
+    into λ r. value (gateIn bs ∷ r .0, r .1)
 
 unfoldable pub readNetlistBy : (ℕ → ℕ → Bool) → List ℕ → Answer Netlist
 readNetlistBy fit bs =
     checks (headerRules bs)
-    >> readGatesBy fit (gatesIn bs) (inputCounts bs) (drop 8 bs)
-    >>= λ g. readOutputs (outputsIn bs) (inputsIn bs) (inputsIn bs + gatesIn bs) (netByNet gateCount 0 (inputCounts bs) (g .0)) 0 0 (g .1)
-    >>= λ o. checks ((20, eqb (length (o .1)) 0) ∷ [])
-    >> value (record { inputs = inputsIn bs; gates = g .0; outputs = o .0 })
+    then readGatesBy fit (gatesIn bs) (inputCounts bs) (drop 8 bs)
+    into λ g. readOutputs (outputsIn bs) (inputsIn bs) (inputsIn bs + gatesIn bs) (netByNet gateCount 0 (inputCounts bs) (g .0)) 0 0 (g .1)
+    into λ o. checks ((20, eqb (length (o .1)) 0) ∷ [])
+    then value (record { inputs = inputsIn bs; gates = g .0; outputs = o .0 })
 
 -- Ticket 1, as one statement over the definitions
 pub record SinglePin : Type 0 where

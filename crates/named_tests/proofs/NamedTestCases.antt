@@ -9,7 +9,7 @@ use borrow.Author.Needs.{needs}
 use borrow.Author.Tests.{ltb-true}
 use lib.Dec.{ltb}
 use lib.ListN.{length}
-use Rattle.model.specs.Base.{Answer, refused, value, _>>=_, _>>_, checks}
+use Rattle.model.specs.Base.{Answer, refused, value, _into_, _then_, checks}
 use Rattle.model.specs.Read.{readNetlist, classOf, classRule}
 use Rattle.model.specs.Calls.{workWords, storeRule}
 use Rattle.model.specs.Report.{writerCall}
@@ -66,25 +66,25 @@ module _ (r : Reported) (netlist : List ℕ) (class : ℕ) (truth truth′ ws ws
   pub nothing-told : TestsReported 0 netlist class truth truth′ ws ws′
   nothing-told = record { testFile = file; lengthIs = λ h. absurd (omega (arith, h)); truthIs = is-truth; store = is-store }
 
-  is-length : r .length ≡ lengthIn (testsReport netlist class file ws truth >>= λ written. value (length written))
+  is-length : r .length ≡ lengthIn (testsReport netlist class file ws truth into λ written. value (length written))
   is-length =
       f .isReport .read .lengthIs
-      ∙ ap (λ (x : Answer (List ℕ)). lengthIn (x >>= λ written. value (length written))) (report-same netlist class file ws (f .work) (f .enough) truth)
+      ∙ ap (λ (x : Answer (List ℕ)). lengthIn (x into λ written. value (length written))) (report-same netlist class file ws (f .work) (f .enough) truth)
 
   pub length-told : TestsReported (r .length) netlist class truth truth′ ws ws′
   length-told =
       record {
         testFile = file;
-        lengthIs = length-in (testsReport netlist class file ws truth >>= λ written. value (length written)) (r .length) is-length;
+        lengthIs = length-in (testsReport netlist class file ws truth into λ written. value (length written)) (r .length) is-length;
         truthIs = is-truth;
         store = is-store;
       }
 
 -- Where there is a report the tests were taken
 module _ (netlist : List ℕ) (class : ℕ) (testFile ws truth written : List ℕ) (e : testsReport netlist class testFile ws truth ≡ value written) where
-  reached : Steps (beforeTests netlist class ws) (λ N. fileTaken N (classOf class) testFile >>= λ left. writerCall netlist left truth) written
+  reached : Steps (beforeTests netlist class ws) (λ N. fileTaken N (classOf class) testFile into λ left. writerCall netlist left truth) written
   unfolding testsReport
-  reached = steps (beforeTests netlist class ws) (λ N. fileTaken N (classOf class) testFile >>= λ left. writerCall netlist left truth) e
+  reached = steps (beforeTests netlist class ws) (λ N. fileTaken N (classOf class) testFile into λ left. writerCall netlist left truth) e
 
   left-by : Steps (fileTaken (reached .got) (classOf class) testFile) (λ left. writerCall netlist left truth) written
   left-by = steps (fileTaken (reached .got) (classOf class) testFile) (λ left. writerCall netlist left truth) (reached .second)
@@ -96,7 +96,7 @@ module _ (netlist : List ℕ) (class : ℕ) (testFile ws truth written : List �
   lent : Passed (checks (storeRule ws ∷ []))
   lent =
       then-first (checks (storeRule ws ∷ [])) (readNetlist netlist)
-      (steps (checks (storeRule ws ∷ []) >> readNetlist netlist) (λ N. checks (classRule class ∷ []) >> value N) (reached .first) .first)
+      (steps (checks (storeRule ws ∷ []) then readNetlist netlist) (λ N. checks (classRule class ∷ []) then value N) (reached .first) .first)
 
   store-left : testsStore netlist class testFile ws ≡ left-by .got
   unfolding testsStore leftStore

@@ -6,7 +6,7 @@ use mathlib.Core.Bool.{Bool, true}
 use mathlib.Core.List.{List, [], _∷_}
 use Prim.Native.Nat.{ℕ, _≤_, _<_}
 use lib.ListN.{length}
-use Rattle.model.specs.Base.{Answer, value, _>>=_, _>>_, checks, after}
+use Rattle.model.specs.Base.{Answer, value, _into_, _then_, checks, after}
 use Rattle.model.specs.Netlist.{Netlist}
 use Rattle.model.specs.Read.{readNetlist, classOf, classRule}
 use Rattle.model.specs.Calls.{workWords, storeRule}
@@ -27,11 +27,11 @@ pub record FileReported (r : Reported) (netlist : List ℕ) (class : ℕ) (truth
 
 -- The places before Test: the store's length, the netlist, the class
 abbrev pub beforeTests : List ℕ → ℕ → List ℕ → Answer Netlist
-beforeTests netlist class ws = checks (storeRule ws ∷ []) >> readNetlist netlist >>= λ N. checks (classRule class ∷ []) >> value N
+beforeTests netlist class ws = checks (storeRule ws ∷ []) then readNetlist netlist into λ N. checks (classRule class ∷ []) then value N
 
 -- The store that a test file leaves in a class: these, 33, its records
 unfoldable pub testsCall : List ℕ → ℕ → List ℕ → List ℕ → Answer (List ℕ)
-testsCall netlist class testFile ws = beforeTests netlist class ws >>= λ N. fileTaken N (classOf class) testFile
+testsCall netlist class testFile ws = beforeTests netlist class ws into λ N. fileTaken N (classOf class) testFile
 
 -- the store afterwards: all zeros where the file is refused; with 1 it is as found
 unfoldable pub testsStore : List ℕ → ℕ → List ℕ → List ℕ → List ℕ
@@ -41,13 +41,13 @@ testsStore netlist class testFile ws = after (checks (storeRule ws ∷ [])) ws (
 unfoldable pub testsReport : List ℕ → ℕ → List ℕ → List ℕ → List ℕ → Answer (List ℕ)
 testsReport netlist class testFile ws buffer =
     beforeTests netlist class ws
-    >>= λ N. fileTaken N (classOf class) testFile
-    >>= λ left. writerCall netlist left buffer
+    into λ N. fileTaken N (classOf class) testFile
+    into λ left. writerCall netlist left buffer
 
 -- The report of the tests, told by its length: a number over 0 is that of the true report, whose bytes stand at the start of the buffer
 pub record TestsReported (told : ℕ) (netlist : List ℕ) (class : ℕ) (truth truth′ ws ws′ : List ℕ) : Type 0 where
   pub testFile : List ℕ
-  pub lengthIs : 0 < told → (testsReport netlist class testFile ws truth >>= λ written. value (length written)) ≡ value told
+  pub lengthIs : 0 < told → (testsReport netlist class testFile ws truth into λ written. value (length written)) ≡ value told
   pub truthIs : truth′ ≡ withReport (testsReport netlist class testFile ws truth) truth
   pub store : ws′ ≡ testsStore netlist class testFile ws
 

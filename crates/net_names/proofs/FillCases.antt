@@ -9,7 +9,7 @@ use mir.Val.{Fits}
 use mir.Syntax.{w64}
 use lib.ListN.{length, getD, take, drop, length-append}
 use lib.Seq.{sets, sets-eq, length-sets, take-at, getD-drop}
-use Rattle.model.specs.Base.{Answer, refused, value, _>>=_, _>>_, checks}
+use Rattle.model.specs.Base.{Answer, refused, value, _into_, _then_, checks}
 use Rattle.model.specs.Refusals.{refusalNumber}
 use Rattle.records.proofs.ByteLaws.{sets-append}
 use Rattle.bench_lines.specs.Text.{linesOf}
@@ -42,7 +42,7 @@ pub fill-line : (text names is gs os : List ℕ) (r : TextAnswer) (w : Refusal) 
 unfolding circuitOf
 fill-line text names is gs os r w line t e n =
     let z : LineRefused (refusalNumber w) line text = subst (λ (x : TextAnswer). TextTrue x text is gs os) e t in
-    none-told text names (refusalNumber w) (ap (λ (x : Answer Circuit). x >>= (λ c. checks (endRules c) >> value c)) (z .reads)) n
+    none-told text names (refusalNumber w) (ap (λ (x : Answer Circuit). x into (λ c. checks (endRules c) then value c)) (z .reads)) n
 
 pub fill-end : (text names is gs os : List ℕ) (n : NameCounts) (r : EndAnswer) (w : Refusal) (line : ℕ) → EndTrue r text is gs os n
     → r ≡ end.Refused w line → names ≡ noNames → NamesTold names text
@@ -113,7 +113,7 @@ module _ (text is gs os : List ℕ) (n : NameCounts) (t : TextHeld text is gs os
         d = sound .taken .circuit
 
         circuit-is : circuitOf text ≡ value d
-        circuit-is = at-end text is gs os n (sound .taken) ∙ ap (λ (x : Answer (Unit {0})). x >> value d) (sound .sound)
+        circuit-is = at-end text is gs os n (sound .taken) ∙ ap (λ (x : Answer (Unit {0})). x then value d) (sound .sound)
 
         words : last ≡ sets noNames 0 (keyWords (netNames d))
         unfolding netNames

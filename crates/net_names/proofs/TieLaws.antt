@@ -6,7 +6,7 @@ use Prim.Native.Nat.{ℕ, zero, suc, _+_, _-_, _≤_, _<_}
 use native.Mathlib.Omega.{arith}
 use lib.ListN.{length, getD, length-append, length-map, List·getD-append}
 use lib.Seq.{getD-append-add}
-use Rattle.model.specs.Base.{Answer, value, checks, _>>_}
+use Rattle.model.specs.Base.{Answer, value, checks, _then_}
 use Rattle.model.specs.Netlist.{Gate, nets, pinNet, noGate}
 use Rattle.model.proofs.AnswerLaws.{steps, then-second, value-inj}
 use Rattle.bench_lines.specs.Text.{place, linesOf}
@@ -151,7 +151,7 @@ module _ (c : Circuit) (l : Legal c) where
 pub names-tie : (text : List ℕ) (c : Circuit) → circuitOf text ≡ value c → NamesTie text c
 unfolding circuitOf
 names-tie text c e =
-    let s = steps (lineByLine emptyCircuit (linesOf text)) (λ r. checks (endRules r) >> value r) e in
+    let s = steps (lineByLine emptyCircuit (linesOf text)) (λ r. checks (endRules r) then value r) e in
     let q : s .got ≡ c = value-inj (then-second (checks (endRules (s .got))) (value (s .got)) (s .second)) in
     let l = lines-leave (linesOf text) emptyCircuit (s .got) legal-empty (s .first) in
     tie c (subst Legal q (l .legal)) text e

@@ -8,7 +8,7 @@ use borrow.Author.Needs.{needs}
 use borrow.Author.Tests.{eq-eqb, ne-eqb}
 use lib.ListN.{length, drop, replicate, length-drop, length-replicate}
 use lib.Dec.{leb, eqb, leb→le}
-use Rattle.model.specs.Base.{Answer, refused, value, _>>=_, _>>_, checks, sumOf}
+use Rattle.model.specs.Base.{Answer, refused, value, _into_, _then_, checks, sumOf}
 use Rattle.model.specs.Netlist.{Netlist, netByNet, gateCount, counts, outputCount, pathTotal}
 use Rattle.model.specs.Read.{readNetlist, readGates, readOutputs, headerRules, marked, within, inputsIn, gatesIn, outputsIn}
 use Rattle.model.specs.Refusals.{refusalNumber}
@@ -43,9 +43,9 @@ use Rattle.netlist.proofs.TableLaws.{inputs-below}
 unfoldable pub body : List ℕ → ℕ → ℕ → ℕ → Answer Netlist
 body s i g u =
     readGates g (replicate i 1) (drop 8 s)
-    >>= λ x. readOutputs u i (i + g) (netByNet gateCount 0 (replicate i 1) (x .0)) 0 0 (x .1)
-    >>= λ o. checks ((20, eqb (length (o .1)) 0) ∷ [])
-    >> value (record { inputs = i; gates = x .0; outputs = o .0 })
+    into λ x. readOutputs u i (i + g) (netByNet gateCount 0 (replicate i 1) (x .0)) 0 0 (x .1)
+    into λ o. checks ((20, eqb (length (o .1)) 0) ∷ [])
+    then value (record { inputs = i; gates = x .0; outputs = o .0 })
 
 from-array : (u i n : ℕ) (array cs bs : List ℕ) → array ≡ padded cs → length cs ≡ n → readOutputs u i n array 0 0 bs ≡ readOutputs u i n cs 0 0 bs
 from-array u i n array cs bs p e = rw (p, ← e) (outputs-pad u i cs 0 0 bs)
@@ -135,7 +135,7 @@ header-refused : (s : List ℕ) (n : ℕ) → refused n ≡ headerStep s → che
 unfolding headerStep
 header-refused s n e = go (checks (headerRules s)) (headerIn s) e
   where
-    go : (c : Answer (Unit {0})) (v : Header) → refused n ≡ (c >> value v) → c ≡ refused n
+    go : (c : Answer (Unit {0})) (v : Header) → refused n ≡ (c then value v) → c ≡ refused n
     go (refused k) v e = let z : k ≡ n = cc in ap (λ m. refused m) z
     go (value u) v e = absurd (not-refused e)
 

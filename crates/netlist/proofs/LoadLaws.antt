@@ -5,7 +5,7 @@ use mathlib.Core.Path.{_≡_, refl, sym, ap, subst}
 use mathlib.Core.List.{List}
 use native.Mathlib.Omega.{arith}
 use lib.ListN.{length}
-use Rattle.model.specs.Base.{Answer, refused, value, _>>=_, passes}
+use Rattle.model.specs.Base.{Answer, refused, value, _into_, passes}
 use Rattle.model.specs.Netlist.{Netlist, counts, pathTotal}
 use Rattle.model.specs.Read.{readNetlist}
 use Rattle.model.specs.Refusals.{refusalNumber}
@@ -35,7 +35,7 @@ module _ (file : List ℕ) (d : NetlistSurvey) (x : SurveyAnswer) (ax : answerOf
   unfolding surveyCall surveyOf
   legal-survey dx l = go (readNetlist file) refl (rw l at ax) dx
     where
-      go : (y : Answer Netlist) → readNetlist file ≡ y → value tt ≡ passes (y >>= λ N. value (surveyOf N)) → d ≡ surveyData (y >>= λ N. value (surveyOf N)) → LegalSurvey file d
+      go : (y : Answer Netlist) → readNetlist file ≡ y → value tt ≡ passes (y into λ N. value (surveyOf N)) → d ≡ surveyData (y into λ N. value (surveyOf N)) → LegalSurvey file d
       go (refused n) e a b = absurd (not-refused (sym a))
       go (value N) e a b = record {
         netlist = N;
@@ -57,7 +57,7 @@ pub refused-survey : (file : List ℕ) (x : SurveyAnswer) → answerOf x ≡ pas
 unfolding surveyCall
 refused-survey file x ax w l = go (readNetlist file) (rw l at ax)
   where
-    go : (y : Answer Netlist) → refused (refusalNumber w) ≡ passes (y >>= λ N. value (surveyOf N)) → y ≡ refused (refusalNumber w)
+    go : (y : Answer Netlist) → refused (refusalNumber w) ≡ passes (y into λ N. value (surveyOf N)) → y ≡ refused (refusalNumber w)
     go (refused n) a = let z : n ≡ refusalNumber w = cc in ap (λ m. refused m) z
     go (value N) a = absurd (not-refused a)
 

@@ -8,7 +8,7 @@ use native.Mathlib.Nat.{le-of-suc-le-suc, not-suc-le-zero}
 use lib.ListN.{length, getD, take, drop, length-drop}
 use lib.Seq.{drop-drop, getD-drop}
 use lib.Dec.{T, leb, ltb, leb→le}
-use Rattle.model.specs.Base.{value, _>>_, checks, allOf, field}
+use Rattle.model.specs.Base.{value, _then_, checks, allOf, field}
 use Rattle.model.specs.Netlist.{Netlist, Gate, netByNet, gateCount, outputCount}
 use Rattle.model.specs.Read.{readGates, readOutputs, outputRules, inputsIn, gatesIn, outputsIn, inputCounts, marked}
 use Rattle.model.proofs.AnswerLaws.{steps, then-first, then-second, checks→, value-inj}
@@ -65,7 +65,7 @@ outs (suc n) inputs nets cs least t s at r b h e =
     let rules = outputRules inputs nets cs least t bs in
     let next = t + outputCount inputs cs o in
     let m = readOutputs n inputs nets cs (suc o) next (drop 4 bs) in
-    let p = steps (checks rules >> m) (λ r. value (field 2 2 bs ∷ r .0, r .1)) e in
+    let p = steps (checks rules then m) (λ r. value (field 2 2 bs ∷ r .0, r .1)) e in
     let a = checks→ rules (then-first (checks rules) m (p .first)) in
     let room = leb→le 4 (length bs) (and-left (leb 4 (length bs)) (marked 0x4F 0x55 bs) (a .0)) in
     let far : at + 4 ≤ length s = omega (arith, room, length-drop at s) in

@@ -4,7 +4,7 @@ use Prim.Native.Nat.{ℕ, _+_, _≤_}
 use mathlib.Core.Path.{_≡_}
 use mathlib.Core.List.{List}
 use lib.ListN.{length}
-use Rattle.model.specs.Base.{Answer, refused, value, checks, _>>_}
+use Rattle.model.specs.Base.{Answer, refused, value, checks, _then_}
 use Rattle.model.specs.Netlist.{maxNets}
 use Rattle.model.specs.Read.{headerRules, inputsIn, gatesIn, outputsIn}
 use Rattle.model.specs.Refusals.{refusalNumber}
@@ -26,7 +26,7 @@ headerOf (header.Refused w) = refused (refusalNumber w)
 
 -- Header: its rules, then what it has
 unfoldable pub headerStep : List ℕ → Answer Header
-headerStep bs = checks (headerRules bs) >> value (headerIn bs)
+headerStep bs = checks (headerRules bs) then value (headerIn bs)
 
 -- I, G and U of a header that passed
 pub record HeaderRead (file : List ℕ) (inputs gates outputs : ℕ) : Type 0 where

@@ -13,7 +13,7 @@ use lib.Seq.{drop-drop}
 use lib.Dec.{leb, ltb, eqb}
 use mir.Val.{Fits}
 use mir.Syntax.{w64}
-use Rattle.model.specs.Base.{Answer, refused, value, _>>=_, _>>_, checks, field, sumOf}
+use Rattle.model.specs.Base.{Answer, refused, value, _into_, _then_, checks, field, sumOf}
 use Rattle.model.specs.Netlist.{outputCount}
 use Rattle.model.specs.Read.{outputRules, readOutputs, marked}
 use Rattle.model.proofs.AnswerLaws.{then-first, then-second, checks→, value-inj}
@@ -124,7 +124,7 @@ outputs-end (suc left) inputs nets low total at counts s whole h w l = absurd (o
 
 -- one more reading
 outputs-step : (left inputs nets low total : ℕ) (counts s : List ℕ) (o : OutputRead) → 0 < left → OutputTaken inputs nets low total counts s o
-    → readOutputs left inputs nets counts low total s ≡ (readOutputs (left - 1) inputs nets counts (o .net + 1) (o .total) (drop 4 s) >>= λ r. value (o .net ∷ r .0, r .1))
+    → readOutputs left inputs nets counts low total s ≡ (readOutputs (left - 1) inputs nets counts (o .net + 1) (o .total) (drop 4 s) into λ r. value (o .net ∷ r .0, r .1))
 unfolding readOutputs
 outputs-step zero inputs nets low total counts s o h t = absurd (omega arith)
 outputs-step (suc left) inputs nets low total counts s o h t =
@@ -137,7 +137,7 @@ outputs-refused zero inputs nets low total counts s n h t = absurd (omega arith)
 outputs-refused (suc left) inputs nets low total counts s n h t = go (checks (outputRules inputs nets counts low total s)) _ _ _ t
   where
     go : (c : Answer (Unit {0})) (v : OutputRead) (r : Answer (List ℕ × List ℕ)) (f : List ℕ × List ℕ → Answer (List ℕ × List ℕ))
-        → (c >> value v) ≡ refused n → ((c >> r) >>= f) ≡ refused n
+        → (c then value v) ≡ refused n → ((c then r) into f) ≡ refused n
     go (refused k) v r f e = let z : k ≡ n = cc in ap (λ m. refused m) z
     go (value u) v r f e = absurd (Rattle.model.proofs.AnswerLaws.not-refused (sym e))
 

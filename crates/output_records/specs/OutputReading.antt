@@ -4,7 +4,7 @@ use Prim.Native.Nat.{ℕ, _+_, _≤_}
 use mathlib.Core.Path.{_≡_}
 use mathlib.Core.List.{List, map}
 use lib.ListN.{length, drop}
-use Rattle.model.specs.Base.{Answer, refused, value, checks, sumOf, field, _>>_}
+use Rattle.model.specs.Base.{Answer, refused, value, checks, sumOf, field, _then_}
 use Rattle.model.specs.Netlist.{outputCount}
 use Rattle.model.specs.Read.{outputRules}
 use Rattle.model.specs.Refusals.{refusalNumber}
@@ -25,7 +25,7 @@ outputOf (output.Refused w) = refused (refusalNumber w)
 -- Output by output: the rules of one output, then its net and the sum with its count
 unfoldable pub outputStep : ℕ → ℕ → List ℕ → ℕ → ℕ → List ℕ → Answer OutputRead
 outputStep inputs nets cs low total bs =
-    checks (outputRules inputs nets cs low total bs) >> value (record { net = field 2 2 bs; total = total + outputCount inputs cs (field 2 2 bs) })
+    checks (outputRules inputs nets cs low total bs) then value (record { net = field 2 2 bs; total = total + outputCount inputs cs (field 2 2 bs) })
 
 -- the outputs were read up to a position, with their sum
 pub record OutputsEnd (at total : ℕ) (file : List ℕ) (inputs : ℕ) (cs : List ℕ) (x : Answer (List ℕ × List ℕ)) : Type 0 where

@@ -7,7 +7,7 @@ use native.Mathlib.Omega.{arith}
 use borrow.Author.Needs.{needs}
 use lib.ListN.{length, take, drop, length-append}
 use lib.Seq.{take-at, length-take-le}
-use Rattle.model.specs.Base.{Answer, refused, value, _>>=_, after}
+use Rattle.model.specs.Base.{Answer, refused, value, _into_, after}
 use Rattle.model.specs.Refusals.{refusalNumber}
 use Rattle.model.specs.declared.Refusal.{Refusal}
 use Rattle.model.proofs.AnswerLaws.{not-refused, value-inj}
@@ -25,7 +25,7 @@ use Rattle.text_buffer.proofs.WrittenLaws.{no-room, room-there, written-as}
 use Rattle.path_lines.specs.PathText.{pathText, benchShown, benchPathText}
 
 abbrev sized : Answer (List ℕ) → Answer ℕ
-sized y = y >>= λ bs. value (length bs)
+sized y = y into λ bs. value (length bs)
 
 abbrev numberIn : Answer ℕ → ℕ
 numberIn (refused n) = n

@@ -8,7 +8,7 @@ use borrow.Author.Needs.{needs}
 use borrow.Author.Tests.{le-leb}
 use lib.Dec.{T, leb, leb→le}
 use lib.ListN.{length, getD, drop, replicate}
-use Rattle.model.specs.Base.{Answer, refused, value, _>>=_, _>>_, checks, after, passes}
+use Rattle.model.specs.Base.{Answer, refused, value, _into_, _then_, checks, after, passes}
 use Rattle.model.specs.Netlist.{Netlist, pathTotal}
 use Rattle.model.specs.Path.{CircuitPath, valid, pathOf}
 use Rattle.model.specs.Read.{readNetlist, within}
@@ -51,17 +51,17 @@ pub ruleset load-cases = (zeros-are, loaded-none, loaded-circuit, needs)
 -- ---- the call with its netlist, and without
 
 abbrev alone : Answer (Netlist × CircuitPath) → Answer CircuitPath
-alone y = y >>= λ r. value (r .1)
+alone y = y into λ r. value (r .1)
 
 abbrev paired : Netlist → CircuitPath → Answer (Netlist × CircuitPath)
 paired N p = value (N, p)
 
 both-parts : (x : Answer Netlist) (c : Netlist → Answer (Unit {0})) (f : Netlist → CircuitPath)
-    → (x >>= λ N. c N >> value (f N)) ≡ alone (x >>= λ N. c N >> paired N (f N))
+    → (x into λ N. c N then value (f N)) ≡ alone (x into λ N. c N then paired N (f N))
 both-parts (refused n) c f = refl
 both-parts (value N) c f = go (c N)
   where
-    go : (u : Answer (Unit {0})) → (u >> value (f N)) ≡ alone (u >> paired N (f N))
+    go : (u : Answer (Unit {0})) → (u then value (f N)) ≡ alone (u then paired N (f N))
     go (refused n) = refl
     go (value t) = refl
 
@@ -116,7 +116,7 @@ module _ (out : List ℕ) (file : List ℕ) (name : ℕ → List ℕ) (k : ℕ) 
       found : Found
       unfolding pathCall
       found =
-          let s = steps (readNetlist file) (λ N. checks ((60, within 1 (pathTotal N) k) ∷ []) >> paired N (pathOf N k)) (got .is) in
+          let s = steps (readNetlist file) (λ N. checks ((60, within 1 (pathTotal N) k) ∷ []) then paired N (pathOf N k)) (got .is) in
           let N : Netlist = s .got in
           let passed = then-first (checks ((60, within 1 (pathTotal N) k) ∷ [])) (paired N (pathOf N k)) (s .second) in
           let h = checks→ ((60, within 1 (pathTotal N) k) ∷ []) passed .0 in

@@ -3,7 +3,7 @@
 -- Assumes nothing.
 use mathlib.Core.List.{List, [], _∷_, _++_}
 use Prim.Native.Nat.{ℕ}
-use Rattle.model.specs.Base.{Answer, refused, value, _>>=_, _>>_, checks}
+use Rattle.model.specs.Base.{Answer, refused, value, _into_, _then_, checks}
 use Rattle.model.specs.Netlist.{Netlist, Kind, buffer, inverter, and, nand, or, nor, xor, xnor, gateOf, pinNet, outputNet, pathTotal}
 use Rattle.model.specs.Path.{CircuitPath, pathOf}
 use Rattle.model.specs.Read.{readNetlist, within}
@@ -66,7 +66,7 @@ pathLines N name path = outputLine name (path .output) (outputNet N (path .outpu
 -- the netlist, and the path of a number
 unfoldable pub pathCall : List ℕ → ℕ → Answer (Netlist × CircuitPath)
 pathCall netlist number =
-    readNetlist netlist >>= λ N. checks ((60, within 1 (pathTotal N) number) ∷ []) >> value (N, pathOf N number)
+    readNetlist netlist into λ N. checks ((60, within 1 (pathTotal N) number) ∷ []) then value (N, pathOf N number)
 
 abbrev pub shownPath : (ℕ → List ℕ) → Answer (Netlist × CircuitPath) → List ℕ
 shownPath name (refused number) = refusedLine number

@@ -5,7 +5,7 @@ use mathlib.Core.Path.{_≡_}
 use mathlib.Core.List.{List, [], _∷_}
 use Prim.Native.Nat.{ℕ, _+_, _≤_}
 use lib.ListN.{length, drop}
-use Rattle.model.specs.Base.{Answer, refused, value, _>>=_, checks, passes, after}
+use Rattle.model.specs.Base.{Answer, refused, value, _into_, checks, passes, after}
 use Rattle.model.specs.Netlist.{Netlist, pathTotal}
 use Rattle.model.specs.Detect.{Class}
 use Rattle.model.specs.Read.{readNetlist, classOf, recordLength}
@@ -49,7 +49,7 @@ pub record BeginTrue (r : Begun) (netlist : List ℕ) (class : ℕ) (ws ws′ wo
 
 -- the test calls with the records of one piece more
 unfoldable pub withPiece : Netlist → Class → List ℕ → Answer (List ℕ) → Answer (List ℕ)
-withPiece N c piece x = x >>= λ left. testAll N c (fileRecords N piece) left
+withPiece N c piece x = x into λ left. testAll N c (fileRecords N piece) left
 
 -- the number of records taken then; after a refused record it stays as it is
 unfoldable pub takenWith : Netlist → Class → List ℕ → Answer (List ℕ) → ℕ → ℕ

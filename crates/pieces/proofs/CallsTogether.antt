@@ -9,7 +9,7 @@ use native.Mathlib.Omega.{arith}
 use borrow.Author.Tests.{eq-eqb, ne-eqb}
 use lib.Dec.{eqb}
 use lib.ListN.{length}
-use Rattle.model.specs.Base.{Answer, refused, value, _>>=_, checks, passes}
+use Rattle.model.specs.Base.{Answer, refused, value, _into_, checks, passes}
 use Rattle.model.specs.Netlist.{Netlist, pathTotal}
 use Rattle.model.specs.Detect.{Class}
 use Rattle.model.specs.Read.{within, readNetlist, classOf}
@@ -149,7 +149,7 @@ after-calls netlist N e class known (c ∷ cs) (suc n) ws work m p =
 
 -- a store that no rule refuses is taken as it is
 checked-state : (b : Bool) (paths first : ℕ) (ws : List ℕ) → checks (storeRules paths ws) ≡ value tt
-    → (elim b [ true ↦ value ws | false ↦ refused first ] >>= λ left. storeChecked paths left) ≡ elim b [ true ↦ value ws | false ↦ refused first ]
+    → (elim b [ true ↦ value ws | false ↦ refused first ] into λ left. storeChecked paths left) ≡ elim b [ true ↦ value ws | false ↦ refused first ]
 checked-state true paths first ws s = rw s refl
 checked-state false paths first ws s = refl
 

@@ -9,7 +9,7 @@ use borrow.Author.Needs.{needs}
 use borrow.Author.Tests.{eq-eqb, ne-eqb}
 use lib.Dec.{eqb}
 use lib.ListN.{length, replicate}
-use Rattle.model.specs.Base.{Answer, refused, value, _>>=_, _>>_, checks, passes}
+use Rattle.model.specs.Base.{Answer, refused, value, _into_, _then_, checks, passes}
 use Rattle.model.specs.Netlist.{Netlist, pathTotal}
 use Rattle.model.specs.Read.{vectorBytes, recordLength, readNetlist}
 use Rattle.model.specs.Refusals.{refusalNumber}
@@ -65,14 +65,14 @@ unfolding endBy
 end-left each paths total report x left q =
     let whole = checks ((33, wholeLength each total) ∷ []) in
     let rules : List ℕ → Answer (Unit {0}) = λ l. checks (reportRules report (reportRecord (total / each) paths (runsByEdge l))) in
-    let s = steps (whole >> x) (λ l. rules l >> value l) q in
+    let s = steps (whole then x) (λ l. rules l then value l) q in
     then-second whole x (s .first) ∙ ap (λ (l : List ℕ). value l) (value-inj (then-second (rules (s .got)) (value (s .got)) (s .second)))
 
 held-left : (b : Bool) (first : ℕ) (ws left : List ℕ) → elim b [ true ↦ value ws | false ↦ refused first ] ≡ value left → left ≡ ws
 held-left true first ws left q = sym (value-inj q)
 held-left false first ws left q = absurd (not-refused q)
 
-state-left : (paths first : ℕ) (ws left : List ℕ) → (soFar first ws >>= λ l. storeChecked paths l) ≡ value left → left ≡ ws
+state-left : (paths first : ℕ) (ws left : List ℕ) → (soFar first ws into λ l. storeChecked paths l) ≡ value left → left ≡ ws
 unfolding soFar
 state-left paths first ws left q =
     let s = steps (soFar first ws) (λ l. storeChecked paths l) q in
@@ -107,7 +107,7 @@ module _ (netlist : List ℕ) (total first : ℕ) (report ws : List ℕ) where
         let x = taken-by (endStage netlist total first report ws) (sym (ap endedOf e) ∙ q) in
         let s = steps (readNetlist netlist) (λ N. endLegal (recordLength N) (pathTotal N) total first report ws) (x .is) in
         let N : Netlist = s .got in
-        let y = end-left (recordLength N) (pathTotal N) total report (soFar first ws >>= λ l. storeChecked (pathTotal N) l) (x .got) (s .second) in
+        let y = end-left (recordLength N) (pathTotal N) total report (soFar first ws into λ l. storeChecked (pathTotal N) l) (x .got) (s .second) in
         yes-by (x .got) (x .is) (state-left (pathTotal N) first ws (x .got) y)
 
 pub ruleset call-end-cases = (end-words, end-no, end-yes, needs)

@@ -6,7 +6,7 @@ use mathlib.Core.List.{List, [], _∷_}
 use Prim.Native.Nat.{ℕ, _/_}
 use lib.Dec.{leb→le}
 use lib.ListN.{length, drop}
-use Rattle.model.specs.Base.{Answer, refused, value, _>>=_, passes}
+use Rattle.model.specs.Base.{Answer, refused, value, _into_, passes}
 use Rattle.model.specs.Netlist.{Netlist}
 use Rattle.model.specs.Detect.{Class}
 use Rattle.model.specs.Read.{within, readNetlist, classOf, recordLength}
@@ -61,7 +61,7 @@ module _ (netlist : List ℕ) (N : Netlist) (e : readNetlist netlist ≡ value N
   same-end =
       ap (λ (x : Answer (List ℕ)). endOf N (length (joined pieces)) report x) (pieces-joined N c pieces h (value emptyStore)) ∙ end-file N c (joined pieces) report
 
-  from-here : (x : Answer Netlist) → beforeTest netlist class ws work ≡ x → (x >>= joinedEnd) ≡ (x >>= λ M. auditFile M c (joined pieces) report)
+  from-here : (x : Answer Netlist) → beforeTest netlist class ws work ≡ x → (x into joinedEnd) ≡ (x into λ M. auditFile M c (joined pieces) report)
   from-here (refused n) q = refl
   from-here (value M) q =
       let r = reached→ netlist class ws work M q in

@@ -5,7 +5,7 @@ use mathlib.Core.Path.{_≡_}
 use mathlib.Core.List.{List, [], _∷_}
 use Prim.Native.Nat.{ℕ, _≤_}
 use lib.ListN.{length, drop}
-use Rattle.model.specs.Base.{Answer, refused, value, _>>=_, _>>_, checks, passes, after}
+use Rattle.model.specs.Base.{Answer, refused, value, _into_, _then_, checks, passes, after}
 use Rattle.model.specs.Netlist.{Netlist, pathTotal}
 use Rattle.model.specs.Detect.{Class}
 use Rattle.model.specs.Read.{readNetlist, classOf, recordLength}
@@ -46,11 +46,11 @@ recordsSaid N c bytes ws = record { taken = takenOf N c (fileRecords N bytes) ws
 -- A piece: 1, 2, the netlist, 83, 40 to 42, then the records. Its answer, and the store that the test calls leave
 unfoldable pub pieceAnswer : List ℕ → ℕ → List ℕ → List ℕ → List ℕ → Answer RecordsSaid
 pieceAnswer netlist class bytes ws work =
-    beforeTest netlist class ws work >>= λ N. storeChecked (pathTotal N) ws >>= λ sound. value (recordsSaid N (classOf class) bytes sound)
+    beforeTest netlist class ws work into λ N. storeChecked (pathTotal N) ws into λ sound. value (recordsSaid N (classOf class) bytes sound)
 
 unfoldable pub pieceCall : List ℕ → ℕ → List ℕ → List ℕ → List ℕ → Answer (List ℕ)
 pieceCall netlist class bytes ws work =
-    beforeTest netlist class ws work >>= λ N. storeChecked (pathTotal N) ws >>= λ sound. testAll N (classOf class) (fileRecords N bytes) sound
+    beforeTest netlist class ws work into λ N. storeChecked (pathTotal N) ws into λ sound. testAll N (classOf class) (fileRecords N bytes) sound
 
 -- the store afterwards: refused with 1 or 2 it is as found, with any other number all zeros
 unfoldable pub pieceLeft : List ℕ → ℕ → List ℕ → List ℕ → List ℕ → List ℕ
@@ -60,7 +60,7 @@ pieceLeft netlist class bytes ws work = after (lentRules ws work) ws (λ u. left
 pub record PieceWork (netlist : List ℕ) (class : ℕ) (ws found left : List ℕ) : Type 0 where
   pub sameLength : length left ≡ length found
   pub pastWork : drop workWords left ≡ drop workWords found
-  pub notReached : (n : ℕ) → (beforeTest netlist class ws found >>= λ N. storeChecked (pathTotal N) ws) ≡ refused n → left ≡ found
+  pub notReached : (n : ℕ) → (beforeTest netlist class ws found into λ N. storeChecked (pathTotal N) ws) ≡ refused n → left ≡ found
 
 pub record PieceTrue (r : PieceAnswer) (netlist : List ℕ) (class : ℕ) (bytes ws ws′ work work′ : List ℕ) : Type 0 where
   pub answer : pieceOf r ≡ pieceAnswer netlist class bytes ws work
@@ -77,19 +77,19 @@ pub record PieceReady (netlist : List ℕ) (loaded : Loaded) (ws work : List ℕ
 
 pub record PieceStaged (r : PieceAnswer) (netlist : List ℕ) (class : ℕ) (bytes ws ws′ work work′ : List ℕ) : Type 0 where
   pub answer : (N : Netlist) → readNetlist netlist ≡ value N
-      → pieceOf r ≡ (storeChecked (pathTotal N) ws >>= λ sound. value (recordsSaid N (classOf class) bytes sound))
+      → pieceOf r ≡ (storeChecked (pathTotal N) ws into λ sound. value (recordsSaid N (classOf class) bytes sound))
   pub store : (N : Netlist) → readNetlist netlist ≡ value N
-      → ws′ ≡ leftStore (storeChecked (pathTotal N) ws >>= λ sound. testAll N (classOf class) (fileRecords N bytes) sound)
+      → ws′ ≡ leftStore (storeChecked (pathTotal N) ws into λ sound. testAll N (classOf class) (fileRecords N bytes) sound)
   pub sameLength : length work′ ≡ length work
   pub pastWork : drop workWords work′ ≡ drop workWords work
   pub notReached : (N : Netlist) → readNetlist netlist ≡ value N → (n : ℕ) → storeChecked (pathTotal N) ws ≡ refused n → work′ ≡ work
 
 -- 1, the netlist, then the rest of the end on it
 unfoldable pub endStage : List ℕ → ℕ → ℕ → List ℕ → List ℕ → Answer (List ℕ)
-endStage netlist total first report ws = readNetlist netlist >>= λ N. endLegal (recordLength N) (pathTotal N) total first report ws
+endStage netlist total first report ws = readNetlist netlist into λ N. endLegal (recordLength N) (pathTotal N) total first report ws
 
 unfoldable pub endCall : List ℕ → ℕ → ℕ → List ℕ → List ℕ → Answer (List ℕ)
-endCall netlist total first report ws = checks (storeRule ws ∷ []) >> endStage netlist total first report ws
+endCall netlist total first report ws = checks (storeRule ws ∷ []) then endStage netlist total first report ws
 
 unfoldable pub endAnswer : List ℕ → ℕ → ℕ → List ℕ → List ℕ → Answer (Unit {0})
 endAnswer netlist total first report ws = passes (endCall netlist total first report ws)

@@ -5,7 +5,7 @@ use mathlib.Core.Logic.{_↔_}
 use mathlib.Core.List.{List, [], _∷_, map}
 use Prim.Native.Nat.{ℕ, zero, suc, _+_, _≤_}
 use lib.ListN.{length}
-use Rattle.model.specs.Base.{Answer, value, _>>=_}
+use Rattle.model.specs.Base.{Answer, value, _into_}
 use Rattle.model.specs.Netlist.{Netlist}
 use Rattle.model.specs.Read.{readNetlist, classOf}
 use Rattle.model.specs.Refusals.{refusalNumber}
@@ -36,7 +36,7 @@ use Rattle.file_judging.specs.FileJudging.{endedOf}
 -- beginning, pieces and end
 unfoldable pub piecesCall : List ℕ → ℕ → List (List ℕ) → List ℕ → List ℕ → List ℕ → Answer (List ℕ)
 piecesCall netlist class pieces report ws work =
-    beforeTest netlist class ws work >>= λ N. endOf N (length (joined pieces)) report (withPieces N (classOf class) pieces (value emptyStore))
+    beforeTest netlist class ws work into λ N. endOf N (length (joined pieces)) report (withPieces N (classOf class) pieces (value emptyStore))
 
 -- ---- The steps, whose tables are made once
 

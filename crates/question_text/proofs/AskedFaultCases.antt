@@ -9,7 +9,7 @@ use borrow.Author.Needs.{needs}
 use borrow.Author.Tests.{le-leb, lt-leb, not-true, not-false}
 use lib.Dec.{T, leb, leb→le}
 use lib.ListN.{length}
-use Rattle.model.specs.Base.{Answer, refused, value, _>>_, checks}
+use Rattle.model.specs.Base.{Answer, refused, value, _then_, checks}
 use Rattle.model.specs.Path.{Edge, rising, falling, edgeOfFault, pathOfFault}
 use Rattle.model.specs.Read.{within}
 use Rattle.model.specs.Runs.{inRuns}

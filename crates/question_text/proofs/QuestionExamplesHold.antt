@@ -3,7 +3,7 @@
 use mathlib.Core.Path.{_≡_, refl}
 use mathlib.Core.List.{[], _∷_, _++_}
 use Prim.Native.Nat.{ℕ}
-use Rattle.model.specs.Base.{Answer, value, _>>_, checks}
+use Rattle.model.specs.Base.{Answer, value, _then_, checks}
 use Rattle.model.specs.Path.{pathOfFault}
 use Rattle.model.specs.Read.{within}
 use Rattle.model.specs.Runs.{inRuns}
@@ -15,7 +15,7 @@ use Rattle.question_text.specs.Questions.{withDigit, byteAfter, statedBy
 
 -- five paths, of which 1 to 3 and 5 are held on either edge, by a tree of two levels
 abbrev example : ℕ → Answer Asked
-example fault = checks ((60, within 1 10 fault) ∷ []) >> value (record { held = inRuns (runOf 1 3 ∷ runOf 5 5 ∷ []) (pathOfFault fault); visited = 2 })
+example fault = checks ((60, within 1 10 fault) ∷ []) then value (record { held = inRuns (runOf 1 3 ∷ runOf 5 5 ∷ []) (pathOfFault fault); visited = 2 })
 
 -- faults 6 and 7 are of paths 3 and 4; then 0, an empty line, 11, a sign, a zero in front; the last line has no end
 pub answers-hold :

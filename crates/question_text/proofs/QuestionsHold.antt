@@ -6,7 +6,7 @@ use mathlib.Core.Logic.{⊎-elim}
 use mathlib.Core.List.{List, [], _∷_, _++_, flatten, append-nil, append-assoc}
 use Prim.Native.Nat.{ℕ, _+_, _*_, _-_}
 use lib.Dec.{leb, eqb}
-use Rattle.model.specs.Base.{Answer, refused, value, _>>=_, _>>_, Rule, checks}
+use Rattle.model.specs.Base.{Answer, refused, value, _into_, _then_, Rule, checks}
 use Rattle.model.specs.Path.{Edge, rising, falling, edgeOfFault, pathOfFault}
 use Rattle.model.specs.Netlist.{Netlist, pathTotal}
 use Rattle.model.specs.Read.{within, readNetlist}

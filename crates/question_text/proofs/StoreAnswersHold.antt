@@ -7,7 +7,7 @@ use mathlib.Core.List.{List, [], _∷_, _++_}
 use Prim.Native.Nat.{ℕ, _*_}
 use borrow.Author.Tests.{eq-eqb}
 use lib.ListN.{length}
-use Rattle.model.specs.Base.{Answer, refused, value, _>>=_, _>>_, checks}
+use Rattle.model.specs.Base.{Answer, refused, value, _into_, _then_, checks}
 use Rattle.model.specs.Netlist.{pathTotal}
 use Rattle.model.specs.Path.{Edge, rising, falling, edgeOfFault, pathOfFault}
 use Rattle.model.specs.Read.{within, readNetlist}
@@ -42,21 +42,21 @@ module _ (netlist store up up′ down down′ : List ℕ) (paths : ℕ) (f : Fil
     held = inRuns (storeRuns store (edgeOfFault fault)) (pathOfFault fault)
 
     -- the question to the store, once what the trees were filled from has passed
-    of-store : faultCall netlist store fault ≡ (checks ((60, within 1 (2 * paths) fault) ∷ []) >> value held)
+    of-store : faultCall netlist store fault ≡ (checks ((60, within 1 (2 * paths) fault) ∷ []) then value held)
     unfolding faultCall
     of-store =
         let rules = storeRules (pathTotal (found .circuit)) store in
-        let begun : faultCall netlist store fault ≡ (checks (rules ++ ((60, within 1 (2 * pathTotal (found .circuit)) fault) ∷ [])) >> value held) =
+        let begun : faultCall netlist store fault ≡ (checks (rules ++ ((60, within 1 (2 * pathTotal (found .circuit)) fault) ∷ [])) then value held) =
         rw (eq-eqb (length store) storeWords (found .storeLong), found .isRead) refl in
         begun
-        ∙ ap (λ (x : Answer (Unit {0})). x >> value held) (checks-both rules ((60, within 1 (2 * pathTotal (found .circuit)) fault) ∷ []))
-        ∙ ap (λ (x : Answer (Unit {0})). x >> checks ((60, within 1 (2 * pathTotal (found .circuit)) fault) ∷ []) >> value held) (found .soundStore)
-        ∙ ap (λ (n : ℕ). checks ((60, within 1 (2 * n) fault) ∷ []) >> value held) (found .total)
+        ∙ ap (λ (x : Answer (Unit {0})). x then value held) (checks-both rules ((60, within 1 (2 * pathTotal (found .circuit)) fault) ∷ []))
+        ∙ ap (λ (x : Answer (Unit {0})). x then checks ((60, within 1 (2 * pathTotal (found .circuit)) fault) ∷ []) then value held) (found .soundStore)
+        ∙ ap (λ (n : ℕ). checks ((60, within 1 (2 * n) fault) ∷ []) then value held) (found .total)
 
     abbrev visited : Asked
     visited = record { held = held; visited = length (wayTo (treeOf up′ down′ fault) (pathOfFault fault)) }
 
-    of-trees : faultAsked paths up′ down′ fault ≡ (checks ((60, within 1 (2 * paths) fault) ∷ []) >> value visited)
+    of-trees : faultAsked paths up′ down′ fault ≡ (checks ((60, within 1 (2 * paths) fault) ∷ []) then value visited)
     of-trees =
         ⊎-elim
         (λ (t : within 1 (2 * paths) fault ≡ true).
@@ -69,10 +69,10 @@ module _ (netlist store up up′ down down′ : List ℕ) (paths : ℕ) (f : Fil
         (bool-cases (within 1 (2 * paths) fault))
 
     -- Where the trees answer, the store answers the same; where they are refused, it is refused so
-    pub asks-as-store : (faultAsked paths up′ down′ fault >>= λ a. value (a .held)) ≡ faultCall netlist store fault
-    asks-as-store = ap (λ (x : Answer Asked). x >>= λ a. value (a .held)) of-trees ∙ go (within 1 (2 * paths) fault) ∙ sym of-store
+    pub asks-as-store : (faultAsked paths up′ down′ fault into λ a. value (a .held)) ≡ faultCall netlist store fault
+    asks-as-store = ap (λ (x : Answer Asked). x into λ a. value (a .held)) of-trees ∙ go (within 1 (2 * paths) fault) ∙ sym of-store
       where
-        go : (t : Bool) → (checks ((60, t) ∷ []) >> value visited >>= λ a. value (a .held)) ≡ (checks ((60, t) ∷ []) >> value held)
+        go : (t : Bool) → (checks ((60, t) ∷ []) then value visited into λ a. value (a .held)) ≡ (checks ((60, t) ∷ []) then value held)
         go true = refl
         go false = refl
 
@@ -80,6 +80,6 @@ module _ (netlist store up up′ down down′ : List ℕ) (paths : ℕ) (f : Fil
     pub asks-levels : (a : Asked) → faultAsked paths up′ down′ fault ≡ value a → a .visited ≡ levelsIn (treeOf up′ down′ fault)
     asks-levels a e = go (within 1 (2 * paths) fault) (sym of-trees ∙ e)
       where
-        go : (t : Bool) → (checks ((60, t) ∷ []) >> value visited) ≡ value a → a .visited ≡ levelsIn (treeOf up′ down′ fault)
+        go : (t : Bool) → (checks ((60, t) ∷ []) then value visited) ≡ value a → a .visited ≡ levelsIn (treeOf up′ down′ fault)
         go true q = sym (ap (λ (x : Asked). x .visited) (value-inj q)) ∙ way-levels (treeOf up′ down′ fault) (pathOfFault fault)
         go false q = absurd (not-refused q)

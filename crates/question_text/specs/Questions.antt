@@ -6,7 +6,7 @@ use mathlib.Core.Bool.{Bool, true, false, _&&_}
 use mathlib.Core.List.{List, [], _∷_, _++_}
 use Prim.Native.Nat.{ℕ, _+_, _-_, _*_}
 use lib.Dec.{leb, eqb}
-use Rattle.model.specs.Base.{Answer, refused, value, _>>_, checks}
+use Rattle.model.specs.Base.{Answer, refused, value, _then_, checks}
 use Rattle.model.specs.Path.{edgeOfFault, pathOfFault}
 use Rattle.model.specs.Read.{within}
 use Rattle.model.specs.Store.{ofEdge}
@@ -25,7 +25,7 @@ treeOf up down fault = ofEdge (record { onRising = up; onFalling = down }) (edge
 unfoldable pub faultAsked : ℕ → List ℕ → List ℕ → ℕ → Answer Asked
 faultAsked paths up down fault =
     checks ((60, within 1 (2 * paths) fault) ∷ [])
-    >> holdsCall (treeOf up down fault) (pathOfFault fault)
+    then holdsCall (treeOf up down fault) (pathOfFault fault)
 
 -- a number with one more decimal digit, up to the largest of 64 bits
 unfoldable pub withDigit : ℕ → ℕ → Stated

@@ -8,7 +8,7 @@ use Prim.Native.Nat.{ℕ, suc, _+_, _/_, _%_, _≤_}
 use native.Mathlib.Omega.{arith}
 use lib.Dec.{T, leb, ltb, eqb, le→leb, lt→ltb, leb→le}
 use lib.ListN.{length}
-use Rattle.model.specs.Base.{Answer, refused, value, _>>=_, _>>_, Rule, checks, passes}
+use Rattle.model.specs.Base.{Answer, refused, value, _into_, _then_, Rule, checks, passes}
 use Rattle.model.specs.Netlist.{Netlist, pathTotal}
 use Rattle.model.specs.Path.{Edge}
 use Rattle.model.specs.Detect.{Class, Test}
@@ -85,17 +85,17 @@ module _ (N : Netlist) (h : pathTotal N ≤ smallTotal) where
 
 -- the places before Test, on a legal netlist, and what comes then
 abbrev beforeThen : {A : Type 0} → Netlist → ℕ → List ℕ → List ℕ → (Netlist → Answer A) → Answer A
-beforeThen N class ws work f = checks (storeRule ws ∷ workRule work ∷ []) >> value N >>= (λ M. checks (classRule class ∷ []) >> value M) >>= f
+beforeThen N class ws work f = checks (storeRule ws ∷ workRule work ∷ []) then value N into (λ M. checks (classRule class ∷ []) then value M) into f
 
 before-avoids : {A : Type 0} (N : Netlist) (class : ℕ) (ws work : List ℕ) (f : Netlist → Answer A) → Avoids 51 (f N) → Avoids 51 (beforeThen N class ws work f)
 before-avoids {A} N class ws work f h =
     known (checks (storeRule ws ∷ workRule work ∷ [])) (avoid-checks 51 (storeRule ws ∷ workRule work ∷ []) tt)
   where
-    known₂ : (m : Answer (Unit {0})) → Avoids 51 m → Avoids 51 (m >> value N >>= f)
+    known₂ : (m : Answer (Unit {0})) → Avoids 51 m → Avoids 51 (m then value N into f)
     known₂ (refused n) o = o
     known₂ (value u) o = h
 
-    known : (m : Answer (Unit {0})) → Avoids 51 m → Avoids 51 (m >> value N >>= (λ M. checks (classRule class ∷ []) >> value M) >>= f)
+    known : (m : Answer (Unit {0})) → Avoids 51 m → Avoids 51 (m then value N into (λ M. checks (classRule class ∷ []) then value M) into f)
     known (refused n) o = o
     known (value u) o = known₂ (checks (classRule class ∷ [])) (avoid-checks 51 (classRule class ∷ []) tt)
 
@@ -115,11 +115,11 @@ module _ (netlist : List ℕ) (N : Netlist) (q : readNetlist netlist ≡ value N
       λ M left. reportRules report (reportRecord (length (fileRecords M testFile)) (pathTotal M) (runsByEdge left)) in
       let whole : Netlist → List Rule = λ M. (33, wholeRecords M testFile) ∷ [] in
       let tests : Netlist → Answer (List ℕ) = λ M. testAll M (classOf class) (fileRecords M testFile) emptyStore in
-      let f : Netlist → Answer (List ℕ) = λ M. checks (whole M) >> tests M >>= λ left. checks (rules M left) >> value left in
+      let f : Netlist → Answer (List ℕ) = λ M. checks (whole M) then tests M into λ left. checks (rules M left) then value left in
       avoids 51 (auditAnswer netlist class testFile report ws work)
       (rw q (avoid-then 51 (beforeThen N class ws work f) (value tt)
       (before-avoids N class ws work f
-      (avoid-bind 51 (checks (whole N) >> tests N) (λ left. checks (rules N left) >> value left)
+      (avoid-bind 51 (checks (whole N) then tests N) (λ left. checks (rules N left) then value left)
       (avoid-then 51 (checks (whole N)) (tests N) (avoid-checks 51 (whole N) tt) (all-room N h (classOf class) (fileRecords N testFile) emptyStore))
       (λ left. avoid-then 51 (checks (rules N left)) (value left) (avoid-checks 51 (rules N left) tt) tt))) tt))
 
@@ -137,7 +137,7 @@ module _ (netlist : List ℕ) (N : Netlist) (q : readNetlist netlist ≡ value N
   unfolding pieceAnswer recordsSaid
   no-record-full class bytes ws work said full e =
       let c : Class = classOf class in
-      let p = steps (beforeTest netlist class ws work) (λ M. storeChecked (pathTotal M) ws >>= λ sound. value (recordsSaid M c bytes sound)) (sym e) in
+      let p = steps (beforeTest netlist class ws work) (λ M. storeChecked (pathTotal M) ws into λ sound. value (recordsSaid M c bytes sound)) (sym e) in
       let M : Netlist = p .got in
       let r = steps (storeChecked (pathTotal M) ws) (λ sound. value (recordsSaid M c bytes sound)) (p .second) in
       let same : M ≡ N = value-inj (sym (reached→ netlist class ws work M (p .first) .isLegal) ∙ q) in
@@ -200,8 +200,8 @@ no-audit-counted netlist class testFile report ws work = go (beforeTest netlist 
         λ w. all-counted N (classOf class) (fileRecords N testFile) emptyStore
         (omega (arith, length-records len n testFile, leb→le n maxTests (and-right (eqb (length testFile % len) 0) (leb n maxTests) w))) in
         avoids 86 (auditAnswer netlist class testFile report ws work)
-        (rw b (avoid-then 86 (checks ((33, whole) ∷ []) >> tests >>= λ left. checks (rules left) >> value left) (value tt)
-        (avoid-bind 86 (checks ((33, whole) ∷ []) >> tests) (λ left. checks (rules left) >> value left)
+        (rw b (avoid-then 86 (checks ((33, whole) ∷ []) then tests into λ left. checks (rules left) then value left) (value tt)
+        (avoid-bind 86 (checks ((33, whole) ∷ []) then tests) (λ left. checks (rules left) then value left)
         (avoid-check-then 86 33 whole tests tt counted)
         (λ left. avoid-then 86 (checks (rules left)) (value left) (avoid-checks 86 (rules left) tt) tt)) tt))
 

@@ -5,7 +5,7 @@ use mathlib.Core.Bool.{Bool, and-false}
 use mathlib.Core.List.{List, [], _∷_}
 use Prim.Native.Nat.{ℕ, _≤_, _<_, _*_}
 use lib.Dec.{leb}
-use Rattle.model.specs.Base.{refused, value, checks, Answer, _>>_}
+use Rattle.model.specs.Base.{refused, value, checks, Answer, _then_}
 use Rattle.model.specs.Path.{Edge, edgeOfFault, pathOfFault}
 use Rattle.model.specs.Runs.{inRuns}
 use Rattle.model.specs.Read.{within}
@@ -37,16 +37,16 @@ module _ (paths : ℕ) (ws : List ℕ) (r : StoreCheck) (checked : checkOf r ≡
     found = inRuns (storeRuns ws (edgeOfFault fault)) (pathOfFault fault)
 
     -- the rules of the store's words, then the one of the question
-    as-asked : (a : Answer (Unit {0})) → a ≡ checks (storeRules paths ws) → (a >> checks ((60, in-range) ∷ []) >> value found) ≡ faultOn paths ws fault
+    as-asked : (a : Answer (Unit {0})) → a ≡ checks (storeRules paths ws) → (a then checks ((60, in-range) ∷ []) then value found) ≡ faultOn paths ws fault
     unfolding faultOn in-range found
-    as-asked a e = ap (λ (x : Answer (Unit {0})). x >> checks ((60, in-range) ∷ []) >> value found) e
-        ∙ ap (λ (x : Answer (Unit {0})). x >> value found) (sym (checks-both (storeRules paths ws) ((60, in-range) ∷ [])))
+    as-asked a e = ap (λ (x : Answer (Unit {0})). x then checks ((60, in-range) ∷ []) then value found) e
+        ∙ ap (λ (x : Answer (Unit {0})). x then value found) (sym (checks-both (storeRules paths ws) ((60, in-range) ∷ [])))
 
     pub fault-refused : (w : Refusal) → r ≡ check.Refused w → refused (refusalNumber w) ≡ faultOn paths ws fault
     fault-refused w e = as-asked (refused (refusalNumber w)) (sym (ap checkOf e) ∙ checked)
 
     module _ (e : r ≡ check.Sound) where
-      sound-asked : (checks ((60, in-range) ∷ []) >> value found) ≡ faultOn paths ws fault
+      sound-asked : (checks ((60, in-range) ∷ []) then value found) ≡ faultOn paths ws fault
       sound-asked = as-asked (value tt) (sym (ap checkOf e) ∙ checked)
 
       pub fault-low : fault < 1 → refused 60 ≡ faultOn paths ws fault

@@ -6,7 +6,7 @@ use mathlib.Core.List.{List, [], _∷_}
 use Prim.Native.Nat.{ℕ}
 use borrow.Author.Tests.{eq-eqb, ne-eqb}
 use lib.ListN.{length, replicate}
-use Rattle.model.specs.Base.{Answer, refused, _>>=_, _>>_, checks}
+use Rattle.model.specs.Base.{Answer, refused, _into_, _then_, checks}
 use Rattle.model.specs.Netlist.{pathTotal}
 use Rattle.model.specs.Read.{readNetlist}
 use Rattle.model.specs.Store.{ByEdge, storeWords}
@@ -40,7 +40,7 @@ module _ (ws : List ℕ) where
 -- ---- a call that is handed a netlist and a store
 
 abbrev onLegal : {A : Type 0} → List ℕ → List ℕ → (ℕ → Answer A) → Answer A
-onLegal netlist ws f = checks (storeRule ws ∷ []) >> readNetlist netlist >>= λ N. f (pathTotal N)
+onLegal netlist ws f = checks (storeRule ws ∷ []) then readNetlist netlist into λ N. f (pathTotal N)
 
 module _ {A : Type 0} (netlist ws : List ℕ) (f : ℕ → Answer A) where
   short-store : (length ws ≡ storeWords → ⊥) → refused 1 ≡ onLegal netlist ws f

@@ -4,7 +4,7 @@ use mathlib.Core.Path.{_≡_}
 use mathlib.Core.Bool.{Bool, true, false}
 use mathlib.Core.List.{List, [], _∷_, _++_}
 use Prim.Native.Nat.{ℕ, _*_}
-use Rattle.model.specs.Base.{Answer, refused, value, _>>_, checks}
+use Rattle.model.specs.Base.{Answer, refused, value, _then_, checks}
 use Rattle.model.specs.Runs.{inRuns}
 use Rattle.model.specs.Path.{edgeOfFault, pathOfFault}
 use Rattle.model.specs.Read.{within}
@@ -42,10 +42,10 @@ heldOf (held.Refused w) = refused (refusalNumber w)
 
 -- document 01's totals once store length and netlist are passed, for path numbers 1 to `paths`
 unfoldable pub totalsOn : ℕ → List ℕ → Answer (ByEdge ℕ)
-totalsOn paths ws = checks (storeRules paths ws) >> value (totalsBoth ws)
+totalsOn paths ws = checks (storeRules paths ws) then value (totalsBoth ws)
 
 -- document 01's question for a fault once store length and netlist are passed, for path numbers 1 to `paths`
 unfoldable pub faultOn : ℕ → List ℕ → ℕ → Answer Bool
 faultOn paths ws fault =
     checks (storeRules paths ws ++ ((60, within 1 (2 * paths) fault) ∷ []))
-    >> value (inRuns (storeRuns ws (edgeOfFault fault)) (pathOfFault fault))
+    then value (inRuns (storeRuns ws (edgeOfFault fault)) (pathOfFault fault))

@@ -8,7 +8,7 @@ use native.Mathlib.Omega.{arith}
 use borrow.Author.Tests.{eq-eqb, ne-eqb, not-true, not-false}
 use lib.Dec.{eqb, leb}
 use lib.ListN.{length}
-use Rattle.model.specs.Base.{Answer, refused, value, _>>=_, _>>_, checks}
+use Rattle.model.specs.Base.{Answer, refused, value, _into_, _then_, checks}
 use Rattle.model.specs.Netlist.{Netlist, pathTotal}
 use Rattle.model.specs.Read.{within, readNetlist, classOf, classRule}
 use Rattle.model.specs.Store.{storeWords}
@@ -94,15 +94,15 @@ module _ (netlist : List ℕ) (class : ℕ) (rec ws work : List ℕ) where
                 fewPaths = omega (arith, here .totalIs, m .totalFits);
               }
 
-          before-is : beforeTest netlist class ws work ≡ (checks (classRule class ∷ []) >> value (here .circuit))
+          before-is : beforeTest netlist class ws work ≡ (checks (classRule class ∷ []) then value (here .circuit))
           before-is = rw (lent, here .tables .legal) refl
 
           call-is : (x : Answer (Unit {0})) → checks (classRule class ∷ []) ≡ x
-              → testCall netlist class rec ws work ≡ (x >> testStage (here .circuit) (classOf class) rec ws)
+              → testCall netlist class rec ws work ≡ (x then testStage (here .circuit) (classOf class) rec ws)
           unfolding testCall
           call-is x q = rw (before-is, q) (go x)
             where
-              go : (y : Answer (Unit {0})) → (y >> value (here .circuit) >>= λ N. testStage N (classOf class) rec ws) ≡ (y >> testStage (here .circuit) (classOf class) rec ws)
+              go : (y : Answer (Unit {0})) → (y then value (here .circuit) into λ N. testStage N (classOf class) rec ws) ≡ (y then testStage (here .circuit) (classOf class) rec ws)
               go (refused n) = refl
               go (value u) = refl
 
@@ -119,8 +119,8 @@ module _ (netlist : List ℕ) (class : ℕ) (rec ws work : List ℕ) where
                 ∙ go (checks (classRule class ∷ [])) (sym (ap checkedOf d) ∙ rules-are ∙ checks-both (classRule class ∷ []) (placeRules (here .circuit) rec ws)) in
                 record { answer = rw q refl; store = rw q refl; memory = record { sameLength = refl; pastWork = refl; notReached = λ n p. refl } }
               where
-                go : (x : Answer (Unit {0})) → refused (refusalNumber w) ≡ (x >> checks (placeRules (here .circuit) rec ws))
-                    → (x >> testStage (here .circuit) (classOf class) rec ws) ≡ refused (refusalNumber w)
+                go : (x : Answer (Unit {0})) → refused (refusalNumber w) ≡ (x then checks (placeRules (here .circuit) rec ws))
+                    → (x then testStage (here .circuit) (classOf class) rec ws) ≡ refused (refusalNumber w)
                 go (refused n) p = ap (λ k. refused k) (sym (refused-inj p))
                 go (value u) p = stage-refused (here .circuit) (classOf class) rec ws (refusalNumber w) p
 

@@ -7,7 +7,7 @@ use mathlib.Core.List.{List, [], _∷_}
 use Prim.Native.Nat.{ℕ, _/_}
 use borrow.Author.Needs.{needs}
 use lib.ListN.{length}
-use Rattle.model.specs.Base.{Answer, refused, value, _>>=_, _>>_, checks, passes, after}
+use Rattle.model.specs.Base.{Answer, refused, value, _into_, _then_, checks, passes, after}
 use Rattle.model.specs.Netlist.{Netlist, pathTotal}
 use Rattle.model.specs.Detect.{Class}
 use Rattle.model.specs.Read.{within, readNetlist, classOf, recordLength}
@@ -38,7 +38,7 @@ use Rattle.test_file.specs.Streams.{fileCall, fileStore, trueReport, tak
 
 -- 33 is checked once or twice
 twice : (b : Bool) (x : Answer (List ℕ)) (f : List ℕ → Answer (List ℕ))
-    → (checks ((33, b) ∷ []) >> (checks ((33, b) ∷ []) >> x) >>= f) ≡ (checks ((33, b) ∷ []) >> x >>= f)
+    → (checks ((33, b) ∷ []) then (checks ((33, b) ∷ []) then x) into f) ≡ (checks ((33, b) ∷ []) then x into f)
 twice true x f = refl
 twice false x f = refl
 
@@ -47,7 +47,7 @@ end-again : (N : Netlist) (c : Class) (testFile report : List ℕ)
 unfolding endBy fileTaken withPiece
 end-again N c testFile report =
     twice (wholeRecords N testFile) (testAll N c (fileRecords N testFile) emptyStore)
-    (λ left. checks (reportRules report (reportRecord (length testFile / recordLength N) (pathTotal N) (runsByEdge left))) >> value left)
+    (λ left. checks (reportRules report (reportRecord (length testFile / recordLength N) (pathTotal N) (runsByEdge left))) then value left)
 
 -- A refusal at the beginning: there is no file, and nothing is read
 module _ (netlist : List ℕ) (class : ℕ) (ws ws₀ work : List ℕ) (b : Begun) (t : BeginTrue b netlist class ws ws₀ work)
@@ -70,7 +70,7 @@ module _ (netlist : List ℕ) (class : ℕ) (ws ws₀ work : List ℕ) (b : Begu
     bytesAre = refl;
     inSpace = λ N e k. refl;
     takenAre = sym (ap (λ (x : Answer Netlist). takenBy x (classOf class) []) before-refused);
-    lengthIs = sym (ap (λ (x : Answer (List ℕ)). lengthIn (x >>= λ written. value (length written))) no-report);
+    lengthIs = sym (ap (λ (x : Answer (List ℕ)). lengthIn (x into λ written. value (length written))) no-report);
     truthIs = sym (ap (λ (x : Answer (List ℕ)). withReport x truth) no-report);
   }
 
@@ -83,7 +83,7 @@ module _ (netlist : List ℕ) (class : ℕ) (ws ws₀ work : List ℕ) (b : Begu
   unfolding fileStore beginStore leftStore
   report-refused = record {
     read = nothing-read;
-    answer = sym (ap (λ (x : Answer (List ℕ)). x >>= λ written. value (length written)) no-report);
+    answer = sym (ap (λ (x : Answer (List ℕ)). x into λ written. value (length written)) no-report);
     store = t .store ∙ sym (ap (λ (x : Answer (List ℕ)). after (lentRules ws work) ws (λ u. leftStore x)) no-file);
     workIs = record { sameLength = refl; pastWork = refl; notReached = λ n e. refl };
   }
@@ -114,7 +114,7 @@ module _ (netlist : List ℕ) (class : ℕ) (ws ws₀ work : List ℕ) (b : Begu
   unfolding trueReport writerAfter
   report-is =
       ap (λ (x : Answer (List ℕ)). writerAfter netlist x truth) (v .answer N legal)
-      ∙ sym (ap (λ (x : Answer Netlist). x >>= λ M. fileTaken M (classOf class) f >>= λ left. writerCall netlist left truth) before)
+      ∙ sym (ap (λ (x : Answer Netlist). x into λ M. fileTaken M (classOf class) f into λ left. writerCall netlist left truth) before)
 
   wrote : Wrote r (trueReport netlist class f ws work truth) truth truth′
   wrote = subst (λ (x : Answer (List ℕ)). Wrote r x truth truth′) report-is y

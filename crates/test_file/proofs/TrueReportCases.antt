@@ -7,7 +7,7 @@ use native.Mathlib.Omega.{arith}
 use borrow.Author.Needs.{needs}
 use lib.ListN.{length, take, drop, length-append}
 use lib.Seq.{length-take-le}
-use Rattle.model.specs.Base.{Answer, refused, value, _>>=_}
+use Rattle.model.specs.Base.{Answer, refused, value, _into_}
 use Rattle.model.specs.Report.{writerAnswer, writerBuffer}
 use Rattle.model.specs.declared.Refusal.{Refusal}
 use Rattle.report.specs.Answers.{writtenOf, WriteTrue}
@@ -36,7 +36,7 @@ module _ (a : WriteAnswer) where
 pub ruleset answer-cases = (same-refused, length-refused, same-written, length-written, needs)
 
 -- the report lies in the buffer
-within : (x : Answer (List ℕ)) (found : List ℕ) → lengthIn (x >>= λ w. value (length w)) ≤ length (withReport x found)
+within : (x : Answer (List ℕ)) (found : List ℕ) → lengthIn (x into λ w. value (length w)) ≤ length (withReport x found)
 within (refused n) found = omega arith
 within (value w) found = omega (arith, length-append w (drop (length w) found))
 

@@ -4,7 +4,7 @@ use mathlib.Core.Path.{_≡_}
 use mathlib.Core.List.{List}
 use Prim.Native.Nat.{ℕ}
 use lib.ListN.{length}
-use Rattle.model.specs.Base.{Answer, refused, value, _>>=_, after}
+use Rattle.model.specs.Base.{Answer, refused, value, _into_, after}
 use Rattle.model.specs.Netlist.{Netlist}
 use Rattle.model.specs.Detect.{Class}
 use Rattle.model.specs.Read.{classOf}
@@ -23,7 +23,7 @@ use Rattle.test_file.specs.TrueReport.{lengthIn, withReport}
 
 -- The store that a test file leaves in a class: lent memory, netlist, class, 33, its records
 unfoldable pub fileCall : List ℕ → ℕ → List ℕ → List ℕ → List ℕ → Answer (List ℕ)
-fileCall netlist class testFile ws work = beforeTest netlist class ws work >>= λ N. fileTaken N (classOf class) testFile
+fileCall netlist class testFile ws work = beforeTest netlist class ws work into λ N. fileTaken N (classOf class) testFile
 
 -- the store afterwards: all zeros where the file is refused; with 1 or 2 it is as found
 unfoldable pub fileStore : List ℕ → ℕ → List ℕ → List ℕ → List ℕ → List ℕ
@@ -33,11 +33,11 @@ fileStore netlist class testFile ws work = after (lentRules ws work) ws (λ u. l
 unfoldable pub trueReport : List ℕ → ℕ → List ℕ → List ℕ → List ℕ → List ℕ → Answer (List ℕ)
 trueReport netlist class testFile ws work buffer =
     beforeTest netlist class ws work
-    >>= λ N. fileTaken N (classOf class) testFile
-    >>= λ left. writerCall netlist left buffer
+    into λ N. fileTaken N (classOf class) testFile
+    into λ left. writerCall netlist left buffer
 
 abbrev pub trueLength : List ℕ → ℕ → List ℕ → List ℕ → List ℕ → List ℕ → Answer ℕ
-trueLength netlist class testFile ws work buffer = trueReport netlist class testFile ws work buffer >>= λ written. value (length written)
+trueLength netlist class testFile ws work buffer = trueReport netlist class testFile ws work buffer into λ written. value (length written)
 
 -- the number of records taken before the first refused one, all if none is; none where no record is tried
 abbrev pub takenBy : Answer Netlist → Class → List ℕ → ℕ

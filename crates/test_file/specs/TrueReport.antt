@@ -4,7 +4,7 @@ use mathlib.Core.Path.{_≡_}
 use mathlib.Core.List.{List, _++_}
 use Prim.Native.Nat.{ℕ}
 use lib.ListN.{length, drop}
-use Rattle.model.specs.Base.{Answer, refused, value, _>>=_, after}
+use Rattle.model.specs.Base.{Answer, refused, value, _into_, after}
 use Rattle.model.specs.Report.{writerCall}
 use Rattle.report.specs.Answers.{writtenOf}
 use Rattle.test_file.specs.declared.writing.Written.{Written}
@@ -20,10 +20,10 @@ withReport x found = after x found (λ written. written ++ drop (length written)
 
 -- the writer after records that answered `x`
 unfoldable pub writerAfter : List ℕ → Answer (List ℕ) → List ℕ → Answer (List ℕ)
-writerAfter netlist x found = x >>= λ ws. writerCall netlist ws found
+writerAfter netlist x found = x into λ ws. writerCall netlist ws found
 
 -- A report, or a refusal: the answer, the report's length, and the bytes of the buffer
 pub record Wrote (r : Written) (report : Answer (List ℕ)) (found left : List ℕ) : Type 0 where
-  pub answer : writtenOf (r .answer) ≡ (report >>= λ written. value (length written))
-  pub size : r .length ≡ lengthIn (report >>= λ written. value (length written))
+  pub answer : writtenOf (r .answer) ≡ (report into λ written. value (length written))
+  pub size : r .length ≡ lengthIn (report into λ written. value (length written))
   pub bytes : left ≡ withReport report found

@@ -9,7 +9,7 @@ use borrow.Author.Tests.{leb-true, not-true, not-false}
 use lib.ListN.{length, getD, drop, length-drop}
 use lib.Seq.{ext-getD, getD-drop}
 use lib.Dec.{leb}
-use Rattle.model.specs.Base.{Answer, refused, value, _>>_, Rule, checks, passes}
+use Rattle.model.specs.Base.{Answer, refused, value, _then_, Rule, checks, passes}
 use Rattle.model.specs.Refusals.{refusalNumber}
 use Rattle.model.specs.Runs.{Run}
 use Rattle.model.specs.declared.Refusal.{Refusal}
@@ -62,7 +62,7 @@ module _ (ws : List ℕ) (low high last : ℕ) (test : Bool) (rs : List Run) whe
   rules = runRule (runOf low high) ∷ (last, test) ∷ []
 
   abbrev whole : Answer (List Run)
-  whole = checks (lengthRule ws ∷ wordsRule ws ∷ rules) >> value rs
+  whole = checks (lengthRule ws ∷ wordsRule ws ∷ rules) then value rs
 
   whole-short : length ws < 32768 → whole ≡ refused 87
   whole-short q = sym (then-short ws rules (value rs) q)
@@ -72,7 +72,7 @@ module _ (ws : List ℕ) (low high last : ℕ) (test : Bool) (rs : List Run) whe
     whole-bad q = sym (then-bad ws rules (value rs) p (sym e ∙ not-true t q))
 
     module _ (q : not t ≡ false) (u : Bool) (eu : u ≡ runLegal (runOf low high)) where
-      passed : whole ≡ (checks rules >> value rs)
+      passed : whole ≡ (checks rules then value rs)
       passed = then-pass ws rules (value rs) p (sym e ∙ not-false t q)
 
       whole-range : not u ≡ true → whole ≡ refused 41

@@ -7,7 +7,7 @@ use mathlib.Core.List.{List, [], _∷_}
 use borrow.Author.Tests.{le-leb, lt-leb, leb-true, not-true, not-false}
 use lib.ListN.{length}
 use lib.Dec.{T, leb}
-use Rattle.model.specs.Base.{Answer, refused, value, _>>_, checks}
+use Rattle.model.specs.Base.{Answer, refused, value, _then_, checks}
 use Rattle.model.specs.Runs.{Run}
 use Rattle.tree_words.specs.TreeLayout.{runIn, treeRuns, soundWords}
 use Rattle.tree_words.specs.Calls.{Found, none, found, firstRun, orElse, overlaps, adjacent, searchRuns, searchCall, runLegal, runRule, runOf}
@@ -81,7 +81,7 @@ module _ (ws : List ℕ) (x : Run) where
     search-bad q = then-bad ws (runRule x ∷ []) (value (searchRuns (treeRuns ws) x)) p (sym e ∙ not-true t q)
 
     module _ (q : not t ≡ false) (u : Bool) (eu : u ≡ runLegal x) where
-      passed : searchCall ws x ≡ (checks (runRule x ∷ []) >> value (searchRuns (treeRuns ws) x))
+      passed : searchCall ws x ≡ (checks (runRule x ∷ []) then value (searchRuns (treeRuns ws) x))
       unfolding searchCall
       passed = then-pass ws (runRule x ∷ []) (value (searchRuns (treeRuns ws) x)) p (sym e ∙ not-false t q)
 

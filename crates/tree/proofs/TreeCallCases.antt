@@ -7,7 +7,7 @@ use mathlib.Core.List.{List, [], _∷_}
 use native.Mathlib.Omega.{arith}
 use borrow.Author.Tests.{le-leb, lt-leb, not-true, not-false}
 use lib.ListN.{length, getD, set, drop}
-use Rattle.model.specs.Base.{Answer, refused, value, _>>_, Rule, checks}
+use Rattle.model.specs.Base.{Answer, refused, value, _then_, Rule, checks}
 use Rattle.model.specs.Runs.{Run, inRuns, size}
 use Rattle.tree_words.specs.TreeLayout.{levelsIn, rootIn, freeIn, leavesAt, treeRuns, soundWords, totalAt, spaceStart}
 use Rattle.tree_words.specs.Calls.{lengthRule, wordsRule, numberRule, emptyTreeCall, emptiedTree, totalCall, holdsCall, Asked}
@@ -23,14 +23,14 @@ use Rattle.tree_check.proofs.HeadCases.{words-sound, runs-none, runs-some, end-
 -- ---- the first two rules, before any others
 
 module _ (ws : List ℕ) (rest : List Rule) {A : Type 0} (v : Answer A) where
-  pub then-short : length ws < 32768 → refused 87 ≡ (checks (lengthRule ws ∷ wordsRule ws ∷ rest) >> v)
+  pub then-short : length ws < 32768 → refused 87 ≡ (checks (lengthRule ws ∷ wordsRule ws ∷ rest) then v)
   then-short q = let w = lt-leb 32768 (length ws) q in rw w refl
 
   module _ (p : 32768 ≤ length ws) where
-    pub then-bad : soundWords ws ≡ false → refused 88 ≡ (checks (lengthRule ws ∷ wordsRule ws ∷ rest) >> v)
+    pub then-bad : soundWords ws ≡ false → refused 88 ≡ (checks (lengthRule ws ∷ wordsRule ws ∷ rest) then v)
     then-bad q = let w = le-leb 32768 (length ws) p in rw (w, q) refl
 
-    pub then-pass : soundWords ws ≡ true → (checks (lengthRule ws ∷ wordsRule ws ∷ rest) >> v) ≡ (checks rest >> v)
+    pub then-pass : soundWords ws ≡ true → (checks (lengthRule ws ∷ wordsRule ws ∷ rest) then v) ≡ (checks rest then v)
     then-pass q = let w = le-leb 32768 (length ws) p in rw (w, q) refl
 
 -- ---- emptying
@@ -125,7 +125,7 @@ module _ (ws : List ℕ) (k : ℕ) where
     holds-bad q = then-bad ws (numberRule k ∷ []) (value asked) p (sym e ∙ not-true t q)
 
     module _ (q : not t ≡ false) where
-      passed : holdsCall ws k ≡ (checks (numberRule k ∷ []) >> value asked)
+      passed : holdsCall ws k ≡ (checks (numberRule k ∷ []) then value asked)
       unfolding holdsCall asked
       passed = then-pass ws (numberRule k ∷ []) (value asked) p (sym e ∙ not-false t q)
 

@@ -9,7 +9,7 @@ use mathlib.Core.List.{List, [], _∷_}
 use native.Mathlib.Omega.{arith}
 use lib.ListN.{length, getD}
 use lib.Pow.{pow-pos}
-use Rattle.model.specs.Base.{Answer, value, _>>_, Rule, checks}
+use Rattle.model.specs.Base.{Answer, value, _then_, Rule, checks}
 use Rattle.model.specs.Runs.{Run, inRun, inRuns}
 use Rattle.model.proofs.AnswerLaws.{then-first, then-second, value-inj, checks→}
 use Rattle.model.proofs.BoolLaws.{le-or-lt, T→true}
@@ -31,7 +31,7 @@ module _ (ws : List ℕ) (k : ℕ) (a : Asked) (e : holdsCall ws k ≡ value a) 
   abbrev asked : Asked
   asked = record { held = inRuns (treeRuns ws) k; visited = length (wayTo ws k) }
 
-  is : (checks rules >> value asked) ≡ value a
+  is : (checks rules then value asked) ≡ value a
   unfolding holdsCall
   is = e
 

@@ -5,7 +5,7 @@ use mathlib.Core.Bool.{true, false, _&&_}
 use mathlib.Core.List.{List, [], _∷_}
 use Prim.Native.Nat.{ℕ}
 use lib.Dec.{leb}
-use Rattle.model.specs.Base.{Answer, refused, value, _>>_, checks, after}
+use Rattle.model.specs.Base.{Answer, refused, value, _then_, checks, after}
 use Rattle.model.specs.Refusals.{refusalNumber}
 use Rattle.model.specs.Runs.{Run, inRuns}
 use Rattle.tree_words.specs.TreeLayout.{levelsIn, treeRuns}
@@ -25,7 +25,7 @@ heldWords rs (k ∷ ks) (a ∷ os) = heldWord rs k ∷ heldWords rs ks os
 
 -- The call: refused by 87 and 88 alone; the tree's levels, as many as the nodes on the way to each answer (`TreesTrue`)
 unfoldable pub eachCall : List ℕ → Answer ℕ
-eachCall ws = checks (lengthRule ws ∷ wordsRule ws ∷ []) >> value (levelsIn ws)
+eachCall ws = checks (lengthRule ws ∷ wordsRule ws ∷ []) then value (levelsIn ws)
 
 abbrev pub eachOf : TreeAsked → Answer ℕ
 eachOf (each.Levels n) = value n

@@ -8,7 +8,7 @@ use borrow.Author.Needs.{needs}
 use borrow.Author.Tests.{eq-eqb, ne-eqb, le-leb, lt-leb}
 use lib.Dec.{eqb→eq, leb→le}
 use lib.ListN.{length}
-use Rattle.model.specs.Base.{Answer, refused, value, _>>=_, _>>_, Rule, checks}
+use Rattle.model.specs.Base.{Answer, refused, value, _into_, _then_, Rule, checks}
 use Rattle.model.specs.Netlist.{Netlist, pathTotal}
 use Rattle.model.specs.Path.{Edge, rising, falling}
 use Rattle.model.specs.Read.{readNetlist}
@@ -52,8 +52,8 @@ as-found call n ws e = record {
 refused-by : (call : Answer ℕ) (w : Refusal) (store up down : List ℕ) → call ≡ refused (refusalNumber w) → FilledBy call (fill.Refused w) store up up down down
 refused-by call w store up down e = record {
   answer = sym e;
-  onRising = as-found (call >> value (storeRuns store rising)) (refusalNumber w) up (ap (λ (x : Answer ℕ). x >> value (storeRuns store rising)) e);
-  onFalling = as-found (call >> value (storeRuns store falling)) (refusalNumber w) down (ap (λ (x : Answer ℕ). x >> value (storeRuns store falling)) e);
+  onRising = as-found (call then value (storeRuns store rising)) (refusalNumber w) up (ap (λ (x : Answer ℕ). x then value (storeRuns store rising)) e);
+  onFalling = as-found (call then value (storeRuns store falling)) (refusalNumber w) down (ap (λ (x : Answer ℕ). x then value (storeRuns store falling)) e);
 }
 
 -- ---- once the netlist is read
@@ -96,9 +96,9 @@ module _ (paths : ℕ) (store : List ℕ) (l : length store ≡ storeWords) (c :
     taken = rw (sym checked ∙ ap checkOf k) refl
 
     leaves : (e : Edge) {part ws ws′ : List ℕ} → part ≡ edgeWords store e → Holding (value (runsInWords part 0 (length part / 2))) ws ws′
-        → Holding (fillOn paths store >> value (storeRuns store e)) ws ws′
+        → Holding (fillOn paths store then value (storeRuns store e)) ws ws′
     leaves e {part} {ws} {ws′} q h =
-        let call = ap value (part-runs (sound .few) e q) ∙ ap (λ (x : Answer ℕ). x >> value (storeRuns store e)) (sym taken) in
+        let call = ap value (part-runs (sound .few) e q) ∙ ap (λ (x : Answer ℕ). x then value (storeRuns store e)) (sym taken) in
         subst (λ (x : Answer (List Run)). Holding x ws ws′) call h
 
     pub both-filled : {partUp partDown up up′ down down′ : List ℕ} → partUp ≡ edgeWords store rising
@@ -131,7 +131,7 @@ module _ (netlist store up down : List ℕ) where
           (rw (eq-eqb (length store) storeWords l, le-leb treeWords (length up) p, lt-leb treeWords (length down) h) refl)
 
       module _ (q : treeWords ≤ length down) (r : Surveyed) (t : SurveyTrue r netlist) where
-        passed : fillCall netlist store up down ≡ (readNetlist netlist >>= λ N. fillOn (pathTotal N) store)
+        passed : fillCall netlist store up down ≡ (readNetlist netlist into λ N. fillOn (pathTotal N) store)
         unfolding fillCall
         passed = rw (eq-eqb (length store) storeWords l, le-leb treeWords (length up) p, le-leb treeWords (length down) q) refl
 
@@ -166,7 +166,7 @@ pub found-all : (netlist store up down : List ℕ) {paths : ℕ} → fillCall ne
 unfolding fillCall fillOn
 found-all netlist store up down {paths} e =
     let lent : List Rule = storeRule store ∷ lengthRule up ∷ lengthRule down ∷ [] in
-    let s = steps (checks lent >> readNetlist netlist) (λ N. checks (storeRules (pathTotal N) store) >> value (pathTotal N)) e in
+    let s = steps (checks lent then readNetlist netlist) (λ N. checks (storeRules (pathTotal N) store) then value (pathTotal N)) e in
     let N = s .got in
     let passed = checks→ lent (then-first (checks lent) (readNetlist netlist) (s .first)) in
     record {
@@ -179,9 +179,9 @@ found-all netlist store up down {paths} e =
       soundStore = then-first (checks (storeRules (pathTotal N) store)) (value (pathTotal N)) (s .second) .is;
     }
 
-module _ {call : Answer ℕ} {paths : ℕ} (e : call ≡ value paths) (rs : List Run) {ws ws′ : List ℕ} (h : Holding (call >> value rs) ws ws′) where
-  held-call : (call >> value rs) ≡ value rs
-  held-call = ap (λ (x : Answer ℕ). x >> value rs) e
+module _ {call : Answer ℕ} {paths : ℕ} (e : call ≡ value paths) (rs : List Run) {ws ws′ : List ℕ} (h : Holding (call then value rs) ws ws′) where
+  held-call : (call then value rs) ≡ value rs
+  held-call = ap (λ (x : Answer ℕ). x then value rs) e
 
   pub filled-sound : treeWords ≤ length ws → SoundTree ws′
   filled-sound p = record { long = omega (arith, p, h .sameLength); sound = h .sound rs held-call }

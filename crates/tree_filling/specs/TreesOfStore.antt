@@ -6,7 +6,7 @@ use mathlib.Core.Path.{_≡_}
 use mathlib.Core.List.{List, [], _∷_}
 use Prim.Native.Nat.{ℕ, _/_, _^_, _≤_}
 use lib.ListN.{length}
-use Rattle.model.specs.Base.{Answer, refused, value, _>>=_, _>>_, checks}
+use Rattle.model.specs.Base.{Answer, refused, value, _into_, _then_, checks}
 use Rattle.model.specs.Netlist.{pathTotal}
 use Rattle.model.specs.Path.{rising, falling}
 use Rattle.model.specs.Read.{readNetlist}
@@ -27,20 +27,20 @@ filledOf (fill.Refused w) = refused (refusalNumber w)
 
 -- the call once lent memory and netlist are passed, for path numbers 1 to `paths`
 unfoldable pub fillOn : ℕ → List ℕ → Answer ℕ
-fillOn paths store = checks (storeRules paths store) >> value paths
+fillOn paths store = checks (storeRules paths store) then value paths
 
 -- The call: 1, 87 of either tree, the netlist, 40 to 42; its value is the number of paths
 unfoldable pub fillCall : List ℕ → List ℕ → List ℕ → List ℕ → Answer ℕ
 fillCall netlist store up down =
     checks (storeRule store ∷ lengthRule up ∷ lengthRule down ∷ [])
-    >> readNetlist netlist
-    >>= λ N. fillOn (pathTotal N) store
+    then readNetlist netlist
+    into λ N. fillOn (pathTotal N) store
 
 -- what a call answers, and what it leaves in each tree's words: a tree whose leaves are the store's runs of its edge; a refusal leaves the words
 pub record FilledBy (call : Answer ℕ) (r : FillAnswer) (store up up′ down down′ : List ℕ) : Type 0 where
   pub answer : filledOf r ≡ call
-  pub onRising : Holding (call >> value (storeRuns store rising)) up up′
-  pub onFalling : Holding (call >> value (storeRuns store falling)) down down′
+  pub onRising : Holding (call then value (storeRuns store rising)) up up′
+  pub onFalling : Holding (call then value (storeRuns store falling)) down down′
 
 -- Filling: its answer and what it leaves are those of the call
 abbrev pub FillTrue : FillAnswer → List ℕ → List ℕ → List ℕ → List ℕ → List ℕ → List ℕ → Type 0

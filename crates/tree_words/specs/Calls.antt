@@ -6,7 +6,7 @@ use mathlib.Core.List.{List, [], _∷_, _++_}
 use Prim.Native.Nat.{ℕ, zero, suc, _+_, _-_, _^_}
 use lib.Dec.{leb, eqb}
 use lib.ListN.{length, drop}
-use Rattle.model.specs.Base.{Answer, refused, value, _>>=_, _>>_, Rule, checks, passes, after}
+use Rattle.model.specs.Base.{Answer, refused, value, _into_, _then_, Rule, checks, passes, after}
 use Rattle.model.specs.Runs.{Run, inRun, inRuns, runsOf, size}
 use Rattle.model.specs.Store.{maxRuns}
 use Rattle.tree_words.specs.TreeLayout.{treeWords, treeRuns, soundWords}
@@ -60,12 +60,12 @@ stored (s ∷ rs) r = sameRun r s || stored rs r
 unfoldable pub insertCall : List ℕ → Run → Answer (List Run)
 insertCall ws r =
     checks (lengthRule ws ∷ wordsRule ws ∷ runRule r ∷ (51, leb (length (runsWith (treeRuns ws) r)) maxRuns) ∷ [])
-    >> value (runsWith (treeRuns ws) r)
+    then value (runsWith (treeRuns ws) r)
 
 unfoldable pub deleteCall : List ℕ → Run → Answer (List Run)
 deleteCall ws r =
     checks (lengthRule ws ∷ wordsRule ws ∷ runRule r ∷ (60, stored (treeRuns ws) r) ∷ [])
-    >> value (runsWithout (treeRuns ws) r)
+    then value (runsWithout (treeRuns ws) r)
 
 -- What insert and delete leave. The shape of the tree and the place of its nodes are the program's: it is a tree in the layout, and its
 -- leaves are exactly the runs then held. A refusal leaves the words; the words past the tree's are never touched.
@@ -99,11 +99,11 @@ unfoldable pub searchRuns : List Run → Run → Found
 searchRuns rs x = orElse (firstRun (overlaps x) rs) (firstRun (adjacent x) rs)
 
 unfoldable pub searchCall : List ℕ → Run → Answer Found
-searchCall ws x = checks (lengthRule ws ∷ wordsRule ws ∷ runRule x ∷ []) >> value (searchRuns (treeRuns ws) x)
+searchCall ws x = checks (lengthRule ws ∷ wordsRule ws ∷ runRule x ∷ []) then value (searchRuns (treeRuns ws) x)
 
 -- Total: how many numbers are held
 unfoldable pub totalCall : List ℕ → Answer ℕ
-totalCall ws = checks (lengthRule ws ∷ wordsRule ws ∷ []) >> value (size (treeRuns ws))
+totalCall ws = checks (lengthRule ws ∷ wordsRule ws ∷ []) then value (size (treeRuns ws))
 
 -- Asking for a path number: whether it is held, and the nodes visited for the answer, which are those on the way to its leaf
 pub record Asked : Type 0 where
@@ -113,4 +113,4 @@ pub record Asked : Type 0 where
 unfoldable pub holdsCall : List ℕ → ℕ → Answer Asked
 holdsCall ws k =
     checks (lengthRule ws ∷ wordsRule ws ∷ numberRule k ∷ [])
-    >> value (record { held = inRuns (treeRuns ws) k; visited = length (wayTo ws k) })
+    then value (record { held = inRuns (treeRuns ws) k; visited = length (wayTo ws k) })

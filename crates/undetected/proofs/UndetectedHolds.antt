@@ -8,7 +8,7 @@ use Prim.Native.Nat.{ℕ, zero, suc, _+_, _*_, _≤_, _<_}
 use native.Mathlib.Omega.{arith}
 use lib.Dec.{T, eqb, eqb→eq}
 use lib.ListN.{length}
-use Rattle.model.specs.Base.{value, checks, _>>=_, _>>_}
+use Rattle.model.specs.Base.{value, checks, _into_, _then_}
 use Rattle.model.specs.Netlist.{Netlist, pathTotal}
 use Rattle.model.specs.Path.{rising, falling, numberOf, pathOfFault, edgeOfFault}
 use Rattle.model.specs.Runs.{inRuns, size}
@@ -77,10 +77,10 @@ unfolding totalsCall
 totals-known netlist N read ws totals e =
     let lent = checks (storeRule ws ∷ []) in
     let sums = byEdge (λ d. size (storeRuns ws d)) in
-    let s = steps (lent >> readNetlist netlist) (λ M. checks (storeRules (pathTotal M) ws) >> value sums) e in
+    let s = steps (lent then readNetlist netlist) (λ M. checks (storeRules (pathTotal M) ws) then value sums) e in
     let is : s .got ≡ N = value-inj (sym (then-second lent (readNetlist netlist) (s .first)) ∙ read) in
-    let rest : (checks (storeRules (pathTotal N) ws) >> value sums) ≡ value totals =
-    subst (λ M. (checks (storeRules (pathTotal M) ws) >> value sums) ≡ value totals) is (s .second) in
+    let rest : (checks (storeRules (pathTotal N) ws) then value sums) ≡ value totals =
+    subst (λ M. (checks (storeRules (pathTotal M) ws) then value sums) ≡ value totals) is (s .second) in
     let long = eqb→eq (length ws) storeWords (checks→ (storeRule ws ∷ []) (then-first lent (readNetlist netlist) (s .first)) .0) in
     record {
       sound = sound-words (pathTotal N) ws long (sym (then-first (checks (storeRules (pathTotal N) ws)) (value sums) rest .is));

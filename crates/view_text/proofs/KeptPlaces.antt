@@ -9,7 +9,7 @@ use native.Mathlib.Omega.{arith}
 use lib.Dec.{T, leb, ltb, leb→le, ltb→lt}
 use lib.ListN.{length, take}
 use lib.Seq.{take-all, length-take-le}
-use Rattle.model.specs.Base.{Answer, refused, value, _>>=_, _>>_, Rule, checks, check}
+use Rattle.model.specs.Base.{Answer, refused, value, _into_, _then_, Rule, checks, check}
 use Rattle.model.specs.Netlist.{Netlist, pathTotal}
 use Rattle.model.specs.Read.{readNetlist}
 use Rattle.model.specs.Runs.{Run, howMany}
@@ -38,36 +38,36 @@ many-unfit n ps h =
     (λ t. let few = ascending-few n 0 ps (and-right (leb 1 (length ps)) (ascendingPlaces n 0 ps) t) (omega arith) in absurd (omega arith))
 
 -- a refusal after some checks ends a call
-refused-there : {A : Type 0} (c : Answer (Unit {0})) (rs : List Rule) (x : Answer A) → ((c >> (check 89 false >> checks rs)) >> x) ≡ (c >> refused 89)
+refused-there : {A : Type 0} (c : Answer (Unit {0})) (rs : List Rule) (x : Answer A) → ((c then (check 89 false then checks rs)) then x) ≡ (c then refused 89)
 refused-there (refused n) rs x = refl
 refused-there (value u) rs x = refl
 
 module _ (netlist ws : List ℕ) where
   -- what a call answers for more places than any netlist has outputs
   abbrev noPlaces : {A : Type 0} → Netlist → Answer A
-  noPlaces N = checks (storeRules (pathTotal N) ws) >> refused 89
+  noPlaces N = checks (storeRules (pathTotal N) ws) then refused 89
 
   abbrev noViewer : {A : Type 0} → List Rule → Answer A
-  noViewer lent = checks lent >> readNetlist netlist >>= noPlaces
+  noViewer lent = checks lent then readNetlist netlist into noPlaces
 
   module _ (qs : List ℕ) (many : 64 < length qs) where
     unfit : {A : Type 0} (N : Netlist) (rs : List Rule) (x : Answer A) → readNetlist netlist ≡ value N
-        → (checks (storeRules (pathTotal N) ws ++ (placesRule N qs ∷ rs)) >> x) ≡ noPlaces N
+        → (checks (storeRules (pathTotal N) ws ++ (placesRule N qs ∷ rs)) then x) ≡ noPlaces N
     unfit N rs x e =
         let more : length (N .outputs) < length qs = omega (arith, limits netlist N e .fewOutputs) in
-        ap (λ (c : Answer (Unit {0})). c >> x) (checks-both (storeRules (pathTotal N) ws) (placesRule N qs ∷ rs))
-        ∙ ap (λ (b : Bool). (checks (storeRules (pathTotal N) ws) >> (check 89 b >> checks rs)) >> x) (many-unfit (length (N .outputs)) qs more)
+        ap (λ (c : Answer (Unit {0})). c then x) (checks-both (storeRules (pathTotal N) ws) (placesRule N qs ∷ rs))
+        ∙ ap (λ (b : Bool). (checks (storeRules (pathTotal N) ws) then (check 89 b then checks rs)) then x) (many-unfit (length (N .outputs)) qs more)
         ∙ refused-there (checks (storeRules (pathTotal N) ws)) rs x
 
     module _ {A : Type 0} (rs : Netlist → List Rule) (x : Netlist → Answer A) where
       abbrev asked : Netlist → Answer A
-      asked N = checks (storeRules (pathTotal N) ws ++ (placesRule N qs ∷ rs N)) >> x N
+      asked N = checks (storeRules (pathTotal N) ws ++ (placesRule N qs ∷ rs N)) then x N
 
-      at-netlist : (m : Answer Netlist) → readNetlist netlist ≡ m → (m >>= asked) ≡ (m >>= noPlaces)
+      at-netlist : (m : Answer Netlist) → readNetlist netlist ≡ m → (m into asked) ≡ (m into noPlaces)
       at-netlist (refused n) e = refl
       at-netlist (value N) e = unfit N (rs N) (x N) e
 
-      at-lent : (c : Answer (Unit {0})) → (c >> readNetlist netlist >>= asked) ≡ (c >> readNetlist netlist >>= noPlaces)
+      at-lent : (c : Answer (Unit {0})) → (c then readNetlist netlist into asked) ≡ (c then readNetlist netlist into noPlaces)
       at-lent (refused n) = refl
       at-lent (value u) = at-netlist (readNetlist netlist) refl
 

@@ -5,7 +5,7 @@ use mathlib.Core.List.{List, [], _∷_, _++_, append-assoc}
 use Prim.Native.Nat.{ℕ, _^_, _≤_}
 use lib.Dec.{T, leb, eqb, leb→le}
 use lib.ListN.{length, length-replicate}
-use Rattle.model.specs.Base.{Answer, refused, value, _>>=_, _>>_, Rule, checks, passes}
+use Rattle.model.specs.Base.{Answer, refused, value, _into_, _then_, Rule, checks, passes}
 use Rattle.model.specs.Netlist.{Netlist, pathTotal}
 use Rattle.model.specs.Path.{Edge, rising, falling}
 use Rattle.model.specs.Runs.{Run, Separated, howMany}
@@ -31,10 +31,10 @@ module _ (netlist ws places : List ℕ) where
   pub runs-second : (second : List ℕ) → length second ≡ storeWords → viewerRunsCall netlist ws second places ≡ viewerRunsCall netlist ws emptyStore places
   unfolding viewerRunsCall
   runs-second second l =
-      ap (λ (n : ℕ). checks (storeRule ws ∷ (1, eqb n storeWords) ∷ []) >> readNetlist netlist
-      >>= λ N. checks (storeRules (pathTotal N) ws
+      ap (λ (n : ℕ). checks (storeRule ws ∷ (1, eqb n storeWords) ∷ []) then readNetlist netlist
+      into λ N. checks (storeRules (pathTotal N) ws
       ++ (placesRule N places ∷ (51, bothEdges (λ e. leb (length (seenRuns N places ws e)) maxRuns)) ∷ []))
-      >> value (byEdge (seenRuns N places ws)))
+      then value (byEdge (seenRuns N places ws)))
       (l ∙ sym (length-replicate {A = ℕ} storeWords 0))
 
   pub second-answer : (second : List ℕ) → length second ≡ storeWords
@@ -89,8 +89,8 @@ module _ (netlist ws places : List ℕ) where
   viewed second e =
       let lent : List Rule = storeRule ws ∷ storeRule second ∷ [] in
       let p : Passed (viewerRunsCall netlist ws second places) = passed (viewerRunsCall netlist ws second places) e in
-      let s : Steps (checks lent >> readNetlist netlist) (λ N. checks (allRules N) >> value (byEdge (seenRuns N places ws))) (p .got) =
-      steps (checks lent >> readNetlist netlist) (λ N. checks (allRules N) >> value (byEdge (seenRuns N places ws))) (p .is) in
+      let s : Steps (checks lent then readNetlist netlist) (λ N. checks (allRules N) then value (byEdge (seenRuns N places ws))) (p .got) =
+      steps (checks lent then readNetlist netlist) (λ N. checks (allRules N) then value (byEdge (seenRuns N places ws))) (p .is) in
       let N : Netlist = s .got in
       let runs : Answer (ByEdge (List Run)) = value (byEdge (seenRuns N places ws)) in
       let lengths : AllPass lent = checks→ lent (then-first (checks lent) (readNetlist netlist) (s .first)) in

@@ -8,7 +8,7 @@ use native.Mathlib.Omega.{arith}
 use borrow.Author.Tests.{eq-eqb}
 use lib.Dec.{leb}
 use lib.ListN.{length}
-use Rattle.model.specs.Base.{Answer, refused, value, _>>=_, _>>_, Rule, checks}
+use Rattle.model.specs.Base.{Answer, refused, value, _into_, _then_, Rule, checks}
 use Rattle.model.specs.Netlist.{Netlist, pathTotal}
 use Rattle.model.specs.Path.{Edge, edgeOfFault, pathOfFault}
 use Rattle.model.specs.Runs.{Run, inRuns, size, howMany}
@@ -28,25 +28,25 @@ use Rattle.viewer_places.specs.Viewer.{placesRule, seen, seenHeld, seenRuns, vi
 use Rattle.viewer.specs.ViewAnswers.{lookRules, looked, Looked, askedOn}
 
 module _ (file ws places : List ℕ) where
-  more-rules : (N : Netlist) (rs : List Rule) → checks (storeRules (pathTotal N) ws ++ (placesRule N places ∷ rs)) ≡ (checks (lookRules N ws places) >> checks rs)
+  more-rules : (N : Netlist) (rs : List Rule) → checks (storeRules (pathTotal N) ws ++ (placesRule N places ∷ rs)) ≡ (checks (lookRules N ws places) then checks rs)
   more-rules N rs =
       ap checks (sym (append-assoc (storeRules (pathTotal N) ws) (placesRule N places ∷ []) rs)) ∙ checks-both (lookRules N ws places) rs
 
   -- rules and steps after looking
   look-more : {A : Type 0} (rs : Netlist → List Rule) (f : Netlist → Answer A)
-      → (readNetlist file >>= λ N. checks (storeRules (pathTotal N) ws ++ (placesRule N places ∷ rs N)) >> f N)
-      ≡ (looked file ws places >>= λ N. checks (rs N) >> f N)
+      → (readNetlist file into λ N. checks (storeRules (pathTotal N) ws ++ (placesRule N places ∷ rs N)) then f N)
+      ≡ (looked file ws places into λ N. checks (rs N) then f N)
   unfolding looked
   look-more {A} rs f = go (readNetlist file)
     where
-      step : (N : Netlist) (c : Answer (Unit {0})) → ((c >> checks (rs N)) >> f N) ≡ ((c >> value N) >>= λ M. checks (rs M) >> f M)
+      step : (N : Netlist) (c : Answer (Unit {0})) → ((c then checks (rs N)) then f N) ≡ ((c then value N) into λ M. checks (rs M) then f M)
       step N (refused n) = refl
       step N (value u) = refl
 
-      go : (m : Answer Netlist) → (m >>= λ N. checks (storeRules (pathTotal N) ws ++ (placesRule N places ∷ rs N)) >> f N)
-          ≡ ((m >>= λ N. checks (lookRules N ws places) >> value N) >>= λ N. checks (rs N) >> f N)
+      go : (m : Answer Netlist) → (m into λ N. checks (storeRules (pathTotal N) ws ++ (placesRule N places ∷ rs N)) then f N)
+          ≡ ((m into λ N. checks (lookRules N ws places) then value N) into λ N. checks (rs N) then f N)
       go (refused n) = refl
-      go (value N) = ap (λ (c : Answer (Unit {0})). c >> f N) (more-rules N (rs N)) ∙ step N (checks (lookRules N ws places))
+      go (value N) = ap (λ (c : Answer (Unit {0})). c then f N) (more-rules N (rs N)) ∙ step N (checks (lookRules N ws places))
 
   abbrev totalsFrom : Netlist → Answer (ByEdge ℕ)
   totalsFrom N = value (byEdge (λ e. howMany (seenHeld N places ws e) (pathTotal N)))
@@ -58,16 +58,16 @@ module _ (file ws places : List ℕ) where
   runsFrom N = value (byEdge (seenRuns N places ws))
 
   module _ (l : length ws ≡ storeWords) where
-    pub totals-as : viewerTotalsCall file ws places ≡ (looked file ws places >>= totalsFrom)
+    pub totals-as : viewerTotalsCall file ws places ≡ (looked file ws places into totalsFrom)
     unfolding viewerTotalsCall
     totals-as = rw (eq-eqb (length ws) storeWords l) (look-more (λ N. []) totalsFrom)
 
     pub runs-as : (second : List ℕ) → length second ≡ storeWords
-        → viewerRunsCall file ws second places ≡ (looked file ws places >>= λ N. checks (fullRule N) >> runsFrom N)
+        → viewerRunsCall file ws second places ≡ (looked file ws places into λ N. checks (fullRule N) then runsFrom N)
     unfolding viewerRunsCall
     runs-as second m = rw (eq-eqb (length ws) storeWords l, eq-eqb (length second) storeWords m) (look-more fullRule runsFrom)
 
-    pub fault-as : (fault : ℕ) → viewerFaultCall file ws places fault ≡ (looked file ws places >>= λ N. askedOn (seen N places) ws (pathTotal N) fault)
+    pub fault-as : (fault : ℕ) → viewerFaultCall file ws places fault ≡ (looked file ws places into λ N. askedOn (seen N places) ws (pathTotal N) fault)
     unfolding viewerFaultCall askedOn
     fault-as fault =
         rw (eq-eqb (length ws) storeWords l)
@@ -85,7 +85,7 @@ module _ {file ws places words : List ℕ} {n total : ℕ} (l : length ws ≡ st
   parts : (readNetlist file ≡ value N) × AllPass (lookRules N ws places)
   unfolding looked
   parts =
-      let s : Steps (readNetlist file) (λ M. checks (lookRules M ws places) >> value M) N = steps (readNetlist file) (λ M. checks (lookRules M ws places) >> value M) (k .passes) in
+      let s : Steps (readNetlist file) (λ M. checks (lookRules M ws places) then value M) N = steps (readNetlist file) (λ M. checks (lookRules M ws places) then value M) (k .passes) in
       let same : s .got ≡ N = value-inj (then-second (checks (lookRules (s .got) ws places)) (value (s .got)) (s .second)) in (
         s .first ∙ ap value same,
         subst (λ (M : Netlist). AllPass (lookRules M ws places)) same

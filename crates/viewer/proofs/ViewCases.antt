@@ -10,7 +10,7 @@ use borrow.Author.Needs.{needs}
 use borrow.Author.Tests.{eq-eqb, ne-eqb, le-leb, lt-leb}
 use lib.Dec.{leb, leb→le}
 use lib.ListN.{length}
-use Rattle.model.specs.Base.{Answer, refused, value, _>>_, checks, passes}
+use Rattle.model.specs.Base.{Answer, refused, value, _then_, checks, passes}
 use Rattle.model.specs.Netlist.{Netlist, pathTotal}
 use Rattle.model.specs.Path.{rising, falling, edgeOfFault, pathOfFault}
 use Rattle.model.specs.Runs.{Run, inRuns, size}
@@ -115,7 +115,7 @@ module _ (file ws places words : List ℕ) (l : length ws ≡ storeWords) (a : L
         (λ (g : within 1 (2 * paths) fault ≡ true).
         let low = leb→le 1 fault (and-left (leb 1 fault) (leb fault (2 * paths)) (true→T (within 1 (2 * paths) fault) g)) in
         let high = leb→le fault (2 * paths) (and-right (leb 1 fault) (leb fault (2 * paths)) (true→T (within 1 (2 * paths) fault) g)) in
-        ap (λ (b : Bool). checks ((60, within 1 (2 * paths) fault) ∷ (90, b) ∷ []) >> value (inRuns (storeRuns ws (edgeOfFault fault)) (pathOfFault fault)))
+        ap (λ (b : Bool). checks ((60, within 1 (2 * paths) fault) ∷ (90, b) ∷ []) then value (inRuns (storeRuns ws (edgeOfFault fault)) (pathOfFault fault)))
         (h (pathOfFault fault) (omega arith) (omega arith)))
         (λ (g : within 1 (2 * paths) fault ≡ false). rw g refl)
         (bool-cases (within 1 (2 * paths) fault))
@@ -141,10 +141,10 @@ module _ (file ws places words : List ℕ) (l : length ws ≡ storeWords) (a : L
       down-many : length (seenRuns N places ws falling) ≡ f
       down-many = ap (λ (x : List Run). length x) (sym down-is) ∙ length-runs down 0 f
 
-      call : viewerRunsCall file ws second places ≡ (checks ((51, leb r maxRuns && leb f maxRuns) ∷ []) >> value (byEdge (seenRuns N places ws)))
+      call : viewerRunsCall file ws second places ≡ (checks ((51, leb r maxRuns && leb f maxRuns) ∷ []) then value (byEdge (seenRuns N places ws)))
       call =
           runs-as file ws places l second m ∙ rw (is .passes)
-          (ap₂ (λ (x y : ℕ). checks ((51, leb x maxRuns && leb y maxRuns) ∷ []) >> value (byEdge (seenRuns N places ws))) up-many down-many)
+          (ap₂ (λ (x y : ℕ). checks ((51, leb x maxRuns && leb y maxRuns) ∷ []) then value (byEdge (seenRuns N places ws))) up-many down-many)
 
       pub rising-over : maxRuns < r → ViewTrue (view.Refused why.StoreRuns) file ws places second second
       rising-over h = view-refused why.StoreRuns file ws places second (call ∙ rw (lt-leb r maxRuns h) refl)

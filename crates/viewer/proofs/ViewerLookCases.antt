@@ -8,7 +8,7 @@ use native.Mathlib.Omega.{arith}
 use borrow.Author.Needs.{needs}
 use borrow.Author.Tests.{not-true, not-false}
 use lib.ListN.{length}
-use Rattle.model.specs.Base.{Answer, refused, value, _>>_, checks}
+use Rattle.model.specs.Base.{Answer, refused, value, _then_, checks}
 use Rattle.model.specs.Netlist.{Netlist, pathTotal}
 use Rattle.model.specs.Runs.{runsOf}
 use Rattle.model.specs.Read.{readNetlist}
@@ -52,21 +52,21 @@ module _ {file cs : List ℕ} {shape : Shape} {total : ℕ} {ws : List ℕ} (o :
   }
 
   module _ (c : StoreCheck) (checked : checkOf c ≡ checks (storeRules total ws)) (places words : List ℕ) where
-    on-words : looked file ws places ≡ (checkOf c >> checks (placesRule N places ∷ []) >> value N)
+    on-words : looked file ws places ≡ (checkOf c then checks (placesRule N places ∷ []) then value N)
     unfolding looked
     on-words =
         let is : checkOf c ≡ checks (storeRules (pathTotal N) ws) = checked ∙ ap (λ (n : ℕ). checks (storeRules n ws)) (o .totalIs) in
-        let begun : looked file ws places ≡ (checks (lookRules N ws places) >> value N) = rw (o .tables .legal) refl in
+        let begun : looked file ws places ≡ (checks (lookRules N ws places) then value N) = rw (o .tables .legal) refl in
         begun
-        ∙ ap (λ (x : Answer (Unit {0})). x >> value N) (checks-both (storeRules (pathTotal N) ws) (placesRule N places ∷ []))
-        ∙ ap (λ (x : Answer (Unit {0})). x >> checks (placesRule N places ∷ []) >> value N) (sym is)
+        ∙ ap (λ (x : Answer (Unit {0})). x then value N) (checks-both (storeRules (pathTotal N) ws) (placesRule N places ∷ []))
+        ∙ ap (λ (x : Answer (Unit {0})). x then checks (placesRule N places ∷ []) then value N) (sym is)
 
     pub look-store : (w : Refusal) → c ≡ check.Refused w → LookTrue (look.Refused w) file ws places words
-    look-store w e = on-words ∙ ap (λ (x : StoreCheck). checkOf x >> checks (placesRule N places ∷ []) >> value N) e
+    look-store w e = on-words ∙ ap (λ (x : StoreCheck). checkOf x then checks (placesRule N places ∷ []) then value N) e
 
     module _ (e : c ≡ check.Sound) {fit : Bool} (judged : fit ≡ placesFit (shape .outputs) places) where
-      on-places : looked file ws places ≡ (checks (placesRule N places ∷ []) >> value N)
-      on-places = on-words ∙ ap (λ (x : StoreCheck). checkOf x >> checks (placesRule N places ∷ []) >> value N) e
+      on-places : looked file ws places ≡ (checks (placesRule N places ∷ []) then value N)
+      on-places = on-words ∙ ap (λ (x : StoreCheck). checkOf x then checks (placesRule N places ∷ []) then value N) e
 
       rule-is : fit ≡ placesRule N places .1
       rule-is = judged ∙ ap (λ (n : ℕ). placesFit n places) (o .tables .outputsAre)

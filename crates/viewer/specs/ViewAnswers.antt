@@ -5,7 +5,7 @@ use mathlib.Core.Bool.{Bool}
 use mathlib.Core.List.{List, [], _∷_, _++_}
 use Prim.Native.Nat.{ℕ, _*_, _≤_}
 use lib.ListN.{length}
-use Rattle.model.specs.Base.{Answer, refused, value, _>>=_, _>>_, Rule, checks}
+use Rattle.model.specs.Base.{Answer, refused, value, _into_, _then_, Rule, checks}
 use Rattle.model.specs.Netlist.{Netlist, pathTotal}
 use Rattle.model.specs.Path.{edgeOfFault, pathOfFault}
 use Rattle.model.specs.Runs.{runsOf, inRuns}
@@ -38,7 +38,7 @@ lookRules N ws places = storeRules (pathTotal N) ws ++ (placesRule N places ∷ 
 
 -- the netlist, once it, the store's words and the places are passed
 unfoldable pub looked : List ℕ → List ℕ → List ℕ → Answer Netlist
-looked netlist ws places = readNetlist netlist >>= λ N. checks (lookRules N ws places) >> value N
+looked netlist ws places = readNetlist netlist into λ N. checks (lookRules N ws places) then value N
 
 -- what is known of a legal netlist's tables before the words are checked
 pub record Opened (file counts : List ℕ) (shape : Shape) (total : ℕ) (ws : List ℕ) : Type 0 where
@@ -64,4 +64,4 @@ LookTrue (look.Refused w) file ws places words = looked file ws places ≡ refus
 unfoldable pub askedOn : (ℕ → Bool) → List ℕ → ℕ → ℕ → Answer Bool
 askedOn own ws paths fault =
     checks ((60, within 1 (2 * paths) fault) ∷ (90, own (pathOfFault fault)) ∷ [])
-    >> value (inRuns (storeRuns ws (edgeOfFault fault)) (pathOfFault fault))
+    then value (inRuns (storeRuns ws (edgeOfFault fault)) (pathOfFault fault))

@@ -8,7 +8,7 @@ use Prim.Native.Nat.{ℕ, suc, _+_, _*_, _≤_}
 use native.Mathlib.Omega.{arith}
 use lib.Dec.{T, leb, leb→le}
 use lib.ListN.{length}
-use Rattle.model.specs.Base.{Answer, refused, value, _>>=_, _>>_, Rule, checks, passes, after}
+use Rattle.model.specs.Base.{Answer, refused, value, _into_, _then_, Rule, checks, passes, after}
 use Rattle.model.specs.Netlist.{Netlist, pathTotal, outputNet}
 use Rattle.model.specs.Path.{Edge, rising, falling, pathOf, edgeOfFault, pathOfFault}
 use Rattle.model.specs.Detect.{Test, openPin, detects, detectsNumber}
@@ -33,15 +33,15 @@ use Rattle.viewer_places.specs.Viewer.{viewerRunsStore, viewerFaultCall,
 use Rattle.viewer_places.proofs.ReachLaws.{open-same, along}
 
 -- values after the same rules
-then-same : {A : Type 0} (rs : List Rule) (a b : A) → (AllPass rs → a ≡ b) → (checks rs >> value a) ≡ (checks rs >> value b)
+then-same : {A : Type 0} (rs : List Rule) (a b : A) → (AllPass rs → a ≡ b) → (checks rs then value a) ≡ (checks rs then value b)
 then-same {A} rs a b h = go (checks rs) (λ p. h (checks→ rs p))
   where
-    go : (m : Answer (Unit {0})) → (Passed m → a ≡ b) → (m >> value a) ≡ (m >> value b)
+    go : (m : Answer (Unit {0})) → (Passed m → a ≡ b) → (m then value a) ≡ (m then value b)
     go (refused n) f = refl
     go (value u) f = ap value (f (record { got = u; is = refl }))
 
 -- steps after a netlist that is known
-read-same : {A : Type 0} (m : Answer (Unit {0})) (N : Netlist) (f g : Netlist → Answer A) → f N ≡ g N → (m >> value N >>= f) ≡ (m >> value N >>= g)
+read-same : {A : Type 0} (m : Answer (Unit {0})) (N : Netlist) (f g : Netlist → Answer A) → f N ≡ g N → (m then value N into f) ≡ (m then value N into g)
 read-same (refused n) N f g h = refl
 read-same (value u) N f g h = h
 
@@ -68,7 +68,7 @@ module _ (netlist : List ℕ) (N : Netlist) (e : readNetlist netlist ≡ value N
     rules-past : (rs : List Rule) → checks (storeRules (pathTotal N) ws ++ rs) ≡ checks rs
     rules-past rs =
         checks-both (storeRules (pathTotal N) ws) rs
-        ∙ ap (λ (a : Answer (Unit {0})). a >> checks rs) (→checks (storeRules (pathTotal N) ws) (holding-passes N ws D x))
+        ∙ ap (λ (a : Answer (Unit {0})). a then checks rs) (→checks (storeRules (pathTotal N) ws) (holding-passes N ws D x))
 
     one-store : checks (storeRule ws ∷ []) ≡ value tt
     one-store = →checks (storeRule ws ∷ []) (rw (holding-length N ws D x) tt, tt)
@@ -77,13 +77,13 @@ module _ (netlist : List ℕ) (N : Netlist) (e : readNetlist netlist ≡ value N
     two-stores second = checks-both (storeRule ws ∷ []) (storeRule second ∷ []) ∙ rw one-store refl
 
     pub totals-are : viewerTotalsCall netlist ws places
-        ≡ (checks (placesRule N places ∷ []) >> value (byEdge (λ d. howMany (view N places D d) (pathTotal N))))
+        ≡ (checks (placesRule N places ∷ []) then value (byEdge (λ d. howMany (view N places D d) (pathTotal N))))
     unfolding viewerTotalsCall
     totals-are =
         let h : (d : Edge) → howMany (seenHeld N places ws d) (pathTotal N) ≡ howMany (view N places D d) (pathTotal N) =
         λ d. howMany-same (seenHeld N places ws d) (view N places D d) (pathTotal N) (view-held d) in
         rw (one-store, e)
-        (ap₂ (λ (a : Answer (Unit {0})) (v : ByEdge ℕ). a >> value v) (rules-past (placesRule N places ∷ []))
+        (ap₂ (λ (a : Answer (Unit {0})) (v : ByEdge ℕ). a then value v) (rules-past (placesRule N places ∷ []))
         (λ i. record { onRising = h rising i; onFalling = h falling i }))
 
     -- the rules after the store's, for runs
@@ -91,25 +91,25 @@ module _ (netlist : List ℕ) (N : Netlist) (e : readNetlist netlist ≡ value N
     viewRules = placesRule N places ∷ (51, bothEdges (λ d. leb (length (runsOf (view N places D d) (pathTotal N))) maxRuns)) ∷ []
 
     pub runs-are : (second : List ℕ) → viewerRunsCall netlist ws second places
-        ≡ (checks (storeRule second ∷ []) >> readNetlist netlist
-        >>= λ M. checks viewRules >> value (byEdge (λ d. runsOf (view N places D d) (pathTotal N))))
+        ≡ (checks (storeRule second ∷ []) then readNetlist netlist
+        into λ M. checks viewRules then value (byEdge (λ d. runsOf (view N places D d) (pathTotal N))))
     unfolding viewerRunsCall
     runs-are second =
         let p = rules-past (placesRule N places ∷ (51, bothEdges (λ d. leb (length (seenRuns N places ws d)) maxRuns)) ∷ []) in
         rw (two-stores second, e)
         (read-same (checks (storeRule second ∷ [])) N _ _
-        (ap (λ (a : Answer (Unit {0})). a >> value (byEdge (seenRuns N places ws))) p
+        (ap (λ (a : Answer (Unit {0})). a then value (byEdge (seenRuns N places ws))) p
         ∙ ap₂ (λ (r f : List Run). checks (placesRule N places ∷ (51, leb (length r) maxRuns && leb (length f) maxRuns) ∷ [])
-        >> value (record { onRising = r; onFalling = f })) (runs-view rising) (runs-view falling)))
+        then value (record { onRising = r; onFalling = f })) (runs-view rising) (runs-view falling)))
 
     abbrev faultRules : ℕ → List Rule
     faultRules fault = placesRule N places ∷ (60, within 1 (2 * pathTotal N) fault) ∷ (90, seen N places (pathOfFault fault)) ∷ []
 
-    pub fault-is : (fault : ℕ) → viewerFaultCall netlist ws places fault ≡ (checks (faultRules fault) >> value (D (edgeOfFault fault) (pathOfFault fault)))
+    pub fault-is : (fault : ℕ) → viewerFaultCall netlist ws places fault ≡ (checks (faultRules fault) then value (D (edgeOfFault fault) (pathOfFault fault)))
     unfolding viewerFaultCall
     fault-is fault =
         rw (one-store, e)
-        (ap (λ (a : Answer (Unit {0})). a >> value (inRuns (storeRuns ws (edgeOfFault fault)) (pathOfFault fault))) (rules-past (faultRules fault))
+        (ap (λ (a : Answer (Unit {0})). a then value (inRuns (storeRuns ws (edgeOfFault fault)) (pathOfFault fault))) (rules-past (faultRules fault))
         ∙ then-same (faultRules fault) (inRuns (storeRuns ws (edgeOfFault fault)) (pathOfFault fault)) (D (edgeOfFault fault) (pathOfFault fault))
         (λ p.
         let a = leb→le 1 fault (and-left (leb 1 fault) (leb fault (2 * pathTotal N)) (p .1 .0)) in
@@ -135,8 +135,8 @@ module _ (netlist : List ℕ) (N : Netlist) (e : readNetlist netlist ≡ value N
     same-runs-call : (second : List ℕ) → viewerRunsCall netlist ws second places ≡ viewerRunsCall netlist ws′ second places
     same-runs-call second =
         runs-are ws D x second
-        ∙ ap₂ (λ (r f : List Run). checks (storeRule second ∷ []) >> readNetlist netlist
-        >>= λ M. checks (placesRule N places ∷ (51, leb (length r) maxRuns && leb (length f) maxRuns) ∷ []) >> value (record { onRising = r; onFalling = f }))
+        ∙ ap₂ (λ (r f : List Run). checks (storeRule second ∷ []) then readNetlist netlist
+        into λ M. checks (placesRule N places ∷ (51, leb (length r) maxRuns && leb (length f) maxRuns) ∷ []) then value (record { onRising = r; onFalling = f }))
         (same-runs rising) (same-runs falling)
         ∙ sym (runs-are ws′ D′ x′ second)
 
@@ -155,7 +155,7 @@ module _ (netlist : List ℕ) (N : Netlist) (e : readNetlist netlist ≡ value N
     unfolding viewerRunsAnswer viewerRunsStore
     same-answers = record {
       totals = totals-are ws D x
-          ∙ ap₂ (λ (r f : ℕ). checks (placesRule N places ∷ []) >> value (record { onRising = r; onFalling = f })) (same-many rising) (same-many falling)
+          ∙ ap₂ (λ (r f : ℕ). checks (placesRule N places ∷ []) then value (record { onRising = r; onFalling = f })) (same-many rising) (same-many falling)
           ∙ sym (totals-are ws′ D′ x′);
       runs = λ second. ap passes (same-runs-call second);
       words = λ second. ap₂ (λ (n : ℕ) (a : Answer (ByEdge (List Run))). after a second (storeOf n)) third (same-runs-call second);

@@ -8,7 +8,7 @@ use mathlib.Core.List.{List, [], _∷_, _++_}
 use Prim.Native.Nat.{ℕ, suc, _*_}
 use lib.Dec.{T, leb, ltb, eqb}
 use lib.ListN.{length, getD}
-use Rattle.model.specs.Base.{Answer, value, _>>=_, _>>_, Rule, checks, passes, after, anyOf}
+use Rattle.model.specs.Base.{Answer, value, _into_, _then_, Rule, checks, passes, after, anyOf}
 use Rattle.model.specs.Netlist.{Netlist, pathTotal, pinNet, outputNet}
 use Rattle.model.specs.Path.{Edge, validAt, pathOf, edgeOfFault, pathOfFault}
 use Rattle.model.specs.Detect.{Test}
@@ -51,18 +51,18 @@ seenRuns N places ws e = runsOf (seenHeld N places ws e) (pathTotal N)
 unfoldable pub viewerTotalsCall : List ℕ → List ℕ → List ℕ → Answer (ByEdge ℕ)
 viewerTotalsCall netlist ws places =
     checks (storeRule ws ∷ [])
-    >> readNetlist netlist
-    >>= λ N. checks (storeRules (pathTotal N) ws ++ (placesRule N places ∷ []))
-    >> value (byEdge (λ e. howMany (seenHeld N places ws e) (pathTotal N)))
+    then readNetlist netlist
+    into λ N. checks (storeRules (pathTotal N) ws ++ (placesRule N places ∷ []))
+    then value (byEdge (λ e. howMany (seenHeld N places ws e) (pathTotal N)))
 
 -- Runs for a viewer: they go into the second store, of any words, with the same third word
 unfoldable pub viewerRunsCall : List ℕ → List ℕ → List ℕ → List ℕ → Answer (ByEdge (List Run))
 viewerRunsCall netlist ws second places =
     checks (storeRule ws ∷ storeRule second ∷ [])
-    >> readNetlist netlist
-    >>= λ N. checks (storeRules (pathTotal N) ws
+    then readNetlist netlist
+    into λ N. checks (storeRules (pathTotal N) ws
     ++ (placesRule N places ∷ (51, bothEdges (λ e. leb (length (seenRuns N places ws e)) maxRuns)) ∷ []))
-    >> value (byEdge (seenRuns N places ws))
+    then value (byEdge (seenRuns N places ws))
 
 unfoldable pub viewerRunsAnswer : List ℕ → List ℕ → List ℕ → List ℕ → Answer (Unit {0})
 viewerRunsAnswer netlist ws second places = passes (viewerRunsCall netlist ws second places)
@@ -74,10 +74,10 @@ viewerRunsStore netlist ws second places = after (viewerRunsCall netlist ws seco
 unfoldable pub viewerFaultCall : List ℕ → List ℕ → List ℕ → ℕ → Answer Bool
 viewerFaultCall netlist ws places fault =
     checks (storeRule ws ∷ [])
-    >> readNetlist netlist
-    >>= λ N. checks (storeRules (pathTotal N) ws
+    then readNetlist netlist
+    into λ N. checks (storeRules (pathTotal N) ws
     ++ (placesRule N places ∷ (60, within 1 (2 * pathTotal N) fault) ∷ (90, seen N places (pathOfFault fault)) ∷ []))
-    >> value (inRuns (storeRuns ws (edgeOfFault fault)) (pathOfFault fault))
+    then value (inRuns (storeRuns ws (edgeOfFault fault)) (pathOfFault fault))
 
 -- the net that the pins lead to from `net`
 abbrev pub endOf : Netlist → ℕ → List ℕ → ℕ

@@ -4,7 +4,7 @@ use mathlib.Core.Bool.{Bool, true, false}
 use mathlib.Core.List.{List, [], _∷_, _++_}
 use Prim.Native.Nat.{ℕ}
 use lib.ListN.{replicate}
-use Rattle.model.specs.Base.{Answer, refused, value, _>>=_}
+use Rattle.model.specs.Base.{Answer, refused, value, _into_}
 use Rattle.model.specs.Runs.{run}
 use Rattle.model.specs.Store.{storeWords}
 use Rattle.model.specs.Encode.{headerBytes, gateBytes, outputBytes}
@@ -36,9 +36,9 @@ sevens = replicate storeWords 7
 
 -- an answer as numbers
 unfoldable pub answered : List ℕ → List ℕ → List ℕ → Question → Answer (List ℕ)
-answered netlist ws places totals = viewerTotalsCall netlist ws places >>= λ p. value (p .onRising ∷ p .onFalling ∷ [])
-answered netlist ws places runs = viewerRunsCall netlist ws sevens places >>= λ p. value (viewerRunsStore netlist ws sevens places)
-answered netlist ws places (holds fault) = viewerFaultCall netlist ws places fault >>= λ b. value (asNumber b ∷ [])
+answered netlist ws places totals = viewerTotalsCall netlist ws places into λ p. value (p .onRising ∷ p .onFalling ∷ [])
+answered netlist ws places runs = viewerRunsCall netlist ws sevens places into λ p. value (viewerRunsStore netlist ws sevens places)
+answered netlist ws places (holds fault) = viewerFaultCall netlist ws places fault into λ b. value (asNumber b ∷ [])
 
 -- net 2 AND of 0 and 1, net 3 OR of 2 and 1; outputs 2 (paths 1 and 2) and 3 (paths 3 to 5)
 unfoldable pub two : List ℕ

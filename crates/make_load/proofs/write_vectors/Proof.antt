@@ -32,7 +32,7 @@ slice-reshare-prefix-write-all c = omega (arith, c .before .before .fill .ensure
 slice-aggregate-write-all : tie.Need-slice-aggregate-write-all Inv-loop μ-loop
 slice-aggregate-write-all c =
     let f = c .before .before .before .fill in
-    sym (length-take-le (f .result .length) (f .last .1 .1 .1 .0) (omega (arith, f .ensures .inside)))
+    sym (length-take-le (f .result .size) (f .last .1 .1 .1 .0) (omega (arith, f .ensures .inside)))
 
 write-all-requires : tie.Need-write-all-requires Inv-loop μ-loop
 write-all-requires c κs = search needs
