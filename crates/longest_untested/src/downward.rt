@@ -1,7 +1,7 @@
 // The lengths from the greatest down: those that have an untested path, by the rows of paths and of faults held.
 ghost use mathlib.Core.Path.{_≡_};
 ghost use mathlib.Core.List.{_∷_, []};
-ghost use Rattle.model.specs.Base.{value, _>>_, checks};
+ghost use Rattle.model.specs.Base.{value, _then_, checks};
 ghost use Rattle.model.specs.Netlist.{Netlist};
 ghost use Rattle.model.specs.Read.{readNetlist};
 ghost use Rattle.length_rows.specs.Lengths.{lengthRule, row, pathsUpTo};
