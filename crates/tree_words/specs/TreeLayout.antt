@@ -1,8 +1,8 @@
 -- The words of a tree. Words 0 to 2: levels, root, free. An empty tree has zeros there, and its other words may hold anything.
--- Else `root` is the word where the root stands and `free` the first word that no node uses. Nodes stand in one of two spaces, the words
--- 4 to 16,383 or the words 16,384 to 32,767: that of the root. A leaf is 3 words: low, high, total. An inner node is 8 words:
--- least, most, total, second, third, then the words where its children stand, 0 for a third child that it has not.
--- Words of a space that no node uses may hold anything.
+-- Else `root` is the word where the root stands; every node ends at or before `free`, which is at most the end of the space. Nodes stand in
+-- one of two spaces, the words 4 to 16,383 or the words 16,384 to 32,767: that of the root. A leaf is 3 words: low, high, total. An inner
+-- node is 8 words: least, most, total, second, third, then the words where its children stand, 0 for a third child that it has not.
+-- Nodes may have words in common, and words that no node has may hold anything.
 -- Assumes nothing.
 use mathlib.Core.Bool.{Bool, true, false, _&&_, _||_, cond}
 use mathlib.Core.List.{List, []}
