@@ -6,7 +6,7 @@ ghost use Rattle.model.specs.Read.{readNetlist};
 ghost use Rattle.lengths.specs.LengthAnswers.{Countable, CountableRows, RowsAre, lengthsOn, nothing, withRows};
 use crate::LengthRows;
 use crate::LengthsAnswer;
-use crate::held::held_row;
+use crate::inner::held::held_row;
 use faults::Edge;
 use length_ranks::inner::net_rows::fill_rows;
 use length_ranks::inner::ranks::rank_row;

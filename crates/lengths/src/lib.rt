@@ -1,6 +1,6 @@
 // Coverage by length: for each edge and each length of 0 to 63 gates how many paths there are, and how many of their faults a store holds.
 mod counting;
-pub mod held;
+pub mod inner;
 
 ghost use mathlib.Core.Path.{_≡_};
 ghost use Rattle.lengths.specs.LengthAnswers.{LengthsTrue};

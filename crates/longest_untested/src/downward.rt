@@ -13,7 +13,7 @@ use length_ranks::inner::ranks::rank_row;
 use length_rows::inner::row_sum;
 use length_search::inner::Search;
 use length_search::inner::next_untested;
-use lengths::held::held_row;
+use lengths::inner::held::held_row;
 use model::Refusal;
 use netlist::inner::Shape;
 

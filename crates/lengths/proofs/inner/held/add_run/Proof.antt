@@ -2,8 +2,8 @@
 -- Assumes nothing.
 use Rattle.lengths.proofs.HeldCases.{lower-ranked, run-under, run-room, run-added}
 use borrow.Author.Needs.{needs}
-use Rattle.lengths.proofs.held.add_run.Statement.{statement}
-use Rattle.lengths.proofs.held.add_run.Tie as tie
+use Rattle.lengths.proofs.inner.held.add_run.Statement.{statement}
+use Rattle.lengths.proofs.inner.held.add_run.Tie as tie
 
 rank-row-requires : tie.Need-rank-row-requires
 rank-row-requires c κs = search needs

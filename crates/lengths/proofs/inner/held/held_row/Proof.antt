@@ -2,8 +2,8 @@
 -- Assumes nothing.
 use Prim.Native.Nat.{_-_}
 use Rattle.lengths.proofs.HeldCases.{Added, held-cases, held-end}
-use Rattle.lengths.proofs.held.held_row.Statement.{statement}
-use Rattle.lengths.proofs.held.held_row.Tie as tie
+use Rattle.lengths.proofs.inner.held.held_row.Statement.{statement}
+use Rattle.lengths.proofs.inner.held.held_row.Tie as tie
 
 abbrev Inv-loop : tie.InvT-loop
 Inv-loop netlist positions counts rows shape words sums₀ runs i₀ sums i = Added netlist positions counts shape rows words sums runs i
