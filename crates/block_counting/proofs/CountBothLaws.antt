@@ -24,8 +24,8 @@ use Rattle.coverage.specs.Stage.{MemoryReady, BothMade, SomeBothMade, storeAfte
 use Rattle.coverage.specs.TestCall.{testedOf, returnedBy, TestedIs, Counting, SomeCounting}
 use Rattle.coverage.specs.declared.TestAnswer.{TestAnswer}
 use Rattle.coverage.specs.declared.TestAnswer.the-variants as test
-use Rattle.coverage.specs.declared.edges.BothAnswer.{BothAnswer}
-use Rattle.coverage.specs.declared.edges.BothAnswer.the-variants as both
+use Rattle.coverage.specs.declared.inner.edges.BothAnswer.{BothAnswer}
+use Rattle.coverage.specs.declared.inner.edges.BothAnswer.the-variants as both
 use Rattle.coverage.specs.declared.inner.StageAnswer.{StageAnswer}
 use Rattle.coverage.specs.declared.inner.StageAnswer.the-variants as stage
 use Rattle.coverage.proofs.EdgesLaws.{memory-sound}

@@ -22,7 +22,7 @@ use Rattle.coverage.specs.Both.{CoversBoth}
 use Rattle.coverage.specs.Stage.{MemoryReady, storeAfter, workStage}
 use Rattle.coverage.specs.TestCall.{returnedBy, TestedIs}
 use Rattle.coverage.specs.declared.TestAnswer.{TestAnswer}
-use Rattle.coverage.specs.declared.edges.BothAnswer.{BothAnswer}
+use Rattle.coverage.specs.declared.inner.edges.BothAnswer.{BothAnswer}
 use Rattle.coverage.proofs.EdgesLaws.{memory-sound, memory-few}
 use Rattle.coverage.proofs.WorkMemory.{stage-memory}
 use Rattle.block_marks.specs.declared.inner.Batch.{Batch}
@@ -31,7 +31,7 @@ use Rattle.block_counting.specs.Counts.{BothCounted, SomeBothCounted, to
 use Rattle.block_stage.specs.Listed.{edgesAt, ListedBoth, SomeListedBoth}
 use Rattle.block_stage.specs.BlockStage.{BlockReady, MemoryKept}
 use Rattle.block_counting.specs.declared.inner.AnswerWords.{AnswerWords}
-use Rattle.block_stage.specs.declared.listed.RecordEdges.{RecordEdges}
+use Rattle.block_stage.specs.declared.inner.listed.RecordEdges.{RecordEdges}
 use Rattle.block_stage.proofs.BlockSteps.{BlockIn, listOf, listed-here, block-begun}
 use Rattle.block_counting.proofs.CountBothLaws.{totals-next, says-of}
 

@@ -18,8 +18,8 @@ use Rattle.coverage.specs.Stage.{BothMade, workStage, storeAfter}
 use Rattle.coverage.specs.TestCall.{returnedBy}
 use Rattle.coverage.specs.declared.TestAnswer.{TestAnswer}
 use Rattle.coverage.specs.declared.TestAnswer.the-variants as test
-use Rattle.coverage.specs.declared.edges.BothAnswer.{BothAnswer}
-use Rattle.coverage.specs.declared.edges.BothAnswer.the-variants as both
+use Rattle.coverage.specs.declared.inner.edges.BothAnswer.{BothAnswer}
+use Rattle.coverage.specs.declared.inner.edges.BothAnswer.the-variants as both
 use Rattle.coverage.specs.declared.inner.StageAnswer.{StageAnswer}
 use Rattle.coverage.specs.declared.inner.StageAnswer.the-variants as stage
 use Rattle.block_counting.specs.declared.inner.AnswerWords.{AnswerWords}

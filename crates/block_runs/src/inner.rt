@@ -1,4 +1,7 @@
 // Each caller proves what a function requires.
+pub mod outputs;
+pub mod sections;
+
 ghost use mathlib.Core.Path.{_≡_};
 ghost use Prim.Native.Nat.{ℕ, _≤_};
 ghost use lib.ListN.{length};
@@ -6,12 +9,12 @@ ghost use Rattle.intervals.specs.Edges.{Case};
 ghost use Rattle.block_runs.specs.Spans.{InputSpans, ListedAt, SomeListedAt};
 ghost use Rattle.block_runs.specs.LiveOutputs.{SpansListed};
 ghost use Rattle.block_runs.specs.Layout.{spansSize};
+use crate::inner::sections::clear_sections;
 use crate::layout::ENDS_AT;
 use crate::layout::SHIFTS_AT;
 use crate::layout::SPANS_SIZE;
 use crate::nets::net_spans;
 use crate::nets::over_working;
-use crate::sections::clear_sections;
 use block::inner::layout::GATE_TABLE_SIZE;
 use block_marks::inner::layout::PLACE_TABLE_SIZE;
 use runs::inner::Added;

@@ -3,5 +3,3 @@
 pub mod inner;
 pub mod layout;
 mod nets;
-pub mod outputs;
-pub mod sections;

@@ -27,7 +27,7 @@ use Rattle.block_marks.specs.declared.inner.Batch.{Batch}
 use Rattle.block_runs.specs.Spans.{InputSpans}
 use Rattle.block_stage.specs.Listed.{edgesAt, ListedBoth, SomeListedBoth}
 use Rattle.block_stage.specs.BlockStage.{workAll, oneMoreTest, workTaken, BlockAt, BlockReady, BlockTaken, MemoryKept}
-use Rattle.block_stage.specs.declared.listed.RecordEdges.{RecordEdges}
+use Rattle.block_stage.specs.declared.inner.listed.RecordEdges.{RecordEdges}
 use Rattle.block.specs.Layout.{listSize}
 use Rattle.block_marks.specs.Layout.{upLengthsAt, downLengthsAt}
 

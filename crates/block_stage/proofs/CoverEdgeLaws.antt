@@ -27,8 +27,8 @@ use Rattle.store_writing.specs.declared.inner.Change.{Change}
 use Rattle.store_writing.specs.declared.inner.Change.the-variants.{Kept}
 use Rattle.intervals.specs.Edges.{Case, detected, working, Detects}
 use Rattle.coverage.specs.Covers.{thenRuns, heldRuns, JoinReady, Covers}
-use Rattle.coverage.specs.declared.edges.EdgeAnswer.{EdgeAnswer}
-use Rattle.coverage.specs.declared.edges.EdgeAnswer.the-variants.{Covered, OverWork}
+use Rattle.coverage.specs.declared.inner.edges.EdgeAnswer.{EdgeAnswer}
+use Rattle.coverage.specs.declared.inner.edges.EdgeAnswer.the-variants.{Covered, OverWork}
 use Rattle.coverage.proofs.CoverLaws.{runs-drop, rules-fit, found-few, found-sound, join-over}
 use Rattle.block_runs.specs.Spans.{Ascending, InputSpans, ListedAt, SomeListedAt}
 use Rattle.block_runs.specs.LiveOutputs.{runsOfOutputs, OutputsReady, SpansListed}

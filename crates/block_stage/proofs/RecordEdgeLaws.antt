@@ -19,8 +19,8 @@ use Rattle.intervals.specs.Edges.{Case}
 use Rattle.coverage.specs.Covers.{heldRuns, Covers}
 use Rattle.coverage.specs.Both.{caseOf, joined, CoversBoth}
 use Rattle.coverage.specs.Stage.{MemoryReady, BothMade, SomeBothMade, workStage, StageIs}
-use Rattle.coverage.specs.declared.edges.EdgeAnswer.{EdgeAnswer}
-use Rattle.coverage.specs.declared.edges.BothAnswer.{BothAnswer}
+use Rattle.coverage.specs.declared.inner.edges.EdgeAnswer.{EdgeAnswer}
+use Rattle.coverage.specs.declared.inner.edges.BothAnswer.{BothAnswer}
 use Rattle.coverage.specs.declared.inner.StageAnswer.{StageAnswer}
 use Rattle.coverage.proofs.WorkMemory.{stage-memory}
 use Rattle.coverage.proofs.BothLaws.{covers-both}
@@ -31,7 +31,7 @@ use Rattle.block_marks.specs.Marks.{ListedEdge}
 use Rattle.block_stage.specs.Covering.{EdgeReady, SomeEdgeReady}
 use Rattle.block_stage.specs.declared.covering.EdgeMarks.{EdgeMarks}
 use Rattle.block_stage.specs.Listed.{ListedBoth, SomeListedBoth}
-use Rattle.block_stage.specs.declared.listed.RecordEdges.{RecordEdges}
+use Rattle.block_stage.specs.declared.inner.listed.RecordEdges.{RecordEdges}
 use Rattle.block_runs.specs.Layout.{risingSections, fallingSections}
 
 -- the marks of each edge of a record

@@ -10,7 +10,7 @@ use Rattle.coverage.specs.Stage.{MemoryReady}
 use Rattle.block.specs.Table.{CircuitTable}
 use Rattle.block_marks.specs.Marks.{PlaceTable, ListedEdge}
 use Rattle.block_runs.specs.Spans.{InputSpans}
-use Rattle.block_stage.specs.declared.listed.RecordEdges.{RecordEdges}
+use Rattle.block_stage.specs.declared.inner.listed.RecordEdges.{RecordEdges}
 use Rattle.block_marks.specs.Layout.{upOutsAt, downOutsAt}
 
 -- record t of a block, from the words of its marks

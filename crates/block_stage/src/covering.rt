@@ -6,11 +6,11 @@ ghost use Rattle.block_stage.specs.Covering.{EdgeReady, SomeEdgeReady};
 use block::inner::layout::GATE_TABLE_SIZE;
 use block_marks::inner::layout::PLACE_TABLE_SIZE;
 use block_runs::inner::listed_spans;
+use block_runs::inner::outputs::out_runs;
+use block_runs::inner::sections::outputs_inside;
 use block_runs::layout::SPANS_SIZE;
-use block_runs::outputs::out_runs;
-use block_runs::sections::outputs_inside;
-use coverage::edges::EdgeAnswer;
-use coverage::edges::join_edge;
+use coverage::inner::edges::EdgeAnswer;
+use coverage::inner::edges::join_edge;
 use runs::inner::Added;
 use store_writing::inner::Change;
 

@@ -1,12 +1,15 @@
 // Each caller proves what a function requires.
+pub mod listed;
+pub mod spans;
+
 ghost use Prim.Native.Nat.{ℕ};
 ghost use Rattle.model.specs.Netlist.{Netlist};
 ghost use Rattle.model.specs.Detect.{Test};
 ghost use Rattle.coverage.specs.Stage.{MemoryReady};
 ghost use Rattle.block_stage.specs.BlockStage.{BlockAt, BlockReady, BlockTaken, MemoryKept};
-use crate::listed::apply_listed;
-use crate::listed::edges_at;
-use crate::spans::begin_spans;
+use crate::inner::listed::apply_listed;
+use crate::inner::listed::edges_at;
+use crate::inner::spans::begin_spans;
 use block::inner::layout::GATE_TABLE_SIZE;
 use block::inner::layout::LIST_SIZE;
 use block_marks::inner::Batch;

@@ -26,10 +26,10 @@ use Rattle.store_writing.proofs.EdgeWriteLaws.{length-replaced}
 use Rattle.intervals.specs.Edges.{Case, working}
 use Rattle.coverage.specs.Covers.{thenRuns, edgeOf, Covers}
 use Rattle.coverage.specs.Both.{caseOf, joined, bothOf, CoversBoth}
-use Rattle.coverage.specs.declared.edges.EdgeAnswer.{EdgeAnswer}
-use Rattle.coverage.specs.declared.edges.EdgeAnswer.the-variants.{Covered, OverWork, OverStore}
-use Rattle.coverage.specs.declared.edges.BothAnswer.{BothAnswer}
-use Rattle.coverage.specs.declared.edges.BothAnswer.the-variants.{Fits}
+use Rattle.coverage.specs.declared.inner.edges.EdgeAnswer.{EdgeAnswer}
+use Rattle.coverage.specs.declared.inner.edges.EdgeAnswer.the-variants.{Covered, OverWork, OverStore}
+use Rattle.coverage.specs.declared.inner.edges.BothAnswer.{BothAnswer}
+use Rattle.coverage.specs.declared.inner.edges.BothAnswer.the-variants.{Fits}
 
 -- an edge's answer by its two tests
 workFits : EdgeAnswer → Bool

@@ -32,8 +32,8 @@ use Rattle.store_writing.specs.declared.inner.Change.the-variants.{Kept}
 use Rattle.intervals.specs.Edges.{Case, detected, working, Detects}
 use Rattle.intervals.proofs.DetectedLaws.{few-detected}
 use Rattle.coverage.specs.Covers.{thenRuns, heldRuns, JoinReady, Covers}
-use Rattle.coverage.specs.declared.edges.EdgeAnswer.{EdgeAnswer}
-use Rattle.coverage.specs.declared.edges.EdgeAnswer.the-variants.{Covered, OverWork}
+use Rattle.coverage.specs.declared.inner.edges.EdgeAnswer.{EdgeAnswer}
+use Rattle.coverage.specs.declared.inner.edges.EdgeAnswer.the-variants.{Covered, OverWork}
 
 -- ---- words that are the same from a place on
 

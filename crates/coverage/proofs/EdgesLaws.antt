@@ -26,7 +26,7 @@ use Rattle.intervals.specs.Edges.{Case, Detects}
 use Rattle.coverage.specs.Covers.{heldRuns, JoinReady, Covers}
 use Rattle.coverage.specs.Both.{caseOf}
 use Rattle.coverage.specs.Stage.{MemoryReady, StageReady}
-use Rattle.coverage.specs.declared.edges.EdgeAnswer.{EdgeAnswer}
+use Rattle.coverage.specs.declared.inner.edges.EdgeAnswer.{EdgeAnswer}
 use Rattle.coverage.proofs.CoverLaws.{found-few, found-sound}
 
 -- a netlist is what its bytes are

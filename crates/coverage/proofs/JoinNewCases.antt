@@ -28,7 +28,7 @@ use Rattle.store_writing.specs.declared.inner.Change.the-variants.{Made}
 use Rattle.intervals.specs.Edges.{Case, Detects}
 use Rattle.place_runs.proofs.AddedLaws.{as-adds, adds-kept}
 use Rattle.coverage.specs.Covers.{thenRuns, heldRuns, JoinReady, Covers}
-use Rattle.coverage.specs.declared.edges.EdgeAnswer.the-variants.{Covered, OverStore}
+use Rattle.coverage.specs.declared.inner.edges.EdgeAnswer.the-variants.{Covered, OverStore}
 use Rattle.coverage.proofs.CoverLaws.{runs-drop, found-is, found-apart, then-is, rules-store, rules-fit}
 
 module _ {held ws₁ : List ℕ} {target found : ℕ} (h : JoinReady (Count found) held ws₁ target) (some : 1 ≤ found) where

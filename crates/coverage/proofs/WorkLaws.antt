@@ -26,8 +26,8 @@ use Rattle.store_writing.specs.declared.inner.Change.{Change}
 use Rattle.store_writing.proofs.EdgeWriteCases.{sound-has}
 use Rattle.coverage.specs.Both.{bothOf, CoversBoth}
 use Rattle.coverage.specs.Stage.{MemoryReady, BothMade, SomeBothMade, stageOf, refusedAfter, storeAfter, workStage, StageIs}
-use Rattle.coverage.specs.declared.edges.BothAnswer.{BothAnswer}
-use Rattle.coverage.specs.declared.edges.BothAnswer.the-variants.{Fits, WorkOver, StoreOver}
+use Rattle.coverage.specs.declared.inner.edges.BothAnswer.{BothAnswer}
+use Rattle.coverage.specs.declared.inner.edges.BothAnswer.the-variants.{Fits, WorkOver, StoreOver}
 use Rattle.coverage.specs.declared.inner.StageAnswer.{StageAnswer}
 use Rattle.coverage.specs.declared.inner.StageAnswer.the-variants.{Taken, Refused}
 use Rattle.coverage.proofs.WorkMemory.{then-few}

@@ -13,10 +13,10 @@ use Rattle.model.specs.Calls.{runsThen, workRules}
 use Rattle.store_writing.specs.Writing.{changed, Within}
 use Rattle.store_writing.specs.declared.inner.Change.{Change}
 use Rattle.intervals.specs.Edges.{Case}
-use Rattle.coverage.specs.declared.edges.EdgeAnswer.{EdgeAnswer}
-use Rattle.coverage.specs.declared.edges.EdgeAnswer.the-variants.{Covered, OverWork, OverStore}
-use Rattle.coverage.specs.declared.edges.BothAnswer.{BothAnswer}
-use Rattle.coverage.specs.declared.edges.BothAnswer.the-variants.{Fits, WorkOver, StoreOver}
+use Rattle.coverage.specs.declared.inner.edges.EdgeAnswer.{EdgeAnswer}
+use Rattle.coverage.specs.declared.inner.edges.EdgeAnswer.the-variants.{Covered, OverWork, OverStore}
+use Rattle.coverage.specs.declared.inner.edges.BothAnswer.{BothAnswer}
+use Rattle.coverage.specs.declared.inner.edges.BothAnswer.the-variants.{Fits, WorkOver, StoreOver}
 
 abbrev pub caseOf : Netlist → Test → Edge → Case
 caseOf N t e = record { netlist = N; test = t; edge = e }

@@ -17,8 +17,8 @@ use Rattle.runs.specs.declared.inner.Added.the-variants.{Count}
 use Rattle.store_writing.specs.Writing.{changed, Within}
 use Rattle.store_writing.specs.declared.inner.Change.{Change}
 use Rattle.intervals.specs.Edges.{Case, working}
-use Rattle.coverage.specs.declared.edges.EdgeAnswer.{EdgeAnswer}
-use Rattle.coverage.specs.declared.edges.EdgeAnswer.the-variants.{Covered, OverWork, OverStore}
+use Rattle.coverage.specs.declared.inner.edges.EdgeAnswer.{EdgeAnswer}
+use Rattle.coverage.specs.declared.inner.edges.EdgeAnswer.the-variants.{Covered, OverWork, OverStore}
 
 -- the runs of an edge after the test, where the store holds the runs `s`
 unfoldable pub thenRuns : Case → List Run → List Run

@@ -15,7 +15,7 @@ use Rattle.model.specs.declared.Refusal.{Refusal}
 use Rattle.netlist.specs.Tables.{CircuitTables}
 use Rattle.netlist.specs.declared.inner.Shape.{Shape}
 use Rattle.coverage.specs.Both.{CoversBoth}
-use Rattle.coverage.specs.declared.edges.BothAnswer.{BothAnswer}
+use Rattle.coverage.specs.declared.inner.edges.BothAnswer.{BothAnswer}
 use Rattle.coverage.specs.declared.inner.StageAnswer.{StageAnswer}
 use Rattle.coverage.specs.declared.inner.StageAnswer.the-variants as stage
 

@@ -1,4 +1,6 @@
 // The place Work once the runs of both edges are made, with 86 before it, and the faults that it finds new. Each caller proves what a function requires.
+pub mod edges;
+
 ghost use mathlib.Core.Path.{_≡_};
 ghost use mathlib.Core.List.{List};
 ghost use Prim.Native.Nat.{ℕ};
@@ -11,9 +13,9 @@ ghost use Rattle.model.specs.Calls.{Tested};
 ghost use Rattle.coverage.specs.Stage.{BothMade, SomeBothMade, stageOf, refusedAfter, workStage, StageIs};
 ghost use Rattle.coverage.specs.TestCall.{TestedIs, Counting, SomeCounting};
 use crate::TestAnswer;
-use crate::edges::BothAnswer;
-use crate::edges::FALLING_UNION;
-use crate::edges::RISING_UNION;
+use crate::inner::edges::BothAnswer;
+use crate::inner::edges::FALLING_UNION;
+use crate::inner::edges::RISING_UNION;
 use faults::Edge;
 use model::Refusal;
 use store_words::inner::StoreTotals;

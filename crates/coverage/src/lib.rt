@@ -1,5 +1,4 @@
 // What a test adds to a store: the detected runs of each edge joined to the store's, both edges written, the faults counted.
-pub mod edges;
 pub mod inner;
 
 use model::Refusal;

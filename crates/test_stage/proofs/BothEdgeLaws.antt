@@ -20,8 +20,8 @@ use Rattle.intervals.specs.Edges.{Case, EdgeAt, SomeEdgeAt, Detects}
 use Rattle.coverage.specs.Covers.{heldRuns, JoinReady, Covers}
 use Rattle.coverage.specs.Both.{caseOf, joined, CoversBoth}
 use Rattle.coverage.specs.Stage.{BothMade, SomeBothMade, workStage, StageIs}
-use Rattle.coverage.specs.declared.edges.EdgeAnswer.{EdgeAnswer}
-use Rattle.coverage.specs.declared.edges.BothAnswer.{BothAnswer}
+use Rattle.coverage.specs.declared.inner.edges.EdgeAnswer.{EdgeAnswer}
+use Rattle.coverage.specs.declared.inner.edges.BothAnswer.{BothAnswer}
 use Rattle.coverage.specs.declared.inner.StageAnswer.{StageAnswer}
 use Rattle.coverage.proofs.BothLaws.{covers-both}
 use Rattle.coverage.proofs.EdgesLaws.{same-memory, memory-few, ready-to-join, edge-covered}
