@@ -15,6 +15,7 @@ use Rattle.model.specs.Read.{classOf}
 use Rattle.netlist.specs.declared.inner.Shape.{Shape}
 use Rattle.block.specs.Words.{WordIs, wordsAt, GateIs}
 use Rattle.block.specs.Table.{CircuitTable, SomeTable}
+use Rattle.detection.specs.Cases.{caseOf}
 use Rattle.block.specs.Block.{liveNet, evaluated, BlockOf}
 use Rattle.block.specs.Lists.{liveEntries, entryOf, ListRoom, EmptyLists, ListsTrue, Pushed}
 use Rattle.block.specs.NetStates.{LooksAre, ActiveBoth, StateIs, NetPut, StatesKept, NetsStated, GatesListed}
@@ -57,7 +58,7 @@ empty-listed {N} {tests} {e} {inputs = inputs} {list} few q m =
     let z : inputs - N .inputs ≡ 0 = omega arith in
     record {
       lists = λ t h.
-          ap (λ k. wordsAt list (numbersFrom (listSize * t) k)) (m .empty t (omega arith)) ∙ ap (λ k. liveEntries N (tests t) e k) (sym z);
+          ap (λ k. wordsAt list (numbersFrom (listSize * t) k)) (m .empty t (omega arith)) ∙ ap (λ k. liveEntries (caseOf N (tests t) e) k) (sym z);
     }
 
 -- all gates are listed after the last
@@ -65,7 +66,7 @@ all-listed : {N : Netlist} {tests : ℕ → Test} {e : Edge} {n net : ℕ} {list
     → ListsTrue N tests e n list lens
 all-listed {N} {tests} {e} {net = net} q x =
     let z : net - N .inputs ≡ length (N .gates) = omega arith in
-    record { lists = λ t h. x .lists t h ∙ ap (λ k. liveEntries N (tests t) e k) z }
+    record { lists = λ t h. x .lists t h ∙ ap (λ k. liveEntries (caseOf N (tests t) e) k) z }
 
 -- the nets before `net` are done
 pub record Listing (table : List ℕ) (shape : Shape) (class : ℕ) (words₀ words ups₀ ups upLens downs₀ downs downLens : List ℕ) (net : ℕ) : Type 0 where
@@ -132,11 +133,11 @@ module _ {table : List ℕ} {shape : Shape} (s : SomeTable table (shape .inputs)
                 };
               };
               rises = record {
-                words = plane-more p net-low 3 (omega arith) (p .rises ∙ v .rises) (λ j q. WordIs q (λ u. liveNet N (tests u) rising j) n)
+                words = plane-more p net-low 3 (omega arith) (p .rises ∙ v .rises) (λ j q. WordIs q (λ u. liveNet (caseOf N (tests u) rising) j) n)
                     (live-true w low high row i opened (y .rises) (a .rises)) (y .rises .words);
               };
               falls = record {
-                words = plane-more p net-low 4 (omega arith) (p .falls ∙ v .falls) (λ j q. WordIs q (λ u. liveNet N (tests u) falling j) n)
+                words = plane-more p net-low 4 (omega arith) (p .falls ∙ v .falls) (λ j q. WordIs q (λ u. liveNet (caseOf N (tests u) falling) j) n)
                     (live-true w low high row i opened (y .falls) (a .falls)) (y .falls .words);
               };
             }

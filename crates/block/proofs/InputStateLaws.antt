@@ -14,6 +14,7 @@ use Rattle.model.specs.Detect.{Test, Evaluation, inputEvaluation, hasEdge}
 use Rattle.model.proofs.NetLaws.{evaluate-input}
 use Rattle.block.specs.Words.{WordIs}
 use Rattle.block.specs.Table.{CircuitTable}
+use Rattle.detection.specs.Cases.{caseOf}
 use Rattle.block.specs.Block.{InputBits, evaluated, liveNet}
 use Rattle.block.specs.NetStates.{plane, InputWords, NetsStated}
 use Rattle.block.proofs.PlaneLaws.{plane-at}
@@ -42,17 +43,17 @@ module _ {N : Netlist} {tests : ℕ → Test} {n netCount inputs : ℕ} {table f
       ap (λ w. bit w t) (plane-at 2 j after (input-low j h)) ∙ x .steady j h t (omega arith) ∙ ap₂ Bool·beq (b .first j t h l) (b .last j t h l)
       ∙ sym (ap (λ (e : Evaluation). e .steady) (input-is t j h))
 
-  rises-right : (j : ℕ) → j < inputs → WordIs (getD (plane 3 after) j 0) (λ t. liveNet N (tests t) rising j) n
+  rises-right : (j : ℕ) → j < inputs → WordIs (getD (plane 3 after) j 0) (λ t. liveNet (caseOf N (tests t) rising) j) n
   unfolding hasEdge
   rises-right j h t l =
       ap (λ w. bit w t) (plane-at 3 j after (input-low j h)) ∙ x .rises j h t l ∙ ap₂ (λ y z. not y && z) (b .first j t h l) (b .last j t h l)
-      ∙ sym (live-input N (well c) (tests t) rising j (omega (arith, c .inputsAre)))
+      ∙ sym (live-input (caseOf N (tests t) rising) (well c) j (omega (arith, c .inputsAre)))
 
-  falls-right : (j : ℕ) → j < inputs → WordIs (getD (plane 4 after) j 0) (λ t. liveNet N (tests t) falling j) n
+  falls-right : (j : ℕ) → j < inputs → WordIs (getD (plane 4 after) j 0) (λ t. liveNet (caseOf N (tests t) falling) j) n
   unfolding hasEdge
   falls-right j h t l =
       ap (λ w. bit w t) (plane-at 4 j after (input-low j h)) ∙ x .falls j h t l ∙ and-comm (not (bit (getD lasts j 0) t)) (bit (getD firsts j 0) t)
-      ∙ ap₂ (λ y z. y && not z) (b .first j t h l) (b .last j t h l) ∙ sym (live-input N (well c) (tests t) falling j (omega (arith, c .inputsAre)))
+      ∙ ap₂ (λ y z. y && not z) (b .first j t h l) (b .last j t h l) ∙ sym (live-input (caseOf N (tests t) falling) (well c) j (omega (arith, c .inputsAre)))
 
   pub inputs-stated : NetsStated N tests n inputs after
   inputs-stated = record {

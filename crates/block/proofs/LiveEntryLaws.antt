@@ -14,6 +14,7 @@ use Rattle.model.proofs.WellFormed.{WellFormed}
 use Rattle.model.proofs.ListLaws.{any-map}
 use Rattle.block.specs.Words.{WordIs, bitsAt, wordsAt, firstWords, GateIs}
 use Rattle.block.specs.Table.{GateRow}
+use Rattle.detection.specs.Cases.{Case, caseOf}
 use Rattle.block.specs.Block.{liveNet, activePin, LiveWords}
 use Rattle.packed_pins.specs.Packed.{packBits}
 use Rattle.block.specs.Lists.{keepIf, keep, gateEntry, liveEntries, entries, pushIf, entryOf, Pushed}
@@ -43,12 +44,12 @@ keep-more g f (x ∷ xs) y = two (f x) (f y) (keep f (xs ++ (y ∷ []))) (keep-m
     two true false zs e = ap (λ (l : List ℕ). g x ∷ l) e
     two false b zs e = e
 
-entries-more : (N : Netlist) (t : Test) (e : Edge) (m : ℕ)
-    → liveEntries N t e (m + 1) ≡ pushIf (liveNet N t e (N .inputs + m)) (gateEntry N t e (N .inputs + m)) (liveEntries N t e m)
+entries-more : (K : Case) (m : ℕ)
+    → liveEntries K (m + 1) ≡ pushIf (liveNet K (K .netlist .inputs + m)) (gateEntry K (K .netlist .inputs + m)) (liveEntries K m)
 unfolding liveEntries
-entries-more N t e m =
-    ap (λ ns. map (gateEntry N t e) (keep (liveNet N t e) ns)) (numbers-more m (N .inputs))
-    ∙ keep-more (gateEntry N t e) (liveNet N t e) (numbersFrom (N .inputs) m) (N .inputs + m)
+entries-more K m =
+    let first = K .netlist .inputs in
+    ap (λ ns. map (gateEntry K) (keep (liveNet K) ns)) (numbers-more m first) ∙ keep-more (gateEntry K) (liveNet K) (numbersFrom first m) (first + m)
 
 -- a row of words, bit t of each
 row-bits : (rows : List ℕ) (g : ℕ → Bool) (t m k : ℕ) → ((p : ℕ) → k ≤ p → p < k + m → bit (getD rows p 0) t ≡ g p)
@@ -59,31 +60,31 @@ row-bits rows g t (suc m) k h =
 
 -- the list of each record has its live gates before `net`
 pub record ListedTo (N : Netlist) (tests : ℕ → Test) (e : Edge) (n net : ℕ) (list lens : List ℕ) : Type 0 where
-  pub lists : (t : ℕ) → t < n → entries list lens t ≡ liveEntries N (tests t) e (net - N .inputs)
+  pub lists : (t : ℕ) → t < n → entries list lens t ≡ liveEntries (caseOf N (tests t) e) (net - N .inputs)
 
 -- the gate of `net`, from the open words of its pins and the live words of the nets before
 module _ {N : Netlist} {table : List ℕ} {net : ℕ} {g : Gate} (w : WellFormed N) (low : N .inputs ≤ net) (high : net < nets N) (r : GateRow N table net)
     (i : GateIs table net g) {tests : ℕ → Test} {e : Edge} {n : ℕ} {opens : ℕ → ℕ}
     (o : (p : ℕ) → p < length (pinsOf N net) → WordIs (opens p) (λ t. openPin N (tests t) net p) n) {live : List ℕ} (x : LiveWords N tests e n net live)
     {rows : List ℕ} {word : ℕ} (a : EdgeActive table g opens live rows word) where
-  pin-bit : (t : ℕ) → t < n → (p : ℕ) → p < length (pinsOf N net) → bit (getD rows p 0) t ≡ activePin N (tests t) e net p
+  pin-bit : (t : ℕ) → t < n → (p : ℕ) → p < length (pinsOf N net) → bit (getD rows p 0) t ≡ activePin (caseOf N (tests t) e) net p
   unfolding activePin
   pin-bit t h p l =
       a .each p (omega (arith, count-is w low high r i)) t
       ∙ ap₂ (λ y z. y && z) (o p l t h)
       (ap (λ q. bit (getD live q 0) t) (pin-is w low high r i p l) ∙ x .words (pinNet N net p) (lower w low high r i p l) t h)
 
-  active-row : (t : ℕ) → t < n → bitsAt (firstWords rows (g .pins)) t ≡ map (activePin N (tests t) e net) (numbersFrom 0 (length (pinsOf N net)))
+  active-row : (t : ℕ) → t < n → bitsAt (firstWords rows (g .pins)) t ≡ map (activePin (caseOf N (tests t) e) net) (numbersFrom 0 (length (pinsOf N net)))
   active-row t h =
       ap (λ m. bitsAt (firstWords rows m) t) (count-is w low high r i)
-      ∙ row-bits rows (activePin N (tests t) e net) t (length (pinsOf N net)) 0 (λ p l m. pin-bit t h p (omega arith))
+      ∙ row-bits rows (activePin (caseOf N (tests t) e) net) t (length (pinsOf N net)) 0 (λ p l m. pin-bit t h p (omega arith))
 
-  pub live-true : WordIs word (λ t. liveNet N (tests t) e net) n
+  pub live-true : WordIs word (λ t. liveNet (caseOf N (tests t) e) net) n
   live-true t h =
       a .some t ∙ ap (λ (vs : List Bool). anyOf (λ v. v) vs) (active-row t h)
-      ∙ sym (any-map (λ v. v) (activePin N (tests t) e net) (numbersFrom 0 (length (pinsOf N net)))) ∙ sym (live-gate N w (tests t) e net low high)
+      ∙ sym (any-map (λ v. v) (activePin (caseOf N (tests t) e) net) (numbersFrom 0 (length (pinsOf N net)))) ∙ sym (live-gate (caseOf N (tests t) e) w net low high)
 
-  entry-true : (t : ℕ) → t < n → entryOf net rows (g .pins) t ≡ gateEntry N (tests t) e net
+  entry-true : (t : ℕ) → t < n → entryOf net rows (g .pins) t ≡ gateEntry (caseOf N (tests t) e) net
   unfolding gateEntry
   entry-true t h = ap (λ (vs : List Bool). 256 * net + packBits vs) (active-row t h)
 
@@ -95,7 +96,7 @@ module _ {N : Netlist} {table : List ℕ} {net : ℕ} {g : Gate} (w : WellFormed
       record {
         lists = λ t h.
             p .lists t (omega arith) ∙ ap (λ v. pushIf (bit word t) v (entries list lens t)) (entry-true t h)
-            ∙ ap₂ (λ v (u : List ℕ). pushIf v (gateEntry N (tests t) e net) u) (live-true t h) (y .lists t h)
-            ∙ ap (λ j. pushIf (liveNet N (tests t) e j) (gateEntry N (tests t) e j) (liveEntries N (tests t) e (net - N .inputs))) (sym k)
-            ∙ sym (entries-more N (tests t) e (net - N .inputs)) ∙ ap (λ j. liveEntries N (tests t) e j) (sym m);
+            ∙ ap₂ (λ v (u : List ℕ). pushIf v (gateEntry (caseOf N (tests t) e) net) u) (live-true t h) (y .lists t h)
+            ∙ ap (λ j. pushIf (liveNet (caseOf N (tests t) e) j) (gateEntry (caseOf N (tests t) e) j) (liveEntries (caseOf N (tests t) e) (net - N .inputs))) (sym k)
+            ∙ sym (entries-more (caseOf N (tests t) e) (net - N .inputs)) ∙ ap (λ j. liveEntries (caseOf N (tests t) e) j) (sym m);
       }

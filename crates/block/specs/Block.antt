@@ -8,16 +8,17 @@ use lib.ListN.{getD}
 use Rattle.model.specs.Base.{anyOf, bit, numbersFrom}
 use Rattle.model.specs.Netlist.{Netlist, counts, pinNet}
 use Rattle.model.specs.Path.{Edge}
-use Rattle.model.specs.Detect.{Class, Test, Evaluation, noEvaluation, evaluate, openPin, inNetSet}
+use Rattle.model.specs.Detect.{Class, Test, Evaluation, noEvaluation, evaluate}
+use Rattle.detection.specs.Cases.{Case, caseOf, inSet}
 use Rattle.block.specs.Words.{WordIs}
 
--- A net is live for an edge when its set is not empty
-unfoldable pub liveNet : Netlist → Test → Edge → ℕ → Bool
-liveNet N t e net = anyOf (inNetSet N t e net) (numbersFrom 1 (getD (counts N) net 0))
+-- A net is live when its set is not empty
+unfoldable pub liveNet : Case → ℕ → Bool
+liveNet K net = anyOf (inSet K net) (numbersFrom 1 (getD (counts (K .netlist)) net 0))
 
 -- A pin is active when it is open and its net is live
-unfoldable pub activePin : Netlist → Test → Edge → ℕ → ℕ → Bool
-activePin N t e net p = openPin N t net p && liveNet N t e (pinNet N net p)
+unfoldable pub activePin : Case → ℕ → ℕ → Bool
+activePin K net p = K .isOpen net p && liveNet K (pinNet (K .netlist) net p)
 
 -- the first n tests are of the class
 pub record BlockOf (tests : ℕ → Test) (c : Class) (n : ℕ) : Type 0 where
@@ -45,4 +46,4 @@ pub record StateWords (N : Netlist) (tests : ℕ → Test) (n top : ℕ) (firsts
 
 -- the live words of the nets below `top`, for an edge
 pub record LiveWords (N : Netlist) (tests : ℕ → Test) (e : Edge) (n top : ℕ) (array : List ℕ) : Type 0 where
-  pub words : (net : ℕ) → net < top → WordIs (getD array net 0) (λ t. liveNet N (tests t) e net) n
+  pub words : (net : ℕ) → net < top → WordIs (getD array net 0) (λ t. liveNet (caseOf N (tests t) e) net) n

@@ -9,6 +9,7 @@ use Rattle.model.specs.Base.{numbersFrom}
 use Rattle.model.specs.Netlist.{Netlist, pinsOf}
 use Rattle.model.specs.Path.{Edge}
 use Rattle.model.specs.Detect.{Test}
+use Rattle.detection.specs.Cases.{Case, caseOf}
 use Rattle.packed_pins.specs.Packed.{oneWhere, packBits}
 use Rattle.block.specs.Words.{wordsAt, bitsAt, firstWords}
 use Rattle.block.specs.Block.{liveNet, activePin}
@@ -24,12 +25,12 @@ keep f [] = []
 keep f (x ∷ xs) = keepIf (f x) x (keep f xs)
 
 -- a gate's entry: its net, and the byte of its active pins
-unfoldable pub gateEntry : Netlist → Test → Edge → ℕ → ℕ
-gateEntry N t e net = 256 * net + packBits (map (activePin N t e net) (numbersFrom 0 (length (pinsOf N net))))
+unfoldable pub gateEntry : Case → ℕ → ℕ
+gateEntry K net = 256 * net + packBits (map (activePin K net) (numbersFrom 0 (length (pinsOf (K .netlist) net))))
 
 -- the entries of the live ones of the first m gates, ascending
-unfoldable pub liveEntries : Netlist → Test → Edge → ℕ → List ℕ
-liveEntries N t e m = map (gateEntry N t e) (keep (liveNet N t e) (numbersFrom (N .inputs) m))
+unfoldable pub liveEntries : Case → ℕ → List ℕ
+liveEntries K m = map (gateEntry K) (keep (liveNet K) (numbersFrom (K .netlist .inputs) m))
 
 -- the list of record t
 abbrev pub entries : List ℕ → List ℕ → ℕ → List ℕ
@@ -37,7 +38,7 @@ entries list lens t = wordsAt list (numbersFrom (listSize * t) (getD lens t 0))
 
 -- the list of each record is that of its live gates
 pub record ListsTrue (N : Netlist) (tests : ℕ → Test) (e : Edge) (n : ℕ) (list lens : List ℕ) : Type 0 where
-  pub lists : (t : ℕ) → t < n → entries list lens t ≡ liveEntries N (tests t) e (length (N .gates))
+  pub lists : (t : ℕ) → t < n → entries list lens t ≡ liveEntries (caseOf N (tests t) e) (length (N .gates))
 
 -- room for 64 lists, and for one entry more in each
 pub record ListRoom (list lens : List ℕ) : Type 0 where

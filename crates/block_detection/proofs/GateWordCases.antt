@@ -13,6 +13,7 @@ use Rattle.model.specs.Read.{classOf}
 use Rattle.netlist.specs.declared.inner.Shape.{Shape}
 use Rattle.block.specs.Words.{WordIs, GateIs}
 use Rattle.block.specs.Table.{CircuitTable, SomeTable}
+use Rattle.detection.specs.Cases.{caseOf}
 use Rattle.block.specs.Block.{liveNet, evaluated, BlockOf}
 use Rattle.block.specs.NetStates.{LooksAre, ActiveBoth, StateIs, NetPut, StatesKept, NetsStated}
 use Rattle.block.specs.declared.inner.gates.Gate.{Gate}
@@ -76,11 +77,11 @@ module _ {table : List ℕ} {shape : Shape} (s : SomeTable table (shape .inputs)
                 };
               };
               rises = record {
-                words = plane-more p net-low 3 (omega arith) (p .rises ∙ v .rises) (λ j q. WordIs q (λ u. liveNet N (tests u) rising j) n)
+                words = plane-more p net-low 3 (omega arith) (p .rises ∙ v .rises) (λ j q. WordIs q (λ u. liveNet (caseOf N (tests u) rising) j) n)
                     (live-true w low high row i opened (y .rises) (a .rises)) (y .rises .words);
               };
               falls = record {
-                words = plane-more p net-low 4 (omega arith) (p .falls ∙ v .falls) (λ j q. WordIs q (λ u. liveNet N (tests u) falling j) n)
+                words = plane-more p net-low 4 (omega arith) (p .falls ∙ v .falls) (λ j q. WordIs q (λ u. liveNet (caseOf N (tests u) falling) j) n)
                     (live-true w low high row i opened (y .falls) (a .falls)) (y .falls .words);
               };
             }

@@ -16,7 +16,6 @@ use Rattle.model.specs.Detect.{Test, allOpen, openPin, hasEdge, inNetSet}
 use Rattle.model.specs.Read.{classOf}
 use Rattle.model.proofs.AnswerLaws.{value-inj}
 use Rattle.model.proofs.ListLaws.{any-of}
-use Rattle.model.proofs.NetSetLaws.{set-input}
 use Rattle.model.proofs.ReadLaws.{legal}
 use Rattle.model.proofs.WellFormed.{WellFormed}
 use Rattle.records.proofs.BitLaws.{and-bit}
@@ -29,6 +28,9 @@ use Rattle.path_picks.proofs.PinStepCases.{step-pins, step-number}
 use Rattle.paths.proofs.DescentCases.{pin-is, number-is, one, net-is, below, pick-low-number, pick-high-number}
 use Rattle.paths.proofs.PartialLaws.{path-step}
 use Rattle.block.specs.Words.{WordIs}
+use Rattle.detection.specs.Cases.{caseOf, inSet}
+use Rattle.detection.proofs.TestCaseLaws.{case-set}
+use Rattle.detection.proofs.SetLaws.{set-input}
 use Rattle.block.specs.Block.{BlockOf, liveNet, activePin}
 use Rattle.block.specs.NetStates.{plane, NetsStated}
 use Rattle.block.proofs.LiveLaws.{live-input}
@@ -143,8 +145,8 @@ module _ {file ps cs : List ℕ} {shape : Shape} {table words : List ℕ} {class
           next-small = pick-high-number file ps cs shape at rest (d .high) low (d .some) (d .small) part ep p e known-tables
 
           -- where the rest of the path is open its net is live
-          live-there : (x : Test) (g : Edge) → T (inNetSet N x g (p .net) (p .number)) → T (liveNet N x g (p .net))
-          unfolding liveNet
+          live-there : (x : Test) (g : Edge) → T (inNetSet N x g (p .net) (p .number)) → T (liveNet (caseOf N x g) (p .net))
+          unfolding liveNet inSet inNetSet
           live-there x g =
               any-of (inNetSet N x g (p .net)) (getD (counts N) (p .net) 0) 1 (p .number) next-some
               (omega (arith, next-small, count-at t (p .net) next-high))
@@ -162,13 +164,13 @@ module _ {file ps cs : List ℕ} {shape : Shape} {table words : List ℕ} {class
                   let o : Bool = openPin N (tests u) at (p .pin) in
                   let s : Bool = inNetSet N (tests u) (modelEdge edge) (p .net) (p .number) in
                   let bits : bit (bitAnd word active) u
-                  ≡ (bit word u && (openPin N (tests u) at (p .pin) && liveNet N (tests u) (modelEdge edge) (p .net))) =
+                  ≡ (bit word u && (openPin N (tests u) at (p .pin) && liveNet (caseOf N (tests u) (modelEdge edge)) (p .net))) =
                   and-bit word active u
                   ∙ ap (λ v. bit word u && v)
                   (a .right N tests n (d .begun .gates) b y isPin u h
-                  ∙ ap (λ k. openPin N (tests u) at (p .pin) && liveNet N (tests u) (modelEdge edge) k) (sym there)) in
+                  ∙ ap (λ k. openPin N (tests u) at (p .pin) && liveNet (caseOf N (tests u) (modelEdge edge)) k) (sym there)) in
                   ap (λ v. v && inNetSet N (tests u) (modelEdge edge) (p .net) (p .number)) bits
-                  ∙ absorb (bit word u) (openPin N (tests u) at (p .pin)) (liveNet N (tests u) (modelEdge edge) (p .net))
+                  ∙ absorb (bit word u) (openPin N (tests u) at (p .pin)) (liveNet (caseOf N (tests u) (modelEdge edge)) (p .net))
                   (inNetSet N (tests u) (modelEdge edge) (p .net) (p .number)) (live-there (tests u) (modelEdge edge))
                   ∙ ap (λ v. bit word u && v) (sym (step (tests u) (modelEdge edge)))
                   ∙ d .whole tests n b y u h;
@@ -186,8 +188,8 @@ module _ {file ps cs : List ℕ} {shape : Shape} {table words : List ℕ} {class
             let is-live : bit live v ≡ inNetSet N (tests v) (modelEdge edge) at rest =
             ap (λ k. bit k v) (el ∙ sym (plane-at (liveAt (modelEdge edge)) at words walk-few))
             ∙ live-of z (modelEdge edge) .words at (d .high) v h
-            ∙ live-input N w (tests v) (modelEdge edge) at i
-            ∙ sym (set-input N w (tests v) (modelEdge edge) at rest i) in
+            ∙ live-input (caseOf N (tests v) (modelEdge edge)) w at i
+            ∙ sym (set-input (caseOf N (tests v) (modelEdge edge)) w at rest i) ∙ case-set N (tests v) (modelEdge edge) at rest in
             and-bit word live v ∙ ap (λ x. bit word v && x) is-live ∙ d .whole tests n b z v h
             ∙ ap (λ (K : Netlist). inNetSet K (tests v) (modelEdge edge) net number) (sym same);
       }

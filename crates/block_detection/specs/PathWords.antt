@@ -13,6 +13,7 @@ use Rattle.netlist.specs.declared.inner.Shape.{Shape}
 use Rattle.paths.specs.Tasks.{Wanted}
 use Rattle.block.specs.Words.{WordIs}
 use Rattle.block.specs.Table.{CircuitTable, SomeTable}
+use Rattle.detection.specs.Cases.{caseOf}
 use Rattle.block.specs.Block.{BlockOf, activePin}
 use Rattle.block.specs.NetStates.{NetsStated, StatesKept}
 use Rattle.block.specs.Layout.{netsSize}
@@ -34,7 +35,7 @@ pub record PinThere (table words : List ℕ) (shape : Shape) (net pin : ℕ) : T
 -- the active word of a pin: in every netlist whose table it is, for every block of tests of the class
 pub record ActiveWord (table words : List ℕ) (shape : Shape) (class : ℕ) (e : Edge) (net pin r : ℕ) : Type 0 where
   pub right : (N : Netlist) (tests : ℕ → Test) (n : ℕ) → CircuitTable N table (shape .inputs) (shape .nets) → BlockOf tests (classOf class) n
-      → NetsStated N tests n (shape .nets) words → pin < length (pinsOf N net) → WordIs r (λ t. activePin N (tests t) e net pin) n
+      → NetsStated N tests n (shape .nets) words → pin < length (pinsOf N net) → WordIs r (λ t. activePin (caseOf N (tests t) e) net pin) n
 
 -- the tables of a netlist for paths and for blocks, and a number of a partial path of a net
 pub record WalkReady (file positions counts : List ℕ) (shape : Shape) (table words : List ℕ) (net number : ℕ) : Type 0 where

@@ -18,6 +18,7 @@ use Rattle.model.proofs.BoolLaws.{lt-false, le-or-lt}
 use Rattle.model.proofs.NumberLaws.{output-net}
 use Rattle.model.proofs.ListLaws.{zeros-at}
 use Rattle.block.specs.Words.{wordsAt}
+use Rattle.detection.specs.Cases.{caseOf}
 use Rattle.block.specs.Block.{InputBits, LiveWords, liveNet}
 use Rattle.block.specs.Lists.{EmptyLists, ListsTrue}
 use Rattle.block.specs.Table.{CircuitTable}
@@ -51,15 +52,15 @@ module _ {N : Netlist} {table places : List ℕ} {inputs netCount outputs : ℕ}
     (q : length (N .outputs) ≡ outputs) {tests : ℕ → Test} {e : Edge} {n : ℕ} (few : n ≤ 64) {live outs : List ℕ} (x : LiveWords N tests e n netCount live)
     (a : OutsAre places inputs outputs live outs) where
   shown : (t o : ℕ) → t < n → o < outputs
-      → (leb inputs (outAt places o) && bit (getD live (outAt places o) 0) t) ≡ (leb (N .inputs) (outputNet N o) && liveNet N (tests t) e (outputNet N o))
+      → (leb inputs (outAt places o) && bit (getD live (outAt places o) 0) t) ≡ (leb (N .inputs) (outputNet N o) && liveNet (caseOf N (tests t) e) (outputNet N o))
   shown t o h l =
       let k : o < length (N .outputs) = omega arith in
       ap₂ (λ i m. leb i m && bit (getD live m 0) t) (c .inputsAre) (p .outNet o k)
       ∙ ap (λ b. leb (N .inputs) (outputNet N o) && b) (x .words (outputNet N o) (omega (arith, c .netsAre, output-net N (well c) o k)) t h)
 
-  outs-true : (t : ℕ) → t < n → (o : ℕ) → o < 64 → bit (getD outs t 0) o ≡ liveOutput N (tests t) e o
+  outs-true : (t : ℕ) → t < n → (o : ℕ) → o < 64 → bit (getD outs t 0) o ≡ liveOutput (caseOf N (tests t) e) o
   outs-true t h o l =
-      let rest = leb (N .inputs) (outputNet N o) && liveNet N (tests t) e (outputNet N o) in
+      let rest = leb (N .inputs) (outputNet N o) && liveNet (caseOf N (tests t) e) (outputNet N o) in
       let here = leb inputs (outAt places o) && bit (getD live (outAt places o) 0) t in
       a .bits t o (omega arith) l
       ∙ ⊎-elim
@@ -71,7 +72,7 @@ module _ {N : Netlist} {table places : List ℕ} {inputs netCount outputs : ℕ}
   -- a record's list and live outputs, by the numbers in its marks
   pub listed-edge : {list lens : List ℕ} → ListsTrue N tests e n list lens → (t len : ℕ) {outputBits edges : ℕ} → t < n → len ≡ getD lens t 0
       → listSize * t + len ≤ length list → outputBits ≡ getD outs t 0 → ((j : ℕ) → j < N .inputs → bit edges j ≡ hasEdge (tests t) e j)
-      → ListedEdge N (tests t) e (entriesOf list len t) edges outputBits
+      → ListedEdge (caseOf N (tests t) e) (entriesOf list len t) edges outputBits
   listed-edge {list} {lens} z t len h l room b f = record {
     list = words-part list (listSize * t) len room ∙ ap (λ k. wordsAt list (numbersFrom (listSize * t) k)) l ∙ z .lists t h;
     makesEdge = f;

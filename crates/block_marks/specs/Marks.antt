@@ -10,13 +10,14 @@ use lib.Dec.{leb, ltb}
 use lib.ListN.{length, getD, take, drop}
 use Rattle.model.specs.Base.{bit, checks, refused, value}
 use Rattle.model.specs.Netlist.{Netlist, nets, pinsOf, pinCounts, outputCounts, outputNet}
-use Rattle.model.specs.Path.{Edge, rising, falling, countsBefore}
-use Rattle.model.specs.Detect.{Class, Test, hasEdge}
+use Rattle.model.specs.Path.{rising, falling, countsBefore}
+use Rattle.model.specs.Detect.{Class, Test}
 use Rattle.model.specs.Read.{testRules, testOf, recordLength}
 use Rattle.model.specs.Refusals.{refusalNumber}
 use Rattle.model.specs.declared.Refusal.{Refusal}
 use Rattle.test_records.specs.declared.inner.RecordAnswer.{RecordAnswer}
 use Rattle.test_records.specs.declared.inner.RecordAnswer.the-variants as record-answer
+use Rattle.detection.specs.Cases.{Case, caseOf}
 use Rattle.block.specs.Block.{liveNet}
 use Rattle.block.specs.Lists.{liveEntries}
 use Rattle.block.specs.Layout.{listSize}
@@ -30,14 +31,14 @@ pub record PlaceTable (N : Netlist) (places : List ℕ) : Type 0 where
   pub outNet : (o : ℕ) → o < length (N .outputs) → outAt places o ≡ outputNet N o
 
 -- output o is at a gate's net that is live
-abbrev pub liveOutput : Netlist → Test → Edge → ℕ → Bool
-liveOutput N t e o = ltb o (length (N .outputs)) && (leb (N .inputs) (outputNet N o) && liveNet N t e (outputNet N o))
+abbrev pub liveOutput : Case → ℕ → Bool
+liveOutput K o = ltb o (length (K .netlist .outputs)) && (leb (K .netlist .inputs) (outputNet (K .netlist) o) && liveNet K (outputNet (K .netlist) o))
 
--- one record and one edge: its list, a bit for each input that makes the edge, a bit for each output at a live gate's net
-pub record ListedEdge (N : Netlist) (t : Test) (e : Edge) (entries : List ℕ) (edges outs : ℕ) : Type 0 where
-  pub list : entries ≡ liveEntries N t e (length (N .gates))
-  pub makesEdge : (j : ℕ) → j < N .inputs → bit edges j ≡ hasEdge t e j
-  pub outsAre : (o : ℕ) → o < 64 → bit outs o ≡ liveOutput N t e o
+-- of a case, which is one record and one edge: its list, a bit for each input that makes the edge, a bit for each output at a live gate's net
+pub record ListedEdge (K : Case) (entries : List ℕ) (edges outs : ℕ) : Type 0 where
+  pub list : entries ≡ liveEntries K (length (K .netlist .gates))
+  pub makesEdge : (j : ℕ) → j < K .netlist .inputs → bit edges j ≡ K .makesEdge j
+  pub outsAre : (o : ℕ) → o < 64 → bit outs o ≡ liveOutput K o
 
 -- the list of a record: so many entries
 abbrev pub entriesOf : List ℕ → ℕ → ℕ → List ℕ
@@ -48,8 +49,8 @@ entriesOf list len t = take len (drop (listSize * t) list)
 pub record RecordMarks (N : Netlist) (test : Test) (ups downs marks : List ℕ) (t : ℕ) : Type 0 where
   pub upRoom : listSize * t + getD marks (upLengthsAt + t) 0 ≤ length ups
   pub downRoom : listSize * t + getD marks (downLengthsAt + t) 0 ≤ length downs
-  pub rises : ListedEdge N test rising (entriesOf ups (getD marks (upLengthsAt + t) 0) t) (getD marks t 0) (getD marks (upOutsAt + t) 0)
-  pub falls : ListedEdge N test falling (entriesOf downs (getD marks (downLengthsAt + t) 0) t) (getD marks (64 + t) 0) (getD marks (downOutsAt + t) 0)
+  pub rises : ListedEdge (caseOf N test rising) (entriesOf ups (getD marks (upLengthsAt + t) 0) t) (getD marks t 0) (getD marks (upOutsAt + t) 0)
+  pub falls : ListedEdge (caseOf N test falling) (entriesOf downs (getD marks (downLengthsAt + t) 0) t) (getD marks (64 + t) 0) (getD marks (downOutsAt + t) 0)
 
 -- for the first n records
 pub record MarksTrue (N : Netlist) (tests : ℕ → Test) (n : ℕ) (ups downs marks : List ℕ) : Type 0 where

@@ -21,11 +21,11 @@ use Rattle.runs.specs.declared.inner.Added.{Added}
 use Rattle.runs.specs.declared.inner.Added.the-variants.{Count, Full}
 use Rattle.runs.proofs.MemberLaws.{run-path}
 use Rattle.run_union.proofs.Adding.{answer-fits, adds-count}
-use Rattle.intervals.specs.Edges.{Case, detected, working, Detects}
-use Rattle.intervals.specs.Nets.{setRuns, inputRuns, runsBefore, Kept}
-use Rattle.place_runs.proofs.AddedLaws.{as-adds, adds-kept, full-count}
-use Rattle.intervals.proofs.StandLaws.{kept-then}
-use Rattle.intervals.proofs.DetectedLaws.{unmade-edge, input-set, few-detected}
+use Rattle.detection.specs.Cases.{Case, setRuns, detected, working}
+use Rattle.detection.specs.Walks.{inputRuns, runsBefore, Kept, Detects}
+use Rattle.detection.proofs.AddedLaws.{as-adds, adds-kept, full-count}
+use Rattle.detection.proofs.KeptLaws.{kept-then}
+use Rattle.detection.proofs.DetectedLaws.{unmade-edge, input-set, few-detected}
 use Rattle.block_runs.specs.Spans.{InputSpans, ListedAt, SomeListedAt, SpansMade}
 use Rattle.block_runs.specs.PinSpans.{NetsListed, SomeNetsListed}
 use Rattle.block_runs.specs.LiveOutputs.{runsOfOutputs, SpansListed}

@@ -20,7 +20,7 @@ use Rattle.runs.specs.declared.inner.Added.{Added}
 use Rattle.runs.specs.declared.inner.Added.the-variants.{Count, Full}
 use Rattle.run_union.specs.Unions.{withShifted}
 use Rattle.run_union.proofs.Adding.{Adding, adding-start, adding-runs, adding-length, adding-done, part-full, part-more, as-rest}
-use Rattle.place_runs.proofs.AddedLaws.{as-adds}
+use Rattle.detection.proofs.AddedLaws.{as-adds}
 use Rattle.block.proofs.LowBitLaws.{low-in, low-there, less-left}
 use Rattle.block_runs.specs.Spans.{firstOf, endOf, standing}
 use Rattle.block_runs.specs.PinSpans.{bitRuns}

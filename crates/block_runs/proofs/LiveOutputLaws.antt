@@ -12,7 +12,6 @@ use lib.Seq.{take-all}
 use Rattle.model.specs.Base.{bit, sumOf}
 use Rattle.model.specs.Netlist.{Netlist, nets, counts, pathTotal, outputCounts, outputNet}
 use Rattle.model.specs.Path.{countsBefore}
-use Rattle.model.specs.Detect.{detectsNumber}
 use Rattle.model.specs.Runs.{Run, runsOf, runsFrom, Separated}
 use Rattle.model.specs.Store.{maxRuns}
 use Rattle.model.proofs.BoolLaws.{cases}
@@ -21,16 +20,16 @@ use Rattle.model.proofs.ReadLaws.{Limits}
 use Rattle.model.proofs.WellFormed.{WellFormed}
 use Rattle.runs.specs.RunLists.{onlyIf, addRuns, shiftRuns, runsInWords}
 use Rattle.run_union.proofs.AddRunLaws.{addRuns-append}
-use Rattle.intervals.specs.Edges.{Case, detected}
-use Rattle.intervals.specs.Nets.{setRuns}
-use Rattle.intervals.proofs.DetectedLaws.{out-part}
+use Rattle.detection.specs.Cases.{Case, detectsPath, setRuns, detected}
+use Rattle.detection.proofs.DetectedLaws.{out-part}
 use Rattle.block.specs.Block.{liveNet}
+use Rattle.block.proofs.LiveLaws.{dead-runs, live-runs}
 use Rattle.block_marks.specs.Marks.{PlaceTable, ListedEdge}
 use Rattle.block_runs.specs.Spans.{firstOf, endOf, shiftOf, standing, SpanIs}
 use Rattle.block_runs.specs.PinSpans.{bitRuns}
 use Rattle.block_runs.specs.LiveOutputs.{runsOfOutput, runsOfOutputs, OutputReady, EndsBefore, OutputsReady}
 use Rattle.block_runs.proofs.BitRunLaws.{shift-shift}
-use Rattle.block_runs.proofs.LiveRunLaws.{shift-most, dead-set, live-set, set-counted}
+use Rattle.block_runs.proofs.LiveRunLaws.{shift-most, set-counted}
 use Rattle.block_marks.specs.Layout.{outAt}
 
 -- a part that the second test takes away is empty
@@ -55,10 +54,10 @@ module _ (K : Case) where
   N = K .netlist
 
   abbrev live : ℕ → Bool
-  live net = liveNet (K .netlist) (K .test) (K .edge) net
+  live net = liveNet K net
 
   abbrev D : ℕ → Bool
-  D k = detectsNumber (K .netlist) (K .test) (K .edge) k
+  D k = detectsPath K k
 
   abbrev before : ℕ → ℕ
   before o = countsBefore o (outputCounts (K .netlist))
@@ -71,11 +70,11 @@ module _ (K : Case) where
   shift-counted {spans} {ws} {net = net} l at =
       shift-most (shiftOf spans net) (getD (counts N) net 0) 1 (standing spans ws net)
       (subst⁻¹ (λ (s : List Run). Separated (getD (counts N) net 0) 1 s) (at .runs) (set-counted K net))
-      (λ e. live-set K net l (sym (at .runs) ∙ ap (shiftRuns (shiftOf spans net)) e))
+      (λ e. live-runs K net l (sym (at .runs) ∙ ap (shiftRuns (shiftOf spans net)) e))
 
   module _ (w : WellFormed (K .netlist)) (lim : Limits (K .netlist)) {places spans ws entries : List ℕ} {edges outs : ℕ} (placed : PlaceTable (K .netlist) places)
-      (listed : ListedEdge (K .netlist) (K .test) (K .edge) entries edges outs)
-      (spanned : (net : ℕ) → net < nets (K .netlist) → liveNet (K .netlist) (K .test) (K .edge) net ≡ true → SpanIs K spans ws maxRuns net) where
+      (listed : ListedEdge K entries edges outs)
+      (spanned : (net : ℕ) → net < nets (K .netlist) → liveNet K net ≡ true → SpanIs K spans ws maxRuns net) where
     -- what an output adds, by the model
     output-part : (o : ℕ) → o < length (N .outputs) → live (outputNet N o) ≡ true → runsOfOutput places spans ws o ≡ shiftRuns (before o) (setRuns K (outputNet N o))
     output-part o h l =
@@ -94,7 +93,7 @@ module _ (K : Case) where
         let net = outputNet N o in
         ap (λ b. onlyIf b (runsOfOutput places spans ws o)) (bit-is o h)
         ∙ same-part (leb (N .inputs) net) (live net) (runsOfOutput places spans ws o) (shiftRuns (before o) (setRuns K net)) (λ a l. output-part o h l)
-        (λ d. ap (shiftRuns (before o)) (dead-set K net d))
+        (λ d. ap (shiftRuns (before o)) (dead-runs K net d))
 
     no-output : (o : ℕ) → length (N .outputs) ≤ o → o < 64 → bit outs o ≡ false
     no-output o h l =

@@ -10,7 +10,6 @@ use lib.ListN.{length, getD}
 use Rattle.model.specs.Base.{bit, numbersFrom}
 use Rattle.model.specs.Netlist.{Netlist, nets, counts, pinsOf, pinNet, pinCounts}
 use Rattle.model.specs.Path.{countsBefore}
-use Rattle.model.specs.Detect.{openPin, inNetSet}
 use Rattle.model.specs.Runs.{Run, Separated}
 use Rattle.model.specs.Store.{maxRuns}
 use Rattle.model.proofs.BoolLaws.{T→true, true→T, and-right, cases}
@@ -20,10 +19,9 @@ use Rattle.model.proofs.RunLaws.{runs-separated}
 use Rattle.model.proofs.WellFormed.{WellFormed}
 use Rattle.runs.specs.RunLists.{onlyIf, addRuns, shiftRuns}
 use Rattle.run_union.proofs.AddRunLaws.{addRuns-append}
-use Rattle.intervals.specs.Edges.{Case}
-use Rattle.intervals.specs.Nets.{setRuns}
-use Rattle.place_runs.specs.RunsOfPlaces.{Places, pathsBefore, placeRuns, firstRuns}
-use Rattle.intervals.proofs.DetectedLaws.{gate-set, pins-all}
+use Rattle.detection.specs.Cases.{Case, inSet, setRuns}
+use Rattle.detection.specs.PlaceRuns.{Places, pathsBefore, placeRuns, firstRuns}
+use Rattle.detection.proofs.DetectedLaws.{gate-set, pins-all}
 use Rattle.block.specs.Block.{liveNet, activePin}
 use Rattle.packed_pins.specs.Packed.{packBits}
 use Rattle.block.specs.Lists.{gateEntry}
@@ -43,19 +41,9 @@ pub shift-most : (o n b : ℕ) (s : List Run) → Separated n b (shiftRuns o s) 
 shift-most o n b [] u ne = absurd (ne refl)
 shift-most o n b (r ∷ s) u ne = omega (arith, u .1, u .2)
 
--- the runs of a net that is not live, and of one that is
-module _ (K : Case) (net : ℕ) where
-  pub dead-set : liveNet (K .netlist) (K .test) (K .edge) net ≡ false → setRuns K net ≡ []
-  unfolding setRuns
-  dead-set e = dead-runs (K .netlist) (K .test) (K .edge) net e
-
-  pub live-set : liveNet (K .netlist) (K .test) (K .edge) net ≡ true → setRuns K net ≡ [] → ⊥
-  unfolding setRuns
-  live-set e = live-runs (K .netlist) (K .test) (K .edge) net e
-
-  pub set-counted : Separated (getD (counts (K .netlist)) net 0) 1 (setRuns K net)
-  unfolding setRuns
-  set-counted = runs-separated (inNetSet (K .netlist) (K .test) (K .edge) net) (getD (counts (K .netlist)) net 0)
+pub set-counted : (K : Case) (net : ℕ) → Separated (getD (counts (K .netlist)) net 0) 1 (setRuns K net)
+unfolding setRuns
+set-counted K net = runs-separated (inSet K net) (getD (counts (K .netlist)) net 0)
 
 -- a live gate's net, by the tables, and the spans of the live nets before it
 pub record GateAt (K : Case) (table places : List ℕ) (inputs : ℕ) (spans ws : List ℕ) (made net : ℕ) : Type 0 where
@@ -63,24 +51,24 @@ pub record GateAt (K : Case) (table places : List ℕ) (inputs : ℕ) (spans ws 
   pub placed : PlaceTable (K .netlist) places
   pub low : K .netlist .inputs ≤ net
   pub high : net < nets (K .netlist)
-  pub live : liveNet (K .netlist) (K .test) (K .edge) net ≡ true
-  pub done : (q : ℕ) → q < net → liveNet (K .netlist) (K .test) (K .edge) q ≡ true → SpanIs K spans ws made q
+  pub live : liveNet K net ≡ true
+  pub done : (q : ℕ) → q < net → liveNet K q ≡ true → SpanIs K spans ws made q
 
 module _ {K : Case} {table places : List ℕ} {inputs : ℕ} {spans ws : List ℕ} {made net : ℕ} (g : GateAt K table places inputs spans ws made net) where
   abbrev N : Netlist
   N = K .netlist
 
   abbrev live? : ℕ → Bool
-  live? q = liveNet (K .netlist) (K .test) (K .edge) q
+  live? q = liveNet K q
 
   abbrev active : ℕ → Bool
-  active p = activePin (K .netlist) (K .test) (K .edge) net p
+  active p = activePin K net p
 
   abbrev pins : ℕ
   pins = length (pinsOf (K .netlist) net)
 
   abbrev byte : ℕ
-  byte = packBits (map (activePin (K .netlist) (K .test) (K .edge) net) (numbersFrom 0 (length (pinsOf (K .netlist) net))))
+  byte = packBits (map (activePin K net) (numbersFrom 0 (length (pinsOf (K .netlist) net))))
 
   abbrev pc : List ℕ
   pc = pinCounts (K .netlist) net
@@ -103,7 +91,7 @@ module _ {K : Case} {table places : List ℕ} {inputs : ℕ} {spans ws : List �
   -- ---- an active pin
 
   some-byte : 0 < byte
-  some-byte = pack-some active pins (sym (live-gate N w (K .test) (K .edge) net (g .low) (g .high)) ∙ g .live)
+  some-byte = pack-some active pins (sym (live-gate K w net (g .low) (g .high)) ∙ g .live)
 
   is-active : (p : ℕ) → bit byte p ≡ true → (p < pins) × (active p ≡ true)
   is-active p e = cases pins p
@@ -112,7 +100,7 @@ module _ {K : Case} {table places : List ℕ} {inputs : ℕ} {spans ws : List �
 
   live-pin : (p : ℕ) → active p ≡ true → live? (pinNet N net p) ≡ true
   unfolding activePin
-  live-pin p a = T→true (live? (pinNet N net p)) (and-right (openPin N (K .test) net p) (live? (pinNet N net p)) (true→T (active p) a))
+  live-pin p a = T→true (live? (pinNet N net p)) (and-right (K .isOpen net p) (live? (pinNet N net p)) (true→T (active p) a))
 
   module _ (p : ℕ) (h : p < pins) where
     source : sourceAt table (8 * net + p) ≡ pinNet N net p
@@ -138,7 +126,7 @@ module _ {K : Case} {table places : List ℕ} {inputs : ℕ} {spans ws : List �
           ∙ ap₂ shiftRuns offset set-runs
 
       no-none : standing spans ws (sourceAt table (8 * net + p)) ≡ [] → ⊥
-      no-none e = live-set K (pinNet N net p) l (sym set-runs ∙ ap (shiftRuns (shiftOf spans (sourceAt table (8 * net + p)))) e)
+      no-none e = live-runs K (pinNet N net p) l (sym set-runs ∙ ap (shiftRuns (shiftOf spans (sourceAt table (8 * net + p)))) e)
 
       shift-few : shiftAt table places spans (8 * net + p) ≤ 2 ^ 62
       shift-few =
@@ -163,7 +151,7 @@ module _ {K : Case} {table places : List ℕ} {inputs : ℕ} {spans ws : List �
   adds p = pinRuns table places spans ws (8 * net + p)
 
   abbrev P : Places
-  P = record { netOf = pinNet (K .netlist) net; opens = λ p q. openPin (K .netlist) (K .test) net p; paths = λ q. getD (counts (K .netlist)) q 0 }
+  P = record { netOf = pinNet (K .netlist) net; opens = λ p q. K .isOpen net p; paths = λ q. getD (counts (K .netlist)) q 0 }
 
   paths-are : (p : ℕ) → p ≤ pins → pathsBefore P p ≡ countsBefore p pc
   paths-are zero h = refl
@@ -172,11 +160,11 @@ module _ {K : Case} {table places : List ℕ} {inputs : ℕ} {spans ws : List �
   place-same : (p : ℕ) → p < pins → placeRuns P (setRuns K) p ≡ onlyIf (bit byte p) (adds p)
   unfolding activePin
   place-same p h =
-      go (openPin N (K .test) net p) (live? (pinNet N net p)) refl ∙ sym (ap (λ b. onlyIf b (adds p)) (pack-bit active pins p h))
+      go (K .isOpen net p) (live? (pinNet N net p)) refl ∙ sym (ap (λ b. onlyIf b (adds p)) (pack-bit active pins p h))
     where
       go : (o l : Bool) → live? (pinNet N net p) ≡ l → onlyIf o (shiftRuns (pathsBefore P p) (setRuns K (pinNet N net p))) ≡ onlyIf (o && l) (adds p)
       go true true e = ap (λ n. shiftRuns n (setRuns K (pinNet N net p))) (paths-are p (omega arith)) ∙ sym (pin-adds p h e)
-      go true false e = ap (shiftRuns (pathsBefore P p)) (dead-set K (pinNet N net p) e)
+      go true false e = ap (shiftRuns (pathsBefore P p)) (dead-runs K (pinNet N net p) e)
       go false l e = refl
 
   first-same : (n : ℕ) → n ≤ pins → firstRuns P (setRuns K) n ≡ addRuns [] (bitRuns adds byte n)
@@ -196,7 +184,7 @@ module _ {K : Case} {table places : List ℕ} {inputs : ℕ} {spans ws : List �
 
   -- ---- the entry
 
-  module _ {entry : ℕ} (e : entry ≡ gateEntry (K .netlist) (K .test) (K .edge) net) where
+  module _ {entry : ℕ} (e : entry ≡ gateEntry K net) where
     pub entry-net : entry / 256 ≡ net
     unfolding gateEntry
     entry-net = omega (arith, e, pack-byte active pins few-pins)
@@ -229,7 +217,7 @@ module _ {K : Case} {table places : List ℕ} {inputs : ℕ} {spans ws : List �
   pub record LiveBelow : Type 0 where
     pub place : ℕ
     pub below : place < net
-    pub isLive : liveNet (K .netlist) (K .test) (K .edge) place ≡ true
+    pub isLive : liveNet K place ≡ true
 
   pub live-below : LiveBelow
   live-below =

@@ -18,20 +18,21 @@ use Rattle.model.specs.Store.{maxRuns}
 use Rattle.model.proofs.BoolLaws.{cases, equal-or-not}
 use Rattle.model.proofs.ReadLaws.{limits}
 use Rattle.runs.specs.declared.inner.Added.the-variants.{Count, Full}
-use Rattle.intervals.specs.Edges.{Case}
-use Rattle.intervals.specs.Nets.{setRuns, runsBefore, Kept}
-use Rattle.place_runs.proofs.AddedLaws.{full-count}
-use Rattle.intervals.proofs.DetectedLaws.{set-sound, working-all}
-use Rattle.intervals.proofs.StandLaws.{runs-next, runs-mono, kept-refl, kept-then}
+use Rattle.detection.specs.Cases.{Case, setRuns}
+use Rattle.detection.specs.Walks.{runsBefore, Kept}
+use Rattle.detection.proofs.AddedLaws.{full-count}
+use Rattle.detection.proofs.KeptLaws.{runs-next, runs-mono, kept-refl, kept-then}
+use Rattle.detection.proofs.DetectedLaws.{set-sound, working-all}
 use Rattle.block.specs.Block.{liveNet}
 use Rattle.block.specs.Lists.{keep, gateEntry, liveEntries}
+use Rattle.block.proofs.LiveLaws.{dead-runs, live-runs}
 use Rattle.block_runs.specs.Spans.{SpanIs, InputSpans, SpansMade}
 use Rattle.block_runs.specs.PinSpans.{entryRuns, SpanMade, NetSpanned, EntryReady, NetsListed, SomeNetsListed}
 use Rattle.block_runs.specs.declared.nets.Grown.{Grown}
 use Rattle.block_runs.specs.declared.nets.Grown.the-variants.{Made, Over}
 use Rattle.block_runs.proofs.EntryLaws.{NextKept, none-kept, next-kept}
 use Rattle.block_runs.proofs.SpanStayLaws.{runs-dead, some-runs, span-stays, inputs-stay, input-span}
-use Rattle.block_runs.proofs.LiveRunLaws.{dead-set, live-set, GateAt, live-below, entry-net, entry-runs, entry-ready}
+use Rattle.block_runs.proofs.LiveRunLaws.{GateAt, live-below, entry-net, entry-runs, entry-ready}
 
 -- ---- the invariant
 
@@ -41,9 +42,9 @@ pub record SpansDone (K : Case) (inputs : ℕ) (entries spans ws : List ℕ) (i 
   pub begun : inputs ≤ next
   pub within : next ≤ nets (K .netlist)
   pub rest : drop i entries
-      ≡ map (gateEntry (K .netlist) (K .test) (K .edge)) (keep (liveNet (K .netlist) (K .test) (K .edge)) (numbersFrom next (nets (K .netlist) - next)))
+      ≡ map (gateEntry K) (keep (liveNet K) (numbersFrom next (nets (K .netlist) - next)))
   pub inputSpans : InputSpans spans inputs
-  pub spansAre : (q : ℕ) → q < next → liveNet (K .netlist) (K .test) (K .edge) q ≡ true → SpanIs K spans ws made q
+  pub spansAre : (q : ℕ) → q < next → liveNet K q ≡ true → SpanIs K spans ws made q
   pub summed : runsBefore (setRuns K) inputs + total ≡ runsBefore (setRuns K) next
   pub few : 1 ≤ runsBefore (setRuns K) next → made ≤ runsBefore (setRuns K) next
   pub most : total ≤ maxRuns * next
@@ -70,7 +71,7 @@ module _ {table places entries spans₀ ws₀ : List ℕ} where
           begun = omega arith;
           within = omega (arith, c .inputsAre);
           rest = a .at-list .listed .list
-              ∙ ap₂ (λ k m. map (gateEntry (K .netlist) (K .test) (K .edge)) (keep (liveNet (K .netlist) (K .test) (K .edge)) (numbersFrom k m))) from many;
+              ∙ ap₂ (λ k m. map (gateEntry K) (keep (liveNet K) (numbersFrom k m))) from many;
           inputSpans = a .at-list .inputSpans;
           spansAre = input-span a;
           summed = omega arith;
@@ -87,10 +88,10 @@ module _ {table places entries spans₀ ws₀ : List ℕ} where
     spans-end h K inputs a =
         let d = x .done K inputs a in
         let next = d .next in
-        let dead = none-kept (liveNet (K .netlist) (K .test) (K .edge)) (gateEntry (K .netlist) (K .test) (K .edge)) (nets (K .netlist) - next) next
+        let dead = none-kept (liveNet K) (gateEntry K) (nets (K .netlist) - next) next
         (sym (drop-of-length-le entries {i = i} h) ∙ d .rest) in
         let all : runsBefore (setRuns K) (nets (K .netlist)) ≡ runsBefore (setRuns K) next =
-        runs-dead (setRuns K) next (nets (K .netlist)) (d .within) (λ q l k. dead-set K q (dead q l (omega (arith, d .within)))) in
+        runs-dead (setRuns K) next (nets (K .netlist)) (d .within) (λ q l k. dead-runs K q (dead q l (omega (arith, d .within)))) in
         record {
           kept = x .kept;
           inputSpans = d .inputSpans;
@@ -110,9 +111,9 @@ module _ {table places entries spans₀ ws₀ : List ℕ} where
         d : SpansDone K inputs entries spans ws i made total
         d = x .done K inputs a
 
-        listed : NextKept (liveNet (K .netlist) (K .test) (K .edge)) (gateEntry (K .netlist) (K .test) (K .edge)) (d .next) (nets (K .netlist) - d .next)
+        listed : NextKept (liveNet K) (gateEntry K) (d .next) (nets (K .netlist) - d .next)
             (getD entries i 0) (drop (suc i) entries)
-        listed = next-kept (liveNet (K .netlist) (K .test) (K .edge)) (gateEntry (K .netlist) (K .test) (K .edge)) (nets (K .netlist) - d .next) (d .next)
+        listed = next-kept (liveNet K) (gateEntry K) (nets (K .netlist) - d .next) (d .next)
             (getD entries i 0) (drop (suc i) entries) (sym (drop-cons entries i 0 h) ∙ d .rest)
 
         abbrev net : ℕ
@@ -125,7 +126,7 @@ module _ {table places entries spans₀ ws₀ : List ℕ} where
         few-nets = limits (a .at-list .circuit .file) (K .netlist) (a .at-list .circuit .legal) .fewNets
 
         -- a live net before it is done
-        before : (q : ℕ) → q < net → liveNet (K .netlist) (K .test) (K .edge) q ≡ true → q < d .next
+        before : (q : ℕ) → q < net → liveNet K q ≡ true → q < d .next
         before q l live = cases (d .next) q (λ k. absurd (mathlib.Core.Bool.false≢true (sym (listed .fails q k l) ∙ live))) (λ k. k)
 
         gate : GateAt K table places inputs spans ws made net
@@ -145,12 +146,12 @@ module _ {table places entries spans₀ ws₀ : List ℕ} where
         standing-few : made ≤ runsBefore (setRuns K) (d .next)
         standing-few =
             let q = live-below gate in
-            let one = some-runs (setRuns K (q .place)) (live-set K (q .place) (q .isLive)) in
+            let one = some-runs (setRuns K (q .place)) (live-runs K (q .place) (q .isLive)) in
             let mono = runs-mono (setRuns K) (q .place + 1) (d .next) (omega (arith, before (q .place) (q .below) (q .isLive))) in
             d .few (omega (arith, one, mono, runs-next (setRuns K) (q .place)))
 
         so-far : runsBefore (setRuns K) net ≡ runsBefore (setRuns K) (d .next)
-        so-far = runs-dead (setRuns K) (d .next) net (listed .low) (λ q l k. dead-set K q (listed .fails q l k))
+        so-far = runs-dead (setRuns K) (d .next) net (listed .low) (λ q l k. dead-runs K q (listed .fails q l k))
 
       pub spans-ready : EntryReady table places (getD entries i 0) spans ws made
       spans-ready = ready (x .some .case) (x .some .inputs) (x .some .at-nets)
@@ -206,7 +207,7 @@ module _ {table places entries spans₀ ws₀ : List ℕ} where
               begun = omega (arith, d K inputs a .begun, listed K inputs a .low);
               within = omega (arith, high K inputs a);
               rest = ap (λ k. drop k entries) (add-one i) ∙ listed K inputs a .tail
-                  ∙ ap (λ k. map (gateEntry (K .netlist) (K .test) (K .edge)) (keep (liveNet (K .netlist) (K .test) (K .edge)) (numbersFrom (here + 1) (k - (here + 1))))) whole;
+                  ∙ ap (λ k. map (gateEntry K) (keep (liveNet K) (numbersFrom (here + 1) (k - (here + 1))))) whole;
               inputSpans = inputs-kept;
               spansAre = λ q l live.
                   ⊎-elim

@@ -19,7 +19,7 @@ use Rattle.runs.specs.Answers.{Room, Adds}
 use Rattle.runs.specs.declared.inner.Added.{Added}
 use Rattle.runs.specs.declared.inner.Added.the-variants.{Count, Full}
 use Rattle.run_union.proofs.Adding.{Adding, adding-start, adding-runs, adding-length, adding-done, as-rest, part-full, part-more}
-use Rattle.place_runs.proofs.AddedLaws.{as-adds}
+use Rattle.detection.proofs.AddedLaws.{as-adds}
 use Rattle.block.proofs.LowBitLaws.{low-there, less-left}
 use Rattle.block_runs.specs.Spans.{firstOf, endOf, standing}
 use Rattle.block_runs.specs.PinSpans.{sourceAt, shiftAt, pinRuns, bitRuns, byteRuns, PinReady, ByteReady}

@@ -21,9 +21,9 @@ use Rattle.runs.proofs.RunWordLaws.{length-runs}
 use Rattle.run_union.proofs.Adding.{answer-over, adds-count}
 use Rattle.run_union.proofs.RunWriteLaws.{runs-write-before}
 use Rattle.run_union.proofs.ShiftLaws.{shiftRuns-sound, length-shift}
-use Rattle.intervals.specs.Nets.{Kept}
-use Rattle.place_runs.proofs.AddedLaws.{take-short}
-use Rattle.intervals.proofs.StandLaws.{kept-refl, kept-write}
+use Rattle.detection.specs.Walks.{Kept}
+use Rattle.detection.proofs.AddedLaws.{take-short}
+use Rattle.detection.proofs.KeptLaws.{kept-refl, kept-write}
 use Rattle.block.proofs.LowBitLaws.{low-there}
 use Rattle.block_runs.specs.Spans.{firstOf, endOf, shiftOf, standing}
 use Rattle.block_runs.specs.PinSpans.{sourceAt, shiftAt, pinRuns, bitRuns, entryRuns, withSpan, SameSpan, SpanMade, NetSpanned, PinReady, EntryReady}

@@ -6,14 +6,13 @@ use mathlib.Core.List.{List, [], _∷_}
 use Prim.Native.Nat.{ℕ, zero, suc, _-_, _^_, _≤_, _<_}
 use native.Mathlib.Omega.{arith}
 use lib.ListN.{length}
-use Rattle.model.specs.Detect.{hasEdge}
 use Rattle.model.specs.Runs.{Run, run}
 use Rattle.model.proofs.BoolLaws.{cases}
 use Rattle.model.proofs.ReadLaws.{legal}
 use Rattle.runs.specs.RunLists.{Sound, onlyIf, shiftRuns, runsInWords}
-use Rattle.intervals.specs.Edges.{Case}
-use Rattle.intervals.specs.Nets.{runsBefore}
-use Rattle.intervals.proofs.DetectedLaws.{input-set}
+use Rattle.detection.specs.Cases.{Case}
+use Rattle.detection.specs.Walks.{runsBefore}
+use Rattle.detection.proofs.DetectedLaws.{input-set}
 use Rattle.block.specs.Block.{liveNet}
 use Rattle.block.proofs.LiveLaws.{live-input}
 use Rattle.block_runs.specs.Spans.{firstOf, endOf, standing, SpanIs, InputSpans}
@@ -63,7 +62,7 @@ module _ {made net : ℕ} {s : List Run} {spans ws spans′ ws′ : List ℕ} {r
 -- ---- the inputs
 
 pub input-span : {K : Case} {inputs : ℕ} {table places entries spans₀ ws₀ : List ℕ} → NetsListed K inputs table places entries spans₀ ws₀
-    → (q : ℕ) → q < inputs → liveNet (K .netlist) (K .test) (K .edge) q ≡ true → SpanIs K spans₀ ws₀ 1 q
+    → (q : ℕ) → q < inputs → liveNet K q ≡ true → SpanIs K spans₀ ws₀ 1 q
 input-span {K} {inputs} {spans₀ = spans₀} {ws₀ = ws₀} a q h l =
     let x = a .at-list .inputSpans in
     let c = a .at-list .circuit in
@@ -71,7 +70,7 @@ input-span {K} {inputs} {spans₀ = spans₀} {ws₀ = ws₀} a q h l =
     let i : q < K .netlist .inputs = omega (arith, c .inputsAre) in
     let first = x .firsts q h in
     let end = x .ends q h in
-    let edge : hasEdge (K .test) (K .edge) q ≡ true = sym (live-input (K .netlist) w (K .test) (K .edge) q i) ∙ l in
+    let edge : K .makesEdge q ≡ true = sym (live-input K w q i) ∙ l in
     let same : standing spans₀ ws₀ q ≡ run 1 1 ∷ [] = ap₂ (λ a b. runsInWords ws₀ a (b - a)) first end ∙ ap (λ (r : Run). r ∷ []) (a .firstRun) in
     record {
       ordered = omega (arith, first, end);

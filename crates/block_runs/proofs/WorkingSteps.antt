@@ -19,8 +19,8 @@ use Rattle.model.proofs.BoolLaws.{cases}
 use Rattle.model.specs.Runs.{run}
 use Rattle.packed_pins.specs.Packed.{oneWhere}
 use Rattle.runs.specs.RunLists.{onlyIf}
-use Rattle.intervals.specs.Nets.{inputRuns, runsBefore}
-use Rattle.intervals.proofs.StandLaws.{runs-next}
+use Rattle.detection.specs.Walks.{inputRuns, runsBefore}
+use Rattle.detection.proofs.KeptLaws.{runs-next}
 use Rattle.block.proofs.PackCases.{bit-number, bit-small}
 
 many-only : (b : Bool) → length (onlyIf b (run 1 1 ∷ [])) ≡ oneWhere b

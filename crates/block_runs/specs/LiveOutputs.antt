@@ -12,8 +12,8 @@ use Rattle.model.specs.Store.{maxRuns}
 use Rattle.runs.specs.RunLists.{Sound, addRuns, shiftRuns}
 use Rattle.runs.specs.declared.inner.Added.{Added}
 use Rattle.runs.specs.declared.inner.Added.the-variants.{Count, Full}
-use Rattle.intervals.specs.Edges.{Case, detected, working}
-use Rattle.intervals.specs.Nets.{Kept}
+use Rattle.detection.specs.Cases.{Case, detected, working}
+use Rattle.detection.specs.Walks.{Kept}
 use Rattle.block_runs.specs.Spans.{firstOf, endOf, shiftOf, standing}
 use Rattle.block_runs.specs.PinSpans.{bitRuns}
 use Rattle.block_marks.specs.Layout.{outputOffsetsAt, outAt}

@@ -9,8 +9,8 @@ use Rattle.model.specs.Base.{bit}
 use Rattle.model.specs.Runs.{Run, run}
 use Rattle.model.specs.Store.{maxRuns}
 use Rattle.runs.specs.RunLists.{Sound, onlyIf, addRuns, shiftRuns, runAt, runsInWords}
-use Rattle.intervals.specs.Edges.{Case}
-use Rattle.intervals.specs.Nets.{Kept}
+use Rattle.detection.specs.Cases.{Case}
+use Rattle.detection.specs.Walks.{Kept}
 use Rattle.block_runs.specs.Spans.{firstOf, endOf, shiftOf, standing, ListedAt}
 use Rattle.block_runs.specs.declared.nets.Grown.{Grown}
 use Rattle.block_runs.specs.declared.nets.Grown.the-variants.{Made, Over}

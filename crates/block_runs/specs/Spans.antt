@@ -11,8 +11,8 @@ use Rattle.model.specs.Store.{maxRuns}
 use Rattle.runs.specs.RunLists.{Sound, shiftRuns, runsInWords}
 use Rattle.runs.specs.declared.inner.Added.{Added}
 use Rattle.runs.specs.declared.inner.Added.the-variants.{Count, Full}
-use Rattle.intervals.specs.Edges.{Case, working}
-use Rattle.intervals.specs.Nets.{setRuns, runsBefore, Kept}
+use Rattle.detection.specs.Cases.{Case, setRuns, working}
+use Rattle.detection.specs.Walks.{runsBefore, Kept}
 use Rattle.block.specs.Block.{liveNet}
 use Rattle.block.specs.Table.{CircuitTable}
 use Rattle.block_marks.specs.Marks.{PlaceTable, ListedEdge}
@@ -58,7 +58,7 @@ pub record InputSpans (spans : List ℕ) (inputs : ℕ) : Type 0 where
 pub record ListedAt (K : Case) (table places entries : List ℕ) (edges outs inputs : ℕ) (spans ws : List ℕ) : Type 0 where
   pub circuit : CircuitTable (K .netlist) table inputs (nets (K .netlist))
   pub placed : PlaceTable (K .netlist) places
-  pub listed : ListedEdge (K .netlist) (K .test) (K .edge) entries edges outs
+  pub listed : ListedEdge K entries edges outs
   pub inputSpans : InputSpans spans inputs
   pub room : 4 * maxRuns ≤ length ws
 
@@ -72,5 +72,5 @@ pub record SpansMade (K : Case) (inputs : ℕ) (ws ws′ spans′ : List ℕ) (r
   pub kept : Kept ws ws′
   pub inputSpans : InputSpans spans′ inputs
   pub total : (n : ℕ) → r ≡ Count n → runsBefore (setRuns K) inputs + n ≡ working K
-  pub spans : (n : ℕ) → r ≡ Count n → (net : ℕ) → net < nets (K .netlist) → liveNet (K .netlist) (K .test) (K .edge) net ≡ true → SpanIs K spans′ ws′ maxRuns net
+  pub spans : (n : ℕ) → r ≡ Count n → (net : ℕ) → net < nets (K .netlist) → liveNet K net ≡ true → SpanIs K spans′ ws′ maxRuns net
   pub full : r ≡ Full → maxRuns < working K

@@ -5,7 +5,7 @@ pub mod sections;
 ghost use mathlib.Core.Path.{_≡_};
 ghost use Prim.Native.Nat.{ℕ, _≤_};
 ghost use lib.ListN.{length};
-ghost use Rattle.intervals.specs.Edges.{Case};
+ghost use Rattle.detection.specs.Cases.{Case};
 ghost use Rattle.block_runs.specs.Spans.{InputSpans, ListedAt, SomeListedAt};
 ghost use Rattle.block_runs.specs.LiveOutputs.{SpansListed};
 ghost use Rattle.block_runs.specs.Layout.{spansSize};

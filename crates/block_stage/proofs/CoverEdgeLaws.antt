@@ -11,7 +11,6 @@ use lib.Dec.{leb}
 use lib.ListN.{length, drop}
 use Rattle.model.specs.Store.{maxRuns}
 use Rattle.model.specs.Netlist.{pathTotal}
-use Rattle.model.specs.Detect.{detectsNumber}
 use Rattle.model.specs.Runs.{Run, runsOf, inRuns}
 use Rattle.model.proofs.BoolLaws.{true→T}
 use Rattle.model.proofs.ReadLaws.{legal, limits}
@@ -25,7 +24,8 @@ use Rattle.runs.proofs.RunWordLaws.{length-runs}
 use Rattle.store_writing.specs.Writing.{changed, Within}
 use Rattle.store_writing.specs.declared.inner.Change.{Change}
 use Rattle.store_writing.specs.declared.inner.Change.the-variants.{Kept}
-use Rattle.intervals.specs.Edges.{Case, detected, working, Detects}
+use Rattle.detection.specs.Cases.{Case, detectsPath, detected, working}
+use Rattle.detection.specs.Walks.{Detects}
 use Rattle.coverage.specs.Covers.{thenRuns, heldRuns, JoinReady, Covers}
 use Rattle.coverage.specs.declared.inner.edges.EdgeAnswer.{EdgeAnswer}
 use Rattle.coverage.specs.declared.inner.edges.EdgeAnswer.the-variants.{Covered, OverWork}
@@ -49,7 +49,7 @@ or-held false b f = refl
 then-same : (K : Case) (s : List Run) → Sound (pathTotal (K .netlist)) s → AllIn (λ x. inRuns s x ≡ true) (detected K) → thenRuns K s ≡ s
 unfolding thenRuns detected
 then-same K s so a =
-    let P = detectsNumber (K .netlist) (K .test) (K .edge) in
+    let P = detectsPath K in
     let n = pathTotal (K .netlist) in
     runs-same (λ k. P k || inRuns s k) (inRuns s) n
     (λ j h l. or-held (P j) (inRuns s j) (λ e. a .each j (true→T (inRuns (runsOf P n) j) (runs-test P n j h l ∙ e))))

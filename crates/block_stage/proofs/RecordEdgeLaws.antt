@@ -15,9 +15,9 @@ use Rattle.model.specs.Runs.{Run}
 use Rattle.runs.specs.RunLists.{Sound}
 use Rattle.store_words.specs.Sound.{FewRuns, edgeWords}
 use Rattle.store_words.proofs.SoundLaws.{edge-sound, edge-few}
-use Rattle.intervals.specs.Edges.{Case}
+use Rattle.detection.specs.Cases.{Case, caseOf}
 use Rattle.coverage.specs.Covers.{heldRuns, Covers}
-use Rattle.coverage.specs.Both.{caseOf, joined, CoversBoth}
+use Rattle.coverage.specs.Both.{joined, CoversBoth}
 use Rattle.coverage.specs.Stage.{MemoryReady, BothMade, SomeBothMade, workStage, StageIs}
 use Rattle.coverage.specs.declared.inner.edges.EdgeAnswer.{EdgeAnswer}
 use Rattle.coverage.specs.declared.inner.edges.BothAnswer.{BothAnswer}
@@ -44,9 +44,10 @@ downMarks edges = record { edges = edges .falls; outs = edges .«down_outs»; in
 module _ {table places ups downs : List ℕ} {edges : RecordEdges} {ws spans work : List ℕ} where
   -- the runs of an edge, and what is handed over to cover them: the falling ones after the rising ones are covered
   module _ {N : Netlist} {t : Test} (h : ListedBoth N t table places ups downs edges ws spans work) where
-    edge-ready : (e : Edge) {entries : List ℕ} {marks : EdgeMarks} → ListedEdge N t e entries (marks .edges) (marks .outs) → marks .inputs ≡ edges .inputs
-        → (marks .base ≡ risingSections) ⊎ (marks .base ≡ fallingSections) → 2 * maxRuns ≤ marks .target → marks .target + maxRuns ≤ 4 * maxRuns → {held : List ℕ} → held ≡ edgeWords ws e
-        → {spans₁ work₁ : List ℕ} → InputSpans spans₁ (edges .inputs) → length work₁ ≡ length work → EdgeReady (caseOf N t e) table places entries marks held spans₁ work₁
+    edge-ready : (e : Edge) {entries : List ℕ} {marks : EdgeMarks} → ListedEdge (caseOf N t e) entries (marks .edges) (marks .outs) → marks .inputs ≡ edges .inputs
+        → (marks .base ≡ risingSections) ⊎ (marks .base ≡ fallingSections) → 2 * maxRuns ≤ marks .target → marks .target + maxRuns ≤ 4 * maxRuns
+        → {held : List ℕ} → held ≡ edgeWords ws e → {spans₁ work₁ : List ℕ} → InputSpans spans₁ (edges .inputs) → length work₁ ≡ length work
+        → EdgeReady (caseOf N t e) table places entries marks held spans₁ work₁
     edge-ready e {marks = marks} listed same base low high is {spans₁ = spans₁} i l =
         let runs = held-are e (memory-few (h .memory)) is in
         let half = held-half e (memory-few (h .memory)) is in

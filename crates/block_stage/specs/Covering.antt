@@ -8,7 +8,7 @@ use lib.ListN.{length}
 use Rattle.model.specs.Netlist.{pathTotal}
 use Rattle.model.specs.Store.{maxRuns}
 use Rattle.runs.specs.RunLists.{Sound}
-use Rattle.intervals.specs.Edges.{Case}
+use Rattle.detection.specs.Cases.{Case}
 use Rattle.coverage.specs.Covers.{heldRuns}
 use Rattle.block_runs.specs.Spans.{ListedAt}
 use Rattle.block_stage.specs.declared.covering.EdgeMarks.{EdgeMarks}

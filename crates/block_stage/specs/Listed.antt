@@ -8,6 +8,7 @@ use Rattle.model.specs.Path.{rising, falling}
 use Rattle.model.specs.Detect.{Test}
 use Rattle.coverage.specs.Stage.{MemoryReady}
 use Rattle.block.specs.Table.{CircuitTable}
+use Rattle.detection.specs.Cases.{caseOf}
 use Rattle.block_marks.specs.Marks.{PlaceTable, ListedEdge}
 use Rattle.block_runs.specs.Spans.{InputSpans}
 use Rattle.block_stage.specs.declared.inner.listed.RecordEdges.{RecordEdges}
@@ -28,8 +29,8 @@ edgesAt marks t n outputs = record {
 pub record ListedBoth (N : Netlist) (t : Test) (table places ups downs : List ℕ) (edges : RecordEdges) (ws spans work : List ℕ) : Type 0 where
   pub circuit : CircuitTable N table (edges .inputs) (nets N)
   pub placed : PlaceTable N places
-  pub rises : ListedEdge N t rising ups (edges .rises) (edges .«up_outs»)
-  pub falls : ListedEdge N t falling downs (edges .falls) (edges .«down_outs»)
+  pub rises : ListedEdge (caseOf N t rising) ups (edges .rises) (edges .«up_outs»)
+  pub falls : ListedEdge (caseOf N t falling) downs (edges .falls) (edges .«down_outs»)
   pub inputSpans : InputSpans spans (edges .inputs)
   pub memory : MemoryReady N ws work
 

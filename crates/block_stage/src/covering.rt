@@ -1,5 +1,5 @@
 // One edge of a store with what a record of a block detects. Each caller proves what a function requires.
-ghost use Rattle.intervals.specs.Edges.{Case};
+ghost use Rattle.detection.specs.Cases.{Case};
 ghost use Rattle.coverage.specs.Covers.{heldRuns, Covers};
 ghost use Rattle.block_runs.specs.Spans.{InputSpans};
 ghost use Rattle.block_stage.specs.Covering.{EdgeReady, SomeEdgeReady};

@@ -11,7 +11,7 @@ use borrow.Author.Tests.{leb-true}
 use Rattle.model.specs.Base.{value, checks}
 use Rattle.model.specs.Netlist.{Netlist}
 use Rattle.model.specs.Path.{rising, falling}
-use Rattle.model.specs.Detect.{Test}
+use Rattle.model.specs.Detect.{Test, detects, inNetSet, detectsNumber}
 use Rattle.model.specs.Runs.{Run, workingRuns}
 use Rattle.model.specs.Store.{maxRuns, storeRuns, runsByEdge}
 use Rattle.model.specs.Calls.{runsThen}
@@ -23,9 +23,9 @@ use Rattle.store_writing.specs.Writing.{replaced, changed}
 use Rattle.store_writing.specs.declared.inner.Change.{Change}
 use Rattle.store_writing.specs.declared.inner.Change.the-variants.{Kept, Made}
 use Rattle.store_writing.proofs.EdgeWriteLaws.{length-replaced}
-use Rattle.intervals.specs.Edges.{Case, working}
+use Rattle.detection.specs.Cases.{Case, caseOf, inSet, detectsPath, setRuns, working}
 use Rattle.coverage.specs.Covers.{thenRuns, edgeOf, Covers}
-use Rattle.coverage.specs.Both.{caseOf, joined, bothOf, CoversBoth}
+use Rattle.coverage.specs.Both.{joined, bothOf, CoversBoth}
 use Rattle.coverage.specs.declared.inner.edges.EdgeAnswer.{EdgeAnswer}
 use Rattle.coverage.specs.declared.inner.edges.EdgeAnswer.the-variants.{Covered, OverWork, OverStore}
 use Rattle.coverage.specs.declared.inner.edges.BothAnswer.{BothAnswer}
@@ -118,7 +118,7 @@ still-made {K = K} {s = s} {ws₁ = ws₁} x y (Made from to n) e =
 pub covers-both : {N : Netlist} {t : Test} {ws ws₀ ws₁ ws₂ : List ℕ} {a b : EdgeAnswer} {q : BothAnswer}
     → Covers (caseOf N t rising) (storeRuns ws rising) ws₀ ws₁ (2 * maxRuns) a → Covers (caseOf N t falling) (storeRuns ws falling) ws₁ ws₂ (3 * maxRuns) b
     → q ≡ joined a b → CoversBoth N t ws ws₀ ws₂ q
-unfolding thenRuns
+unfolding thenRuns detectsPath detectsNumber detects working setRuns inSet inNetSet workingRuns
 covers-both {N = N} {t = t} {ws = ws} {a = a} {b = b} x y e = record {
   answers =
       ap bothOf e

@@ -16,7 +16,6 @@ use Rattle.model.specs.Base.{refused, value, checks}
 use Rattle.model.specs.Store.{maxRuns}
 use Rattle.model.specs.Netlist.{pathTotal}
 use Rattle.model.proofs.WellFormed.{WellFormed}
-use Rattle.model.specs.Detect.{detectsNumber}
 use Rattle.model.specs.Runs.{Run, runsOf, inRuns}
 use Rattle.model.proofs.RunLaws.{runs-separated, runs-test, runs-same}
 use Rattle.runs.specs.RunLists.{Sound, inEither, runAt, runsInWords}
@@ -29,8 +28,9 @@ use Rattle.runs.proofs.InsideSteps.{walked-none, inside-union}
 use Rattle.store_writing.specs.Writing.{changed, Within}
 use Rattle.store_writing.specs.declared.inner.Change.{Change}
 use Rattle.store_writing.specs.declared.inner.Change.the-variants.{Kept}
-use Rattle.intervals.specs.Edges.{Case, detected, working, Detects}
-use Rattle.intervals.proofs.DetectedLaws.{few-detected}
+use Rattle.detection.specs.Cases.{Case, detectsPath, detected, working}
+use Rattle.detection.specs.Walks.{Detects}
+use Rattle.detection.proofs.DetectedLaws.{few-detected}
 use Rattle.coverage.specs.Covers.{thenRuns, heldRuns, JoinReady, Covers}
 use Rattle.coverage.specs.declared.inner.edges.EdgeAnswer.{EdgeAnswer}
 use Rattle.coverage.specs.declared.inner.edges.EdgeAnswer.the-variants.{Covered, OverWork}
@@ -64,7 +64,7 @@ full-cases false x e = refl
 
 detected-apart : (K : Case) → Sound (pathTotal (K .netlist)) (detected K)
 unfolding detected
-detected-apart K = runs-separated (detectsNumber (K .netlist) (K .test) (K .edge)) (pathTotal (K .netlist))
+detected-apart K = runs-separated (detectsPath K) (pathTotal (K .netlist))
 
 module _ {K : Case} {ws₀ ws₁ : List ℕ} {q : Added} (d : Detects K ws₀ ws₁ q) {n : ℕ} (t : q ≡ Count n) where
   pub found-is : (leb (working K) maxRuns ≡ true) × (n ≡ length (detected K))
@@ -83,11 +83,11 @@ module _ {K : Case} {ws₀ ws₁ : List ℕ} {q : Added} (d : Detects K ws₀ ws
 pub then-is : (K : Case) (s : List Run) → runsOf (inEither s (detected K)) (pathTotal (K .netlist)) ≡ thenRuns K s
 unfolding detected thenRuns
 then-is K s =
-    runs-same (inEither s (runsOf (detectsNumber (K .netlist) (K .test) (K .edge)) (pathTotal (K .netlist))))
-    (λ k. detectsNumber (K .netlist) (K .test) (K .edge) k || inRuns s k) (pathTotal (K .netlist))
+    runs-same (inEither s (runsOf (detectsPath K) (pathTotal (K .netlist))))
+    (λ k. detectsPath K k || inRuns s k) (pathTotal (K .netlist))
     (λ j h k.
-    ap (λ (b : Bool). inRuns s j || b) (runs-test (detectsNumber (K .netlist) (K .test) (K .edge)) (pathTotal (K .netlist)) j h k)
-    ∙ or-comm (inRuns s j) (detectsNumber (K .netlist) (K .test) (K .edge) j))
+    ap (λ (b : Bool). inRuns s j || b) (runs-test (detectsPath K) (pathTotal (K .netlist)) j h k)
+    ∙ or-comm (inRuns s j) (detectsPath K j))
 
 -- ---- document 01's 50, 51, or neither
 

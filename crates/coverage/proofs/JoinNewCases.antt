@@ -25,8 +25,9 @@ use Rattle.run_union.proofs.MiddleLaws.{sound-middle, middle-union, last-high, 
 use Rattle.store_writing.specs.Writing.{changed, Within}
 use Rattle.store_writing.specs.declared.inner.Change.{Change}
 use Rattle.store_writing.specs.declared.inner.Change.the-variants.{Made}
-use Rattle.intervals.specs.Edges.{Case, Detects}
-use Rattle.place_runs.proofs.AddedLaws.{as-adds, adds-kept}
+use Rattle.detection.specs.Cases.{Case}
+use Rattle.detection.specs.Walks.{Detects}
+use Rattle.detection.proofs.AddedLaws.{as-adds, adds-kept}
 use Rattle.coverage.specs.Covers.{thenRuns, heldRuns, JoinReady, Covers}
 use Rattle.coverage.specs.declared.inner.edges.EdgeAnswer.the-variants.{Covered, OverStore}
 use Rattle.coverage.proofs.CoverLaws.{runs-drop, found-is, found-apart, then-is, rules-store, rules-fit}

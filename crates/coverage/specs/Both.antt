@@ -7,19 +7,15 @@ use lib.ListN.{length, drop}
 use Rattle.model.specs.Base.{Answer, refused, value, checks}
 use Rattle.model.specs.Store.{maxRuns, storeRuns, runsByEdge}
 use Rattle.model.specs.Netlist.{Netlist}
-use Rattle.model.specs.Path.{Edge, rising, falling}
+use Rattle.model.specs.Path.{rising, falling}
 use Rattle.model.specs.Detect.{Test}
 use Rattle.model.specs.Calls.{runsThen, workRules}
 use Rattle.store_writing.specs.Writing.{changed, Within}
 use Rattle.store_writing.specs.declared.inner.Change.{Change}
-use Rattle.intervals.specs.Edges.{Case}
 use Rattle.coverage.specs.declared.inner.edges.EdgeAnswer.{EdgeAnswer}
 use Rattle.coverage.specs.declared.inner.edges.EdgeAnswer.the-variants.{Covered, OverWork, OverStore}
 use Rattle.coverage.specs.declared.inner.edges.BothAnswer.{BothAnswer}
 use Rattle.coverage.specs.declared.inner.edges.BothAnswer.the-variants.{Fits, WorkOver, StoreOver}
-
-abbrev pub caseOf : Netlist → Test → Edge → Case
-caseOf N t e = record { netlist = N; test = t; edge = e }
 
 -- the answers of two edges as one
 abbrev pub joined : EdgeAnswer → EdgeAnswer → BothAnswer

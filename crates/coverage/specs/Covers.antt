@@ -9,20 +9,19 @@ use lib.ListN.{length, drop}
 use Rattle.model.specs.Base.{Answer, refused, value, Rule, checks}
 use Rattle.model.specs.Store.{maxRuns}
 use Rattle.model.specs.Netlist.{pathTotal}
-use Rattle.model.specs.Detect.{detectsNumber}
 use Rattle.model.specs.Runs.{Run, runsOf, inRuns}
 use Rattle.runs.specs.RunLists.{Sound, runsInWords}
 use Rattle.runs.specs.declared.inner.Added.{Added}
 use Rattle.runs.specs.declared.inner.Added.the-variants.{Count}
 use Rattle.store_writing.specs.Writing.{changed, Within}
 use Rattle.store_writing.specs.declared.inner.Change.{Change}
-use Rattle.intervals.specs.Edges.{Case, working}
+use Rattle.detection.specs.Cases.{Case, detectsPath, working}
 use Rattle.coverage.specs.declared.inner.edges.EdgeAnswer.{EdgeAnswer}
 use Rattle.coverage.specs.declared.inner.edges.EdgeAnswer.the-variants.{Covered, OverWork, OverStore}
 
 -- the runs of an edge after the test, where the store holds the runs `s`
 unfoldable pub thenRuns : Case → List Run → List Run
-thenRuns K s = runsOf (λ k. detectsNumber (K .netlist) (K .test) (K .edge) k || inRuns s k) (pathTotal (K .netlist))
+thenRuns K s = runsOf (λ k. detectsPath K k || inRuns s k) (pathTotal (K .netlist))
 
 -- words that are runs, two for each
 abbrev pub heldRuns : List ℕ → List Run

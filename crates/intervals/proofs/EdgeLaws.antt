@@ -26,17 +26,24 @@ use Rattle.runs.specs.declared.inner.Added.{Added}
 use Rattle.runs.specs.declared.inner.Added.the-variants.{Count, Full}
 use Rattle.run_union.proofs.Adding.{answer-fits}
 use Rattle.run_union.proofs.Adding.{adds-count}
-use Rattle.intervals.specs.Edges.{Case, EdgeAt, SomeEdgeAt, detected, working, Detects}
-use Rattle.intervals.specs.Nets.{setRuns, inputRuns, Stand, Kept, NetsAt, SomeNetsAt, NetsMade}
+use Rattle.detection.specs.Cases.{Case, setRuns, detected, working}
+use Rattle.detection.specs.Walks.{inputRuns, Kept, Detects}
+use Rattle.detection.proofs.AddedLaws.{as-adds, adds-kept, full-count}
+use Rattle.detection.proofs.PlaceRunLaws.{paths-most}
+use Rattle.detection.proofs.DetectedLaws.{unmade-edge, input-set, set-sound, OutIs, detected-set, working-all, few-detected}
 use Rattle.place_runs.specs.RunsOfPlaces.{outputPlaces, outputRuns, runsIn, NetReady, OutputsReady}
-use Rattle.place_runs.proofs.AddedLaws.{as-adds, adds-kept, full-count}
-use Rattle.intervals.proofs.PlaceRunLaws.{paths-most}
+use Rattle.intervals.specs.Edges.{EdgeAt, SomeEdgeAt}
+use Rattle.intervals.specs.Nets.{Stand, NetsAt, SomeNetsAt, NetsMade}
 use Rattle.intervals.proofs.StandLaws.{stand-same, stand-runs, stand-net}
-use Rattle.intervals.proofs.DetectedLaws.{no-edge, input-set, set-sound, OutIs, detected-set, working-all, few-detected}
 
 total-is : (N : Netlist) → sumOf (outputCounts N) ≡ pathTotal N
 unfolding pathTotal
 total-is N = refl
+
+-- an edge that no input makes
+pub no-edge : {K : Case} {file positions pathCounts masks : List ℕ} {edges : ℕ} {shape : Shape} {ws : List ℕ} → edges ≡ 0
+    → EdgeAt K file positions pathCounts masks edges shape ws → Detects K ws ws (Count 0)
+no-edge {K} {file} {ws = ws} z a = unmade-edge K (legal file (K .netlist) (a .tables .legal)) z (a .makesEdge) ws
 
 -- after the inputs
 module _ {file ps cs masks : List ℕ} {edges : ℕ} {shape : Shape} {ws₀ ws₁ starts₁ : List ℕ} {first : ℕ}

@@ -8,7 +8,6 @@ use borrow.Author.Needs.{needs}
 use lib.ListN.{length, getD, set, take}
 use mir.Val.{Fits}
 use mir.Syntax.{w16, w64}
-use Rattle.model.specs.Detect.{openPin}
 use Rattle.model.specs.Netlist.{Netlist, nets, pinsOf, pinNet, pinCounts}
 use Rattle.model.specs.Store.{maxRuns}
 use Rattle.model.proofs.NumberLaws.{length-pinCounts, pinCounts-at}
@@ -22,13 +21,15 @@ use Rattle.runs.specs.Answers.{Adds}
 use Rattle.runs.specs.declared.inner.Added.{Added}
 use Rattle.runs.specs.declared.inner.Added.the-variants.{Count, Full}
 use Rattle.run_union.proofs.Adding.{answer-over, adds-count}
-use Rattle.intervals.specs.Edges.{Case}
-use Rattle.intervals.specs.Nets.{setRuns, Stand, Kept, NetsAt, SomeNetsAt, NetsMade}
+use Rattle.detection.specs.Cases.{Case, setRuns}
+use Rattle.detection.specs.Walks.{Kept}
+use Rattle.detection.proofs.AddedLaws.{as-adds, take-short, full-count}
+use Rattle.detection.proofs.KeptLaws.{runs-next, runs-mono, kept-refl, kept-then, kept-write}
+use Rattle.detection.proofs.PlaceRunLaws.{paths-most}
+use Rattle.detection.proofs.DetectedLaws.{PinIs, pins-all, gate-set, set-sound, working-all}
 use Rattle.place_runs.specs.RunsOfPlaces.{gatePlaces, runsIn, gateRuns, NetReady, GateReady}
-use Rattle.place_runs.proofs.AddedLaws.{as-adds, take-short, full-count}
-use Rattle.intervals.proofs.PlaceRunLaws.{paths-most}
-use Rattle.intervals.proofs.StandLaws.{runs-next, runs-mono, kept-refl, kept-then, kept-write, stand-runs, stand-net, stand-more}
-use Rattle.intervals.proofs.DetectedLaws.{PinIs, pins-all, gate-set, set-sound, working-all}
+use Rattle.intervals.specs.Nets.{Stand, NetsAt, SomeNetsAt, NetsMade}
+use Rattle.intervals.proofs.StandLaws.{stand-runs, stand-net, stand-more}
 
 pub record NetsDone (file ps cs masks : List ℕ) (shape : Shape) (ws₀ starts₀ : List ℕ) (first : ℕ) (ws starts : List ℕ) (net start : ℕ) : Type 0 where
   pub some : SomeNetsAt file ps cs masks shape ws₀ starts₀ first
@@ -113,7 +114,7 @@ module _ {file ps cs masks : List ℕ} {shape : Shape} {ws₀ starts₀ : List �
                       (stand-net s start (omega arith) (omega (arith, nets-below)) (pinNet N net p) (g .lower p l) (set-sound K lim (pinNet N net p)));
                   offsets = λ p l.
                       let most = paths-most (gatePlaces part (getD masks net 0) cs) (runsIn starts ws) (pinCounts N net)
-                      (openPin N (K .test) net) (λ x. setRuns K (pinNet N net x)) is p (omega (arith, many)) in
+                      (K .isOpen net) (λ x. setRuns K (pinNet N net x)) is p (omega (arith, many)) in
                       omega (arith, most, pins-all K w net low high, lim .countsFit net);
                 };
               }

@@ -20,8 +20,10 @@ use Rattle.runs.specs.Answers.{Adds}
 use Rattle.runs.specs.declared.inner.Added.the-variants.{Count}
 use Rattle.model.proofs.BoolLaws.{cases}
 use Rattle.run_union.proofs.Adding.{answer-fits}
-use Rattle.place_runs.specs.RunsOfPlaces.{pathsBefore, firstRuns, runsIn, gatePlaces, gateRuns, GateReady}
-use Rattle.place_runs.proofs.AddedLaws.{as-adds, times-most}
+use Rattle.detection.specs.PlaceRuns.{pathsBefore, firstRuns}
+use Rattle.detection.proofs.AddedLaws.{as-adds}
+use Rattle.place_runs.specs.RunsOfPlaces.{runsIn, gatePlaces, gateRuns, GateReady}
+use Rattle.place_runs.proofs.OpenNetLaws.{times-most}
 use Rattle.intervals.specs.OpenRuns.{countIf, runCount, pinRuns, openRuns, PinsReady}
 
 -- ---- the runs of one pin's net

@@ -6,45 +6,20 @@ use mathlib.Core.Bool.{Bool, true, false}
 use mathlib.Core.List.{List, [], _∷_}
 use native.Mathlib.Omega.{arith}
 use native.Mathlib.Nat.{le-refl}
-use native.Mathlib.Numerals.{add-one}
 use borrow.Author.Needs.{needs}
 use lib.Dec.{eqb}
-use lib.ListN.{length, getD, set, drop, length-set}
+use lib.ListN.{length, getD, set, length-set}
 use lib.Seq.{getD-set-same, getD-set-other}
 use Rattle.model.specs.Base.{bit}
 use Rattle.model.specs.Runs.{Run, run}
 use Rattle.model.specs.Store.{maxRuns}
 use Rattle.runs.specs.RunLists.{Sound, onlyIf, runsInWords, writeRuns}
 use Rattle.model.proofs.BoolLaws.{cases}
-use Rattle.run_union.proofs.RunWriteLaws.{length-writeRuns, runs-write, runs-write-before}
+use Rattle.run_union.proofs.RunWriteLaws.{runs-write, runs-write-before}
 use Rattle.place_runs.specs.RunsOfPlaces.{runsIn, NetReady}
-use Rattle.intervals.specs.Nets.{inputRuns, runsBefore, Stand, Kept}
-use Rattle.place_runs.proofs.AddedLaws.{drop-write}
-
--- ---- places of the nets' runs
-
-pub runs-next : (f : ℕ → List Run) (q : ℕ) → runsBefore f (q + 1) ≡ runsBefore f q + length (f q)
-runs-next f q = rw (add-one q)
-
-pub runs-mono : (f : ℕ → List Run) (q n : ℕ) → q ≤ n → runsBefore f q ≤ runsBefore f n
-runs-mono f q zero h = let e : q ≡ 0 = omega arith in rw e (le-refl 0)
-runs-mono f q (suc n) h = cases q n
-    (λ k. omega (arith, runs-mono f q n k))
-    (λ k. let e : q ≡ suc n = omega arith in rw e (le-refl (runsBefore f (suc n))))
-
--- ---- words past the first quarter
-
-pub kept-refl : (ws : List ℕ) → Kept ws ws
-kept-refl ws = record { same = refl; above = λ k l. refl }
-
-pub kept-then : {ws₀ ws₁ ws₂ : List ℕ} → Kept ws₀ ws₁ → Kept ws₁ ws₂ → Kept ws₀ ws₂
-kept-then a b = record { same = b .same ∙ a .same; above = λ k l. b .above k l ∙ a .above k l }
-
-pub kept-write : {ws ws′ : List ℕ} (start : ℕ) (s : List Run) → ws′ ≡ writeRuns ws start s → start + length s ≤ maxRuns → Kept ws ws′
-kept-write {ws} start s e h = record {
-  same = ap length e ∙ length-writeRuns ws start s;
-  above = λ k l. ap (drop k) e ∙ drop-write k ws start s (omega arith);
-}
+use Rattle.detection.specs.Walks.{inputRuns, runsBefore, Kept}
+use Rattle.detection.proofs.KeptLaws.{runs-next, runs-mono, kept-refl, kept-then, kept-write}
+use Rattle.intervals.specs.Nets.{Stand}
 
 -- ---- the nets so far
 

@@ -1,34 +1,20 @@
 -- The runs of one net after the other in the first quarter of the working words.
 -- Assumes nothing.
-use Prim.Native.Nat.{ℕ, zero, suc, _+_, _*_, _≤_, _<_}
+use Prim.Native.Nat.{ℕ, _*_, _≤_, _<_}
 use mathlib.Core.Path.{_≡_}
-use mathlib.Core.List.{List, [], _∷_}
-use lib.ListN.{length, getD, drop}
-use Rattle.model.specs.Base.{bit}
+use mathlib.Core.List.{List}
+use lib.ListN.{length, getD}
 use Rattle.model.specs.Store.{maxRuns}
-use Rattle.model.specs.Netlist.{nets, counts}
-use Rattle.model.specs.Detect.{inNetSet}
-use Rattle.model.specs.Runs.{Run, runsOf, run}
+use Rattle.model.specs.Netlist.{nets}
+use Rattle.model.specs.Runs.{Run}
 use Rattle.netlist.specs.Tables.{CircuitTables}
 use Rattle.netlist.specs.declared.inner.Shape.{Shape}
-use Rattle.runs.specs.RunLists.{onlyIf, runsInWords}
+use Rattle.runs.specs.RunLists.{runsInWords}
 use Rattle.runs.specs.declared.inner.Added.{Added}
 use Rattle.runs.specs.declared.inner.Added.the-variants.{Count, Full}
-use Rattle.simulation.specs.Simulated.{OpenMasks}
-use Rattle.intervals.specs.Edges.{Case, working}
-
--- the runs of a net's set
-unfoldable pub setRuns : Case → ℕ → List Run
-setRuns K net = runsOf (inNetSet (K .netlist) (K .test) (K .edge) net) (getD (counts (K .netlist)) net 0)
-
--- the runs of an input, by its bit: number 1 where it makes the edge
-unfoldable pub inputRuns : ℕ → ℕ → List Run
-inputRuns edges input = onlyIf (bit edges input) (run 1 1 ∷ [])
-
--- how many runs the first n nets have
-abbrev pub runsBefore : (ℕ → List Run) → ℕ → ℕ
-runsBefore netRuns zero = 0
-runsBefore netRuns (suc n) = runsBefore netRuns n + length (netRuns n)
+use Rattle.detection.specs.Cases.{Case, setRuns, working}
+use Rattle.detection.specs.Walks.{runsBefore, Kept}
+use Rattle.intervals.specs.Edges.{OpenBits}
 
 -- the runs of the nets before `net` stand in the words, one net after the other; `starts` says where each net's begin, `start` is the place after them
 pub record Stand (netRuns : ℕ → List Run) (ws starts : List ℕ) (net start : ℕ) : Type 0 where
@@ -38,15 +24,10 @@ pub record Stand (netRuns : ℕ → List Run) (ws starts : List ℕ) (net start 
   pub startsAre : (q : ℕ) → q ≤ net → getD starts q 0 ≡ runsBefore netRuns q
   pub runsAre : (q : ℕ) → q < net → runsInWords ws (runsBefore netRuns q) (length (netRuns q)) ≡ netRuns q
 
--- no word past the first quarter is changed
-pub record Kept (ws ws′ : List ℕ) : Type 0 where
-  pub same : length ws′ ≡ length ws
-  pub above : (k : ℕ) → 2 * maxRuns ≤ k → drop k ws′ ≡ drop k ws
-
 -- the tables of a case, and the runs of its inputs, `first` of them
 pub record NetsAt (K : Case) (file positions pathCounts masks : List ℕ) (shape : Shape) (ws starts : List ℕ) (first : ℕ) : Type 0 where
   pub tables : CircuitTables (K .netlist) file positions pathCounts shape
-  pub openPins : OpenMasks (K .netlist) (K .test) masks
+  pub openPins : OpenBits K masks
   pub room : 2 * maxRuns ≤ length ws
   pub inputsStand : Stand (setRuns K) ws starts (shape .inputs) first
 

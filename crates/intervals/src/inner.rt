@@ -1,5 +1,7 @@
-// The interval work of one edge of a test, for our own crates.
-ghost use Rattle.intervals.specs.Edges.{Case, EdgeAt, SomeEdgeAt, Detects};
+// The interval work of one edge, for our own crates.
+ghost use Rattle.detection.specs.Cases.{Case};
+ghost use Rattle.detection.specs.Walks.{Detects};
+ghost use Rattle.intervals.specs.Edges.{EdgeAt, SomeEdgeAt};
 use crate::nets::input_runs;
 use crate::nets::net_runs;
 use netlist::inner::Shape;
@@ -7,7 +9,7 @@ use netlist::inner::outputs_part;
 use place_runs::inner::outputs::out_runs;
 use runs::inner::Added;
 
-// Makes the runs of the path numbers that the test detects, net by net, or answers Full where the working runs are over 1,024. No work where no input makes
+// Makes the runs of the detected path numbers, net by net, or answers Full where the working runs are over 1,024. No work where no input makes
 // the edge: then nothing is detected.
 pub fn detected_runs(
     netlist: &[u8],

@@ -1,3 +1,3 @@
-// The interval method: the runs of every net's set for one edge of a test, then those of the detected path numbers.
+// The interval method: the runs of every net's set for one edge, then those of the detected path numbers.
 pub mod inner;
 mod nets;

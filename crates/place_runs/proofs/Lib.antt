@@ -1,3 +1,3 @@
--- Laws of calls that add runs, then the cases of the loops over places.
-pub mod AddedLaws
+-- The runs of a place that is open or not, then the cases of the loops over places.
+pub mod OpenNetLaws
 pub mod PlaceRunSteps

@@ -20,8 +20,9 @@ use Rattle.model.proofs.BoolLaws.{cases}
 use Rattle.run_union.proofs.AddRunLaws.{addRuns-length, addRuns-take}
 use Rattle.run_union.proofs.Adding.{answer-full}
 use Rattle.run_union.proofs.Adding.{Adding, adding-start, adding-runs, adding-length, adding-done, answer-over, part-full, part-more}
-use Rattle.place_runs.specs.RunsOfPlaces.{Places, pathsBefore, placeRuns, firstRuns, runsIn, withNet, NetReady, PlacesReady}
-use Rattle.place_runs.proofs.AddedLaws.{as-adds}
+use Rattle.detection.specs.PlaceRuns.{Places, pathsBefore, placeRuns, firstRuns}
+use Rattle.detection.proofs.AddedLaws.{as-adds}
+use Rattle.place_runs.specs.RunsOfPlaces.{runsIn, withNet, NetReady, PlacesReady}
 
 pub paths-next : (P : Places) (p : ℕ) → pathsBefore P (p + 1) ≡ pathsBefore P p + P .paths (P .netOf p)
 paths-next P p = rw (add-one p)

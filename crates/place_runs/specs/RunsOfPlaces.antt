@@ -1,8 +1,8 @@
--- The runs that a gate's pins, or the outputs, add one after the other, each shifted by the paths of the places before it.
+-- The places of a gate's pins and of the outputs by a netlist's file, and the runs that they add from nets' runs that stand in words.
 -- Assumes nothing.
-use Prim.Native.Nat.{ℕ, zero, suc, _+_, _-_, _*_, _≤_, _<_, _^_}
+use Prim.Native.Nat.{ℕ, _+_, _-_, _*_, _≤_, _<_, _^_}
 use mathlib.Core.Bool.{Bool}
-use mathlib.Core.List.{List, []}
+use mathlib.Core.List.{List}
 use lib.Dec.{leb}
 use lib.ListN.{length, getD}
 use Rattle.model.specs.Base.{bit}
@@ -11,26 +11,7 @@ use Rattle.model.specs.Runs.{Run}
 use Rattle.model.specs.Store.{maxRuns}
 use Rattle.netlist.specs.Tables.{pinCountIn, pinIn, outputAt}
 use Rattle.runs.specs.RunLists.{Sound, onlyIf, addRuns, shiftRuns, runsInWords}
-
--- a gate's pins, or the outputs: the net at each place, whether the place is open, from the place and its net, and how many paths a net has there
-pub record Places : Type 0 where
-  pub netOf : ℕ → ℕ
-  pub opens : ℕ → ℕ → Bool
-  pub paths : ℕ → ℕ
-
--- the paths of the places before p
-abbrev pub pathsBefore : Places → ℕ → ℕ
-pathsBefore P zero = 0
-pathsBefore P (suc p) = pathsBefore P p + P .paths (P .netOf p)
-
--- what a place adds: the runs of its net, shifted by the paths of the places before, where it is open
-abbrev pub placeRuns : Places → (ℕ → List Run) → ℕ → List Run
-placeRuns P netRuns p = onlyIf (P .opens p (P .netOf p)) (shiftRuns (pathsBefore P p) (netRuns (P .netOf p)))
-
--- the runs of the first n places
-unfoldable pub firstRuns : Places → (ℕ → List Run) → ℕ → List Run
-firstRuns P netRuns zero = []
-firstRuns P netRuns (suc n) = addRuns (firstRuns P netRuns n) (placeRuns P netRuns n)
+use Rattle.detection.specs.PlaceRuns.{Places, pathsBefore, firstRuns}
 
 -- the runs of a net, by the starts of the nets' runs in the words
 unfoldable pub runsIn : List ℕ → List ℕ → ℕ → List Run

@@ -2,23 +2,13 @@
 pub mod gates;
 pub mod outputs;
 
-ghost use mathlib.Core.Path.{_≡_};
 ghost use Prim.Native.Nat.{_<_, _≤_, _^_};
 ghost use lib.Dec.{eqb};
-ghost use Rattle.model.specs.Base.{bit};
 ghost use Rattle.runs.specs.Answers.{Room, Adds};
 ghost use Rattle.place_runs.specs.RunsOfPlaces.{NetReady, withNet};
 use records::inner::wide_word;
 use run_union::inner::append_shifted;
 use runs::inner::Added;
-
-// A digit of a word: 1 where the pin is open, or where the input makes the edge.
-pub fn digit(word: u64, place: u64) -> usize
-    requires { ⌜ place < 64 ⌝ }
-    ensures { λ r. ⌜ (r < 2) × (eqb r 1 ≡ bit word place) ⌝ }
-{
-    ((word >> place) & 1) as usize
-}
 
 // Adds the runs of a net, shifted, where `opened` is 1, and none where it is 0. Pins are open and shut without a pattern, and a branch on each would be
 // mispredicted: a shut pin has 0 times as many runs.

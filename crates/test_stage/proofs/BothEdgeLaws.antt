@@ -16,9 +16,11 @@ use Rattle.runs.specs.RunLists.{Sound}
 use Rattle.runs.specs.declared.inner.Added.{Added}
 use Rattle.test_records.specs.declared.inner.InputEdges.{InputEdges}
 use Rattle.store_words.specs.Sound.{FewRuns, edgeWords}
-use Rattle.intervals.specs.Edges.{Case, EdgeAt, SomeEdgeAt, Detects}
+use Rattle.detection.specs.Cases.{Case, caseOf}
+use Rattle.detection.specs.Walks.{Detects}
+use Rattle.intervals.specs.Edges.{EdgeAt, SomeEdgeAt}
 use Rattle.coverage.specs.Covers.{heldRuns, JoinReady, Covers}
-use Rattle.coverage.specs.Both.{caseOf, joined, CoversBoth}
+use Rattle.coverage.specs.Both.{joined, CoversBoth}
 use Rattle.coverage.specs.Stage.{BothMade, SomeBothMade, workStage, StageIs}
 use Rattle.coverage.specs.declared.inner.edges.EdgeAnswer.{EdgeAnswer}
 use Rattle.coverage.specs.declared.inner.edges.BothAnswer.{BothAnswer}
@@ -39,7 +41,7 @@ pins-edge p falling = p .fall
 
 edge-at : {N : Netlist} {t : Test} {file ps cs masks : List ℕ} {edges : InputEdges} {shape : Shape} → CircuitTables N file ps cs shape → PinsOf N t masks edges
     → (e : Edge) {work : List ℕ} → 8 * maxRuns ≤ length work → EdgeAt (caseOf N t e) file ps cs masks (inputsOf edges e) shape work
-edge-at c p e l = record { tables = c; openPins = p .openPins; makesEdge = pins-edge p e; room = omega arith }
+edge-at c p e l = record { tables = c; openPins = record { opens = p .openPins .opens }; makesEdge = pins-edge p e; room = omega arith }
 
 -- Both edges, where the detected runs are those of any case that the tables are of
 module _ {file ps cs masks : List ℕ} {edges : InputEdges} {shape : Shape} {ws work : List ℕ} (h : WorkReady file ps cs masks edges shape ws work) where
@@ -57,7 +59,7 @@ module _ {file ps cs masks : List ℕ} {edges : InputEdges} {shape : Shape} {ws 
       → {target : ℕ} → 2 * maxRuns ≤ target → target + maxRuns ≤ 4 * maxRuns → JoinReady q held work₂ target
   join-ready e {work₁ = work₁} l₁ l₂ found is low high =
       let d = found (caseOf (h .stage .circuit) (h .test) e) (edge-at (h .stage .tables) (h .pins) e (long work₁ l₁)) in
-      ready-to-join (h .stage .memory) e is d file (h .stage .tables .legal) l₂ low high
+      ready-to-join d (h .stage .memory) e is file (h .stage .tables .legal) l₂ low high
 
   pub both-covered : {work₁ work₂ work₃ work₄ : List ℕ} → length work₂ ≡ length work → {up down : Added}
       → ((K : Case) → EdgeAt K file ps cs masks (edges .rises) shape work → Detects K work work₁ up) → {heldUp : List ℕ} → heldUp ≡ edgeWords ws rising → {a : EdgeAnswer}
@@ -70,7 +72,7 @@ module _ {file ps cs masks : List ℕ} {edges : InputEdges} {shape : Shape} {ws 
       let m = same-memory (h .stage) c in
       let up = fr (caseOf N t rising) (edge-at c p rising (long work (λ i. length work))) in
       let down = ff (caseOf N t falling) (edge-at c p falling (long work₂ l)) in
-      covers-both (edge-covered m rising hr up jr) (edge-covered m falling hf down jf) is
+      covers-both (edge-covered up m rising hr jr) (edge-covered down m falling hf jf) is
 
 -- What is written, for every netlist that the tables are of
 module _ {file ps cs masks : List ℕ} {edges : InputEdges} {shape : Shape} {ws work : List ℕ} (h : WorkReady file ps cs masks edges shape ws work)

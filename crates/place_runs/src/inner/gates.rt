@@ -4,7 +4,7 @@ ghost use Rattle.model.specs.Store.{maxRuns};
 ghost use Rattle.runs.specs.Answers.{Adds};
 ghost use Rattle.place_runs.specs.RunsOfPlaces.{GateReady, gateRuns};
 use crate::inner::add_net;
-use crate::inner::digit;
+use detection::inner::digit;
 use model::MAX_RUNS;
 use netlist::inner::pin_net;
 use records::inner::wide;

@@ -1,7 +1,7 @@
 -- `place_runs::inner::add_net` meets its contract: as many runs of the net as the place lets through.
 -- Assumes nothing.
 use borrow.Author.Needs.{needs}
-use Rattle.place_runs.proofs.AddedLaws.{net-cases}
+use Rattle.place_runs.proofs.OpenNetLaws.{net-cases}
 use Rattle.place_runs.proofs.inner.add_net.Statement.{statement}
 use Rattle.place_runs.proofs.inner.add_net.Tie as tie
 

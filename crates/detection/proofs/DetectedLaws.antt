@@ -1,4 +1,4 @@
--- The runs of the nets' sets and of the detected path numbers by the model: what a gate's pins and the outputs add makes them (document 01: "its number at the
+-- The runs of the nets' sets and of the detected path numbers of a case: what a gate's pins and the outputs add makes them (document 01: "its number at the
 -- net of pin k plus the counts of the gate's pins before k"), the detected are no more than the working runs, and there is none without an edge.
 -- Assumes nothing.
 use Prim.Native.Nat.{ℕ, zero, suc, _+_, _≤_, _<_, _^_}
@@ -14,27 +14,25 @@ use Rattle.model.specs.Base.{bit, sumOf, numbersFrom}
 use Rattle.records.proofs.BitLaws.{zero-bit}
 use Rattle.model.specs.Netlist.{Netlist, nets, counts, pinsOf, pinNet, pinCounts, pathTotal, outputCount, outputCounts, outputNet}
 use Rattle.model.specs.Path.{countsBefore}
-use Rattle.model.specs.Detect.{openPin, hasEdge, inNetSet, detectsNumber}
-use Rattle.model.specs.Runs.{Run, runsOf, workingRuns, run}
+use Rattle.model.specs.Runs.{Run, runsOf, run}
 use Rattle.model.specs.Store.{maxRuns}
 use Rattle.model.proofs.BoolLaws.{true→T, and3}
 use Rattle.model.proofs.NetLaws.{count-gate, count-input}
-use Rattle.model.proofs.NetSetLaws.{set-gate, set-input, set-output}
 use Rattle.model.proofs.NumberLaws.{length-pinCounts, pinCounts-at, pin-lower, output-net, length-outputCounts, outputCounts-is, outputCounts-at, outputCounts-none, countsBefore-suc}
-use Rattle.model.proofs.ReadLaws.{legal, Limits}
+use Rattle.model.proofs.ReadLaws.{Limits}
 use Rattle.model.proofs.RunLaws.{runs-by, runs-separated}
 use Rattle.model.proofs.WellFormed.{WellFormed, ascendingNets}
-use Rattle.netlist.specs.declared.inner.Shape.{Shape}
 use Rattle.runs.specs.RunLists.{Sound, onlyIf, addRuns, shiftRuns, runsInWords}
 use Rattle.runs.specs.declared.inner.Added.the-variants.{Count, Full}
 use Rattle.run_union.proofs.ShiftLaws.{addRuns-part}
 use Rattle.model.proofs.BoolLaws.{cases}
 use Rattle.runs.proofs.MemberLaws.{sound-mono}
-use Rattle.intervals.specs.Edges.{Case, EdgeAt, detected, working, Detects}
-use Rattle.intervals.specs.Nets.{setRuns, runsBefore}
-use Rattle.place_runs.specs.RunsOfPlaces.{Places, firstRuns}
-use Rattle.intervals.proofs.PlaceRunLaws.{PlaceIs, first-make, first-none, first-few}
-use Rattle.intervals.proofs.StandLaws.{runs-next, runs-mono}
+use Rattle.detection.specs.Cases.{Case, inSet, detectsPath, setRuns, detected, working}
+use Rattle.detection.specs.PlaceRuns.{Places, firstRuns}
+use Rattle.detection.specs.Walks.{runsBefore, Detects}
+use Rattle.detection.proofs.SetLaws.{set-input, set-gate, set-output}
+use Rattle.detection.proofs.KeptLaws.{runs-next, runs-mono}
+use Rattle.detection.proofs.PlaceRunLaws.{PlaceIs, first-make, first-none, first-few}
 
 -- a set of at most the number 1
 single : (P : ℕ → Bool) (b : Bool) → ((k : ℕ) → P k ≡ b) → onlyIf b (run 1 1 ∷ []) ≡ runsOf P 1
@@ -64,10 +62,10 @@ module _ (K : Case) where
   N = K .netlist
 
   abbrev set : ℕ → ℕ → Bool
-  set net = inNetSet (K .netlist) (K .test) (K .edge) net
+  set net = inSet K net
 
   abbrev D : ℕ → Bool
-  D k = detectsNumber (K .netlist) (K .test) (K .edge) k
+  D k = detectsPath K k
 
   pub set-sound : Limits N → (net : ℕ) → Sound (2 ^ 62) (setRuns K net)
   unfolding setRuns
@@ -80,19 +78,19 @@ module _ (K : Case) where
   sum-runs (suc n) k = let e : suc k + n ≡ k + suc n = omega arith in omega (arith, sum-runs n (suc k) ∙ ap (runsBefore (setRuns K)) e)
 
   pub working-all : working K ≡ runsBefore (setRuns K) (nets N)
-  unfolding workingRuns setRuns
+  unfolding working
   working-all = let z : 0 + nets N ≡ nets N = omega arith in omega (arith, sum-runs (nets N) 0 ∙ ap (runsBefore (setRuns K)) z)
 
   module _ (w : WellFormed (K .netlist)) where
     -- The runs of an input
-    pub input-set : (net : ℕ) → net < N .inputs → onlyIf (hasEdge (K .test) (K .edge) net) (run 1 1 ∷ []) ≡ setRuns K net
+    pub input-set : (net : ℕ) → net < N .inputs → onlyIf (K .makesEdge net) (run 1 1 ∷ []) ≡ setRuns K net
     unfolding setRuns
-    input-set net i = single (set net) (hasEdge (K .test) (K .edge) net) (λ k. set-input N w (K .test) (K .edge) net k i) ∙ ap (runsOf (set net)) (sym (count-input N net i))
+    input-set net i = single (set net) (K .makesEdge net) (λ k. set-input K w net k i) ∙ ap (runsOf (set net)) (sym (count-input N net i))
 
     -- The runs of a gate's net
     module _ (net : ℕ) (i : K .netlist .inputs ≤ net) (l : net < nets (K .netlist)) where
       abbrev pub PinIs : Places → (ℕ → List Run) → ℕ → Type 0
-      PinIs P f p = PlaceIs P f p (openPin (K .netlist) (K .test) net p) (getD (pinCounts (K .netlist) net) p 0) (setRuns K (pinNet (K .netlist) net p))
+      PinIs P f p = PlaceIs P f p (K .isOpen net p) (getD (pinCounts (K .netlist) net) p 0) (setRuns K (pinNet (K .netlist) net p))
 
       pub pins-all : sumOf (pinCounts N net) ≡ getD (counts N) net 0
       pins-all = sym (count-gate N (w .lowerPins) net i l)
@@ -102,12 +100,12 @@ module _ (K : Case) where
       unfolding setRuns
       gate-set P f is e =
           let pc = pinCounts N net in
-          first-make P f pc (openPin N (K .test) net) (λ p. setRuns K (pinNet N net p)) is (set net)
+          first-make P f pc (K .isOpen net) (λ p. setRuns K (pinNet N net p)) is (set net)
           (λ p h.
           let k : p < length (pinsOf N net) = omega (arith, length-pinCounts N w net) in
           let next : countsBefore p pc + getD (counts N) (pinNet N net p) 0 ≡ countsBefore (suc p) pc = omega (arith, countsBefore-suc pc p h, pinCounts-at N w net p k) in
-          addRuns-part (set net) (set (pinNet N net p)) (countsBefore p pc) (getD (counts N) (pinNet N net p) 0) (openPin N (K .test) net p)
-          (λ r m o. set-gate N w (K .test) (K .edge) net p r i l k m o)
+          addRuns-part (set net) (set (pinNet N net p)) (countsBefore p pc) (getD (counts N) (pinNet N net p) 0) (K .isOpen net p)
+          (λ r m o. set-gate K w net p r i l k m o)
           ∙ ap (runsOf (set net)) next)
           e
           ∙ ap (runsOf (set net)) pins-all
@@ -133,7 +131,7 @@ module _ (K : Case) where
         let c : getD (outputCounts N) o 0 ≡ getD (counts N) net 0 = outputCounts-at N w o lt i in
         let step : from + getD (counts N) net 0 ≡ countsBefore (suc o) (outputCounts N) = omega (arith, next) in
         shown true (le-leb (N .inputs) net i)
-        ∙ addRuns-part D (set net) from (getD (counts N) net 0) true (λ r m k. set-output N w (K .test) (K .edge) o r lt m (omega (arith, c)))
+        ∙ addRuns-part D (set net) from (getD (counts N) net 0) true (λ r m k. set-output K w o r lt m (omega (arith, c)))
         ∙ ap (runsOf D) step)
         (λ i.
         let step : from ≡ countsBefore (suc o) (outputCounts N) = omega (arith, next, outputCounts-none N w o lt i) in
@@ -170,13 +168,13 @@ module _ (K : Case) where
 
     -- ---- an edge that no input makes
 
-    module _ (h : (j : ℕ) → j < K .netlist .inputs → hasEdge (K .test) (K .edge) j ≡ false) where
+    module _ (h : (j : ℕ) → j < K .netlist .inputs → K .makesEdge j ≡ false) where
       no-runs : (fuel net : ℕ) → net < fuel → net < nets N → setRuns K net ≡ []
       no-runs zero net l m = absurd (omega arith)
       no-runs (suc fuel) net l m = cases (N .inputs) net
           (λ i.
           let many = length-pinCounts N w net in
-          let pins : Places = record { netOf = pinNet N net; opens = λ p q. openPin N (K .test) net p; paths = λ q. getD (counts N) q 0 } in
+          let pins : Places = record { netOf = pinNet N net; opens = λ p q. K .isOpen net p; paths = λ q. getD (counts N) q 0 } in
           sym (gate-set net i m pins (setRuns K) (λ p k. record { opensAre = refl; pathsAre = sym (pinCounts-at N w net p (omega (arith, many))); runsAre = refl }) (sym many))
           ∙ first-none pins (setRuns K) (length (pinsOf N net))
           (λ p k. let q : pinNet N net p < net = pin-lower N w net p i m k in no-runs fuel (pinNet N net p) (omega arith) (omega arith)))
@@ -202,10 +200,6 @@ module _ (K : Case) where
           no-length (r ∷ s) h = absurd (omega arith)
 
 -- from the bits of the inputs that make the edge
-pub unmade-edge : (K : Case) → WellFormed (K .netlist) → {edges : ℕ} → edges ≡ 0 → ((j : ℕ) → j < K .netlist .inputs → bit edges j ≡ hasEdge (K .test) (K .edge) j)
+pub unmade-edge : (K : Case) → WellFormed (K .netlist) → {edges : ℕ} → edges ≡ 0 → ((j : ℕ) → j < K .netlist .inputs → bit edges j ≡ K .makesEdge j)
     → (ws : List ℕ) → Detects K ws ws (Count 0)
 unmade-edge K w z made ws = quiet K w (λ j l. sym (made j l) ∙ ap (λ (k : ℕ). bit k j) z ∙ zero-bit j) ws
-
-pub no-edge : {K : Case} {file positions pathCounts masks : List ℕ} {edges : ℕ} {shape : Shape} {ws : List ℕ} → edges ≡ 0
-    → EdgeAt K file positions pathCounts masks edges shape ws → Detects K ws ws (Count 0)
-no-edge {K} {file} {ws = ws} z a = unmade-edge K (legal file (K .netlist) (a .tables .legal)) z (a .makesEdge) ws

@@ -14,7 +14,7 @@ use Rattle.model.proofs.RunLaws.{runs-by}
 use Rattle.runs.specs.RunLists.{onlyIf, addRun, addRuns, shiftRuns}
 use Rattle.model.proofs.BoolLaws.{cases}
 use Rattle.run_union.proofs.AddRunLaws.{joined-one, joined-two}
-use Rattle.place_runs.specs.RunsOfPlaces.{Places, pathsBefore, placeRuns, firstRuns}
+use Rattle.detection.specs.PlaceRuns.{Places, pathsBefore, placeRuns, firstRuns}
 
 -- a place that is open or not, with as many paths and these runs at its net
 pub record PlaceIs (P : Places) (f : ℕ → List Run) (p : ℕ) (isOpen : Bool) (paths : ℕ) (runs : List Run) : Type 0 where

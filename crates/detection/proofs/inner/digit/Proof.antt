@@ -1,9 +1,9 @@
--- `place_runs::inner::digit` meets its contract: the lowest bit of the shifted word.
+-- `detection::inner::digit` meets its contract: the lowest bit of the shifted word.
 -- Assumes nothing.
 use Rattle.records.proofs.BitLaws.{word-digit}
 use borrow.Author.Needs.{needs}
-use Rattle.place_runs.proofs.inner.digit.Statement.{statement}
-use Rattle.place_runs.proofs.inner.digit.Tie as tie
+use Rattle.detection.proofs.inner.digit.Statement.{statement}
+use Rattle.detection.proofs.inner.digit.Tie as tie
 
 shr-result : tie.Need-shr-result
 shr-result c = search needs
