@@ -13,10 +13,7 @@
  * Lengths are counted in elements: bytes of a uint8_t part, words of a uint64_t or uint16_t part. A refused call leaves the answer words as
  * they were. The library keeps nothing between calls, so calls that write unlike parts of memory may run at the same time.
  *
- * No call uses a heap. genduwal_audit and genduwal_audit_piece need some 370,000 bytes of stack (measured, both classes), of which 270,336
- * are the lists of 64 records; genduwal_lengths some 276,000, of which 262,144 are the rows of 512 nets; genduwal_number_to_path and
- * genduwal_path_to_number up to 68,000 (a path of 511 gates), genduwal_viewer_runs some 42,000, of which 34,816 are the runs of both edges,
- * genduwal_viewer_totals some 24,000, the others up to 16,000.
+ * No call uses a heap. The stack that a call needs is stated below (GENDUWAL_STACK_BYTES and the like).
  *
  * Refusals, in the order in which they are looked for:
  *   1  store (a viewer's second one, too) not 4,099 words
@@ -25,9 +22,10 @@
  *   4  buffer of a load under 2,304 bytes       11  inputs of a load not 1 to 64
  *  87  tree under 32,768 words                  88  words that are no tree in its layout
  *  10  netlist: header cut off or its mark      11  inputs, gates, nets or outputs out of range
- *  12  gate cut off or its mark                 13  kind of gate
- *  14  pin count for the kind                   15  pin not from a lower net
- *  17  count of a net over 2^62                 18  output cut off or its mark
+ *  12  gate: under 4 bytes, or its mark         13  kind of gate
+ *  14  pin count for the kind                   12  gate: its pins cut off
+ *  15  pin not from a lower net                 17  count of a net over 2^62
+ *  18  output cut off or its mark
  *  19  no such net, or not higher               21  paths of the outputs over 2^62
  *  20  bytes left over after the netlist
  *  83  class of tests neither 1 nor 2           91  all pairs: over 6 inputs
@@ -41,8 +39,8 @@
  *  89  a viewer's places: none, not strictly ascending, or one that is not below the number of outputs
  *  50  over 1,024 working runs of an edge
  *  51  the store (a viewer's second one, too) would have over 1,024 runs of an edge, the tree over 1,024 runs
- *  60  no such path or fault number, no such    61  words are not a path of the netlist
- *      run in the tree
+ *  60  no such path or fault number, edge       61  words are not a path of the netlist
+ *      neither 0 nor 1, no such run in the tree
  *  90  a fault of another output than the viewer's
  *  70  report under 34 bytes or its mark        71  report's length
  *  72  another byte of the report differs
@@ -84,10 +82,38 @@ extern "C" {
 /* Least words of a tree. */
 #define GENDUWAL_TREE_WORDS 32768
 
+/* Bytes of stack that a call needs, from its caller's frame on: as measured, and a tenth more. STACKS */
+#define GENDUWAL_STACK_BYTES 20000
+#define GENDUWAL_VIEWER_STACK_BYTES 48000
+#define GENDUWAL_PATH_STACK_BYTES 75000
+#define GENDUWAL_LENGTHS_STACK_BYTES 300000
+#define GENDUWAL_AUDIT_STACK_BYTES 410000
+
 /* The classes of tests: a test detects a fault non-robustly, or robustly (so that no other delay hides the fault; by the rule of Lin and
  * Reddy). Every robust fault of a test is also one of its non-robust faults. */
 #define GENDUWAL_NON_ROBUST 1
 #define GENDUWAL_ROBUST 2
+
+/* The edge of a fault, at its path's input, where a call takes or answers it. */
+#define GENDUWAL_RISING 0
+#define GENDUWAL_FALLING 1
+
+/* A path number and a fault number count unlike things: each is a type of its own, in registers and in memory the same as a uint64_t, so that
+ * a compiler refuses one in the place of the other. Both count from 1; path i has the faults 2i - 1 (rising) and 2i (falling). Only
+ * genduwal_fault_of and genduwal_path_of lead from one to the other. The header defines GENDUWAL_TYPED_NUMBERS since it has these types. */
+#define GENDUWAL_TYPED_NUMBERS 1
+typedef struct { uint64_t number; } genduwal_path_no;
+typedef struct { uint64_t number; } genduwal_fault_no;
+
+/* The fault of a path and an edge, GENDUWAL_RISING or GENDUWAL_FALLING. answer: the fault's number, 2i - 1 or 2i for path i.
+ * Refusals: 60 (another edge, or a path number that is not 1 to 2^62: no netlist has such a path). */
+uint32_t genduwal_fault_of(genduwal_path_no number, uint32_t edge, genduwal_fault_no answer[1]);
+
+/* The path of a fault and its edge. answer: the path's number, (f + 1) / 2 for fault f, rounded down. edge: GENDUWAL_RISING if f is odd,
+ * GENDUWAL_FALLING if it is even; it stays as it was where the call is refused, as the answer does. A fault number over 2^63 has a path number
+ * over 2^62, which every netlist refuses.
+ * Refusals: 60 (fault number 0). */
+uint32_t genduwal_path_of(genduwal_fault_no fault, genduwal_path_no answer[1], uint32_t edge[1]);
 
 /* The survey of a netlist. answer: inputs, gates, outputs, paths, then the count of paths of each of 512 nets, zero past the last net.
  * Refusals: 10 to 15, 17 to 21. */
@@ -128,10 +154,10 @@ uint32_t genduwal_exhaust(const uint8_t *netlist, size_t netlist_len, uint32_t t
  * Refusals: 1, 10 to 15, 17 to 21, 40 to 42, 84. */
 uint32_t genduwal_lengths(const uint8_t *netlist, size_t netlist_len, const uint64_t *store, size_t store_len, uint64_t answer[256]);
 
-/* Whether a store of 4,099 words holds a fault: path i has faults 2i - 1 (rising) and 2i (falling). answer: 1 if it does, else 0.
+/* Whether a store of 4,099 words holds a fault. answer: 1 if it does, else 0.
  * Refusals: 1, 10 to 15, 17 to 21, 40 to 42, 60. */
-uint32_t genduwal_holds(const uint8_t *netlist, size_t netlist_len, const uint64_t *store, size_t store_len, uint64_t fault,
-                        uint64_t answer[1]);
+uint32_t genduwal_holds(const uint8_t *netlist, size_t netlist_len, const uint64_t *store, size_t store_len,
+                        genduwal_fault_no fault, uint64_t answer[1]);
 
 /* What a viewer may see of a store of 4,099 words: the faults of paths that end at his outputs. places: the outputs' places, from 0, strictly
  * ascending. Path numbers and T are those of the whole netlist. answer: the number of rising, then of falling faults.
@@ -142,7 +168,7 @@ uint32_t genduwal_viewer_totals(const uint8_t *netlist, size_t netlist_len, cons
 /* Whether the store holds a fault of one of the viewer's outputs. answer: 1 if it does, else 0.
  * Refusals: 1, 10 to 15, 17 to 21, 40 to 42, 89, 60, 90. */
 uint32_t genduwal_viewer_holds(const uint8_t *netlist, size_t netlist_len, const uint64_t *store, size_t store_len, const uint16_t *places,
-                               size_t places_len, uint64_t fault, uint64_t answer[1]);
+                               size_t places_len, genduwal_fault_no fault, uint64_t answer[1]);
 
 /* Writes the runs that the viewer sees into view, a second store of 4,099 words, whatever they hold, with the store's number of tests. A refused
  * call leaves them as they were.
@@ -153,12 +179,13 @@ uint32_t genduwal_viewer_runs(const uint8_t *netlist, size_t netlist_len, const 
 /* The number of a path. path: the output's place, the number n of pins, then n pins from the output back; path_len is exactly 2 + n.
  * answer: the path's number, from 1.
  * Refusals: 10 to 15, 17 to 21, 61. */
-uint32_t genduwal_path_to_number(const uint8_t *netlist, size_t netlist_len, const uint16_t *path, size_t path_len, uint64_t answer[1]);
+uint32_t genduwal_path_to_number(const uint8_t *netlist, size_t netlist_len, const uint16_t *path, size_t path_len,
+                                 genduwal_path_no answer[1]);
 
 /* Writes the path of a number into the first 513 words of path, with zeros after it; path is at least 513 words, and later ones stay as they
  * were. A refused call leaves all of them as they were.
  * Refusals: 3, 10 to 15, 17 to 21, 60. */
-uint32_t genduwal_number_to_path(const uint8_t *netlist, size_t netlist_len, uint64_t number, uint16_t *path, size_t path_len);
+uint32_t genduwal_number_to_path(const uint8_t *netlist, size_t netlist_len, genduwal_path_no number, uint16_t *path, size_t path_len);
 
 /* Writes the report of a store of 4,099 words; its number of tests is the store's third word. report is at least 32,802 bytes; those past the
  * record, or all of them if the call is refused, stay as they were. answer: the record's length in bytes.
@@ -199,7 +226,8 @@ uint32_t genduwal_audit_piece(const uint8_t *netlist, size_t netlist_len, const 
 
 /* The end: bytes is the length of the whole test file, first the number of the first refusal of a piece, or 0. Accepts (returns 0) if no
  * piece was refused and the report is the one that the writer gives for the store and the number of records in so many bytes. An accepting
- * call leaves the store as it was, and so does one refused for the store's length; any other refusal leaves it all zeros, also where first is 1.
+ * call leaves the store as it was, and so does one refused because this store is not 4,099 words. Any other refusal leaves it all zeros, also
+ * where the answer is a first of 1 or 2.
  * Refusals: 1, 10 to 15, 17 to 21, 33, first if it is not 0, 40 to 42, 70 to 72. */
 uint32_t genduwal_audit_end(const uint8_t *netlist, size_t netlist_len, uint64_t bytes, uint32_t first, const uint8_t *report,
                             size_t report_len, uint64_t *store, size_t store_len);
@@ -221,11 +249,13 @@ uint32_t genduwal_load(uint32_t state, uint32_t inputs, uint8_t *records, size_t
  * words is said here so that 88 has a meaning.
  *
  * Words 0 to 2 are levels, root and free; word 3 may hold anything. An empty tree has zeros in words 0 to 2 and anything in the others. Else
- * root is the word where the root stands, and free the first word that no node uses; all nodes stand in the half of the root, the words 4 to
- * 16,383 or the words 16,384 to 32,767, before free. A leaf is 3 words: low and high of a run, and how many numbers it has. An inner node is 8
- * words: the least number below it, the greatest, how many numbers the runs below it have, the least number below its second child and below
- * its third (0 if it has two children), then the words where its children stand (0 for a third that it has not). There are 1 to 11 levels, all
- * leaves are on the last, and their runs ascend, with at least one number between two of them. Words that no node uses may hold anything.
+ * root is the word where the root stands. All nodes stand in the half of the root, the words 4 to 16,383 or the words 16,384 to 32,767; every
+ * node ends at or before word free, and free is at most the half's end, 16,384 or 32,768. Nothing else is asked of free or of a node's place:
+ * words before free may be used by no node, and nodes may share words. A leaf is 3 words: low and high of a run, and how many numbers it has.
+ * An inner node is 8 words: the least number below it, the greatest, how many numbers the runs below it have, the least number below its second
+ * child and below its third (0 if it has two children), then the words where its children stand (0 for a third that it has not). There are 1 to
+ * 11 levels and 1 to 1,024 leaves, all leaves are on the last level, and their runs ascend, with at least one number between two of them.
+ * Words that no node uses may hold anything.
  *
  * A change writes new nodes from free on and leaves the others as they are. Where fewer than 1,100 words are left to it, it first copies the
  * tree into the other half: so words freed by a deletion serve again, and a change is refused for its runs alone.
@@ -257,14 +287,14 @@ uint32_t genduwal_tree_total(const uint64_t *tree, size_t tree_len, uint64_t ans
 /* Whether a tree holds a path number. answer: 1 if it does, else 0; the nodes visited for the answer, root and leaf included: 0 in an empty
  * tree, else its levels, at most 1 plus the greatest w with 2^w at most the runs held.
  * Refusals: 87, 88, 60 (a number not 1 to 2^62). */
-uint32_t genduwal_tree_holds(const uint64_t *tree, size_t tree_len, uint64_t number, uint64_t answer[2]);
+uint32_t genduwal_tree_holds(const uint64_t *tree, size_t tree_len, genduwal_path_no number, uint64_t answer[2]);
 
 /* The same for many numbers, with one check of the tree's words. answers: for each number 1 if it is held, 0 if not, 60 if it is not 1 to 2^62.
  * As many numbers are answered as there are places; places past the last number stay as they were, and all of them where the call is refused.
  * answer: the tree's levels, as many as the nodes visited for each.
  * Refusals: 87, 88. */
-uint32_t genduwal_tree_holds_each(const uint64_t *tree, size_t tree_len, const uint64_t *numbers, size_t numbers_len, uint64_t *answers,
-                                  size_t answers_len, uint64_t answer[1]);
+uint32_t genduwal_tree_holds_each(const uint64_t *tree, size_t tree_len, const genduwal_path_no *numbers, size_t numbers_len,
+                                  uint64_t *answers, size_t answers_len, uint64_t answer[1]);
 
 #ifdef __cplusplus
 }

@@ -1,11 +1,17 @@
-/* Judges document 01's circuit Q with its three tests, from C. What it prints is in the file expected, worked out from document 01. */
-#include "genduwal.h"
+/* Judges document 01's circuit Q with its three tests, from C, and calls every function of the library, each on a thread whose stack has the
+ * size that genduwal.h states. What it prints is in the file expected, worked out from document 01. */
+#ifndef _POSIX_C_SOURCE
+#define _POSIX_C_SOURCE 200809L
+#endif
+#include "example.h"
 
+#include <pthread.h>
 #include <stdio.h>
+#include <stdlib.h>
 #include <string.h>
 
 /* Q: net 2 is AND of inputs 0 and 1, net 3 is OR of nets 2 and 1, and net 3 is the output. */
-static const uint8_t circuit[] = {
+const uint8_t circuit[circuit_bytes] = {
     0x4E, 0x4C, 2, 0, 2, 0, 1, 0,       /* 2 inputs, 2 gates, 1 output */
     0x47, 0x54, 3, 2, 0, 0, 1, 0,       /* AND of nets 0 and 1 */
     0x47, 0x54, 5, 2, 2, 0, 1, 0,       /* OR of nets 2 and 1 */
@@ -20,10 +26,33 @@ static const uint8_t tests[records * record_bytes] = {
     0x54, 0x50, 0, 2,
 };
 
-static uint64_t store[GENDUWAL_STORE_WORDS];
+uint64_t store[GENDUWAL_STORE_WORDS];
 static uint64_t work[GENDUWAL_WORK_WORDS];
-static uint16_t path[GENDUWAL_PATH_WORDS];
 static uint8_t report[GENDUWAL_REPORT_BYTES];
+static size_t report_length;
+
+/* What a thread of this program needs besides the stack of a call: 16,384 bytes, the least that glibc on x86-64 makes a thread with
+ * (PTHREAD_STACK_MIN), hold the thread's own record and what printf uses. */
+enum { own_stack = 16384 };
+
+static void *on_thread(void *show)
+{
+    (*(void (**)(void))show)();
+    return NULL;
+}
+
+/* Runs a part of the example on a thread whose stack is as large as genduwal.h states for its calls, and own_stack. */
+static void with_stack(void (*show)(void), size_t call_stack)
+{
+    pthread_attr_t attributes;
+    pthread_t thread;
+    if (pthread_attr_init(&attributes) != 0 || pthread_attr_setstacksize(&attributes, call_stack + own_stack) != 0
+        || pthread_create(&thread, &attributes, on_thread, &show) != 0 || pthread_join(thread, NULL) != 0) {
+        printf("no thread with %u bytes of stack\n", (unsigned)(call_stack + own_stack));
+        exit(1);
+    }
+    pthread_attr_destroy(&attributes);
+}
 
 /* The inputs count 1 each, the AND 1 + 1 = 2, the OR 2 + 1 = 3, which is the output's and so the total. */
 static void show_survey(void)
@@ -40,19 +69,25 @@ static void show_survey(void)
            (unsigned long long)answer[7]);
 }
 
+static void show_empty(void)
+{
+    printf("empty %u\n", (unsigned)genduwal_empty(store, GENDUWAL_STORE_WORDS));
+}
+
 /* The first test detects nothing. The second detects faults 4 and 6: paths 2 and 3, falling. The third detects fault 5: path 3, rising.
  * So the new faults are 0 0, then 0 2, then 1 0, and those held add up to 1 rising and 2 falling. */
-static void show_test(unsigned place)
+static void show_tests(void)
 {
-    uint64_t answer[4];
-    uint32_t code = genduwal_test(circuit, sizeof circuit, tests + place * record_bytes, record_bytes, GENDUWAL_NON_ROBUST, store,
-                                  GENDUWAL_STORE_WORDS, work, GENDUWAL_WORK_WORDS, answer);
-    if (code != 0) {
-        printf("test %u refused %u\n", place + 1, (unsigned)code);
-        return;
+    for (unsigned place = 0; place < records; place++) {
+        uint64_t answer[4];
+        uint32_t code = genduwal_test(circuit, sizeof circuit, tests + place * record_bytes, record_bytes, GENDUWAL_NON_ROBUST, store,
+                                      GENDUWAL_STORE_WORDS, work, GENDUWAL_WORK_WORDS, answer);
+        if (code != 0)
+            printf("test %u refused %u\n", place + 1, (unsigned)code);
+        else
+            printf("test %u new %llu %llu held %llu %llu\n", place + 1, (unsigned long long)answer[0], (unsigned long long)answer[1],
+                   (unsigned long long)answer[2], (unsigned long long)answer[3]);
     }
-    printf("test %u new %llu %llu held %llu %llu\n", place + 1, (unsigned long long)answer[0], (unsigned long long)answer[1],
-           (unsigned long long)answer[2], (unsigned long long)answer[3]);
 }
 
 /* What the three tests leave: one rising fault, two falling ones. */
@@ -88,42 +123,54 @@ static void show_lengths(void)
     }
 }
 
-/* Fault 4 is path 2, falling, which the second test detects. There is no fault 7, since there are three paths: refused 60. */
-static void show_fault(uint64_t fault)
+/* All 12 pairs of unlike vectors detect no more than the three tests. A rising or falling input 0 would have to pass the AND, with input 1
+ * at 1, and the OR, with input 1 at 0; a rising input 1 makes the OR's other pin 1. The report is written before, since the store is emptied. */
+static void show_exhaust(void)
 {
-    uint64_t answer[1];
-    uint32_t code = genduwal_holds(circuit, sizeof circuit, store, GENDUWAL_STORE_WORDS, fault, answer);
-    if (code != 0) {
-        printf("fault %llu refused %u\n", (unsigned long long)fault, (unsigned)code);
-        return;
-    }
-    printf("fault %llu %s\n", (unsigned long long)fault, answer[0] == 1 ? "held" : "not held");
+    uint64_t answer[2];
+    uint32_t code = genduwal_exhaust(circuit, sizeof circuit, GENDUWAL_NON_ROBUST, store, GENDUWAL_STORE_WORDS, work, GENDUWAL_WORK_WORDS,
+                                     answer);
+    if (code != 0)
+        printf("all pairs refused %u\n", (unsigned)code);
+    else
+        printf("all %llu pairs rising %llu falling %llu\n", (unsigned long long)store[2], (unsigned long long)answer[0],
+               (unsigned long long)answer[1]);
 }
 
 /* Three tests taken, one rising run, 3 to 3, and one falling run, 2 to 3: the record has 34 + 16 + 16 = 66 bytes. */
-static size_t show_report(void)
+static void show_report(void)
 {
     uint64_t answer[1];
     uint32_t code = genduwal_write_report(circuit, sizeof circuit, store, GENDUWAL_STORE_WORDS, report, sizeof report, answer);
     if (code != 0) {
         printf("report refused %u\n", (unsigned)code);
-        return 0;
+        return;
     }
     printf("report %llu bytes\n", (unsigned long long)answer[0]);
-    return (size_t)answer[0];
+    report_length = (size_t)answer[0];
 }
 
 /* The report that was written is accepted. It is accepted in class 2, too. The second test: the AND's other pin is steady at 1, and both pins
  * of the OR fall to 0. The third: net 2 is steady at 0 while input 1 rises. There is no class 3: refused 83. With 4 in the place of its 3 tests
  * the report differs in that byte alone: refused 72. */
-static void show_audit(size_t length, uint32_t test_class)
+static void judge(uint32_t test_class)
 {
-    uint32_t code = genduwal_audit(circuit, sizeof circuit, tests, sizeof tests, report, length, test_class, store, GENDUWAL_STORE_WORDS,
-                                   work, GENDUWAL_WORK_WORDS);
+    uint32_t code = genduwal_audit(circuit, sizeof circuit, tests, sizeof tests, report, report_length, test_class, store,
+                                   GENDUWAL_STORE_WORDS, work, GENDUWAL_WORK_WORDS);
     if (code != 0)
         printf("audit refused %u\n", (unsigned)code);
     else
         printf("audit accepted\n");
+}
+
+static void show_audit(void)
+{
+    judge(GENDUWAL_NON_ROBUST);
+    judge(GENDUWAL_ROBUST);
+    judge(3);
+    report[2] = 4;
+    judge(GENDUWAL_NON_ROBUST);
+    report[2] = 3;
 }
 
 /* One piece of a test file: the code, after a line with the number of its records, all taken, or the number of the refusal. */
@@ -142,7 +189,7 @@ static uint32_t show_piece(const uint8_t *piece, size_t length)
 /* The audit with the test file in pieces of two records; the last piece is what is left. The three tests make a piece of 8 bytes with two
  * records and one of 4 bytes with one, and their report is accepted. With 5 in the mark of the first record the first piece is refused 31,
  * the second is not handed over but counted; 12 bytes are whole records, so the end answers 31. With 4 tests in the report it answers 72. */
-static void show_pieces(const uint8_t *file, size_t file_length, size_t length)
+static void judge_pieces(const uint8_t *file, size_t file_length)
 {
     const size_t most = 2 * record_bytes;
     uint64_t bytes = 0;
@@ -156,7 +203,7 @@ static void show_pieces(const uint8_t *file, size_t file_length, size_t length)
                 first = show_piece(file + at, piece_length);
             bytes += piece_length;
         }
-        code = genduwal_audit_end(circuit, sizeof circuit, bytes, first, report, length, store, GENDUWAL_STORE_WORDS);
+        code = genduwal_audit_end(circuit, sizeof circuit, bytes, first, report, report_length, store, GENDUWAL_STORE_WORDS);
     }
     if (code != 0)
         printf("audit in pieces refused %u\n", (unsigned)code);
@@ -164,32 +211,23 @@ static void show_pieces(const uint8_t *file, size_t file_length, size_t length)
         printf("audit in pieces accepted\n");
 }
 
-/* Path 2 goes from output 0 through two pins: pin 0 of the OR, then pin 1 of the AND. Its number leads back to it. */
-static void show_path(uint64_t number)
+static void show_pieces(void)
 {
-    uint64_t answer[1];
-    uint32_t code = genduwal_number_to_path(circuit, sizeof circuit, number, path, GENDUWAL_PATH_WORDS);
-    if (code != 0) {
-        printf("path %llu refused %u\n", (unsigned long long)number, (unsigned)code);
-        return;
-    }
-    size_t words = 2 + (size_t)path[1];
-    printf("path %llu words", (unsigned long long)number);
-    for (size_t i = 0; i < words; i++)
-        printf(" %u", (unsigned)path[i]);
-    printf("\n");
-    code = genduwal_path_to_number(circuit, sizeof circuit, path, words, answer);
-    if (code != 0)
-        printf("number refused %u\n", (unsigned)code);
-    else
-        printf("number %llu\n", (unsigned long long)answer[0]);
+    uint8_t other_mark[sizeof tests];
+    memcpy(other_mark, tests, sizeof tests);
+    other_mark[0] = 5;
+    judge_pieces(tests, sizeof tests);
+    judge_pieces(other_mark, sizeof other_mark);
+    report[2] = 4;
+    judge_pieces(tests, sizeof tests);
+    report[2] = 3;
 }
 
 /* Q as .bench text: the inputs a and b are nets 0 and 1, the gates c and y nets 2 and 3, so that the netlist file is Q's 28 bytes. The second
  * text uses a name that no line before defines: refused 81. */
-static void show_text(const char *text)
+static void convert(const char *text)
 {
-    uint8_t netlist[GENDUWAL_NETLIST_BYTES];
+    static uint8_t netlist[GENDUWAL_NETLIST_BYTES];
     uint64_t answer[1];
     uint32_t code = genduwal_bench_to_netlist((const uint8_t *)text, strlen(text), netlist, sizeof netlist, answer);
     if (code != 0)
@@ -197,6 +235,12 @@ static void show_text(const char *text)
     else
         printf("text %llu bytes, %s\n", (unsigned long long)answer[0],
                answer[0] == sizeof circuit && memcmp(netlist, circuit, sizeof circuit) == 0 ? "Q" : "another circuit");
+}
+
+static void show_texts(void)
+{
+    convert("INPUT(a)\nINPUT(b)\nOUTPUT(y)\nc = AND(a, b)\ny = OR(c, b)\n");
+    convert("INPUT(a)\nOUTPUT(y)\ny = OR(c, a)\n");
 }
 
 /* Two vectors of a load for 3 inputs, from seed 1: the state goes on from call to call. A vector has 6 records of 4 bytes; the first is printed. */
@@ -218,29 +262,25 @@ static void show_load(void)
 
 int main(void)
 {
-    show_survey();
-    printf("empty %u\n", (unsigned)genduwal_empty(store, GENDUWAL_STORE_WORDS));
-    for (unsigned place = 0; place < records; place++)
-        show_test(place);
-    show_totals();
-    show_lengths();
-    show_fault(4);
-    show_fault(7);
-    size_t length = show_report();
-    show_audit(length, GENDUWAL_NON_ROBUST);
-    show_audit(length, GENDUWAL_ROBUST);
-    show_audit(length, 3);
-    show_pieces(tests, sizeof tests, length);
-    uint8_t other_mark[sizeof tests];
-    memcpy(other_mark, tests, sizeof tests);
-    other_mark[0] = 5;
-    show_pieces(other_mark, sizeof other_mark, length);
-    report[2] = 4;
-    show_audit(length, GENDUWAL_NON_ROBUST);
-    show_pieces(tests, sizeof tests, length);
-    show_path(2);
-    show_text("INPUT(a)\nINPUT(b)\nOUTPUT(y)\nc = AND(a, b)\ny = OR(c, b)\n");
-    show_text("INPUT(a)\nOUTPUT(y)\ny = OR(c, a)\n");
-    show_load();
+    with_stack(show_survey, GENDUWAL_STACK_BYTES);
+    with_stack(show_empty, GENDUWAL_STACK_BYTES);
+    with_stack(show_tests, GENDUWAL_STACK_BYTES);
+    with_stack(show_totals, GENDUWAL_STACK_BYTES);
+    with_stack(show_lengths, GENDUWAL_LENGTHS_STACK_BYTES);
+    with_stack(show_numbers, GENDUWAL_STACK_BYTES);
+    with_stack(show_faults, GENDUWAL_STACK_BYTES);
+    with_stack(show_viewer_totals, GENDUWAL_VIEWER_STACK_BYTES);
+    with_stack(show_viewer_faults, GENDUWAL_STACK_BYTES);
+    with_stack(show_viewer_runs, GENDUWAL_VIEWER_STACK_BYTES);
+    with_stack(show_report, GENDUWAL_STACK_BYTES);
+    with_stack(show_exhaust, GENDUWAL_AUDIT_STACK_BYTES);
+    with_stack(show_audit, GENDUWAL_AUDIT_STACK_BYTES);
+    with_stack(show_pieces, GENDUWAL_AUDIT_STACK_BYTES);
+    with_stack(show_path, GENDUWAL_PATH_STACK_BYTES);
+    with_stack(show_texts, GENDUWAL_STACK_BYTES);
+    with_stack(show_load, GENDUWAL_STACK_BYTES);
+    with_stack(show_tree, GENDUWAL_STACK_BYTES);
+    with_stack(show_tree_numbers, GENDUWAL_STACK_BYTES);
+    with_stack(show_tree_changes, GENDUWAL_STACK_BYTES);
     return 0;
 }

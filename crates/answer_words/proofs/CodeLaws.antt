@@ -1,6 +1,6 @@
 -- Codes and answer words: what a refusal and what a value leave.
 -- Assumes nothing.
-use mathlib.Core.Path.{_≡_, refl}
+use mathlib.Core.Path.{_≡_, refl, subst}
 use mathlib.Core.List.{List}
 use Prim.Native.Nat.{ℕ}
 use lib.Seq.{sets}
@@ -66,3 +66,8 @@ module _ {A : Type 0} (call : Answer A) (words : A → List ℕ) (found : List �
 
   pub answered-value : (a : A) → call ≡ value a → Answered call words 0 found (sets found 0 (words a))
   answered-value a e = record { codeIs = rw e code-zero; answerIs = rw e refl }
+
+-- code and words of an answer that is the call's
+pub answered-by : {A : Type 0} {x call : Answer A} {words : A → List ℕ} {code : ℕ} {found left : List ℕ}
+    → x ≡ call → Answered x words code found left → Answered call words code found left
+answered-by {words = words} {code = code} {found = found} {left = left} e a = subst (λ y. Answered y words code found left) e a

@@ -8,6 +8,7 @@ use Prim.Native.Nat.{ℕ}
 use lib.Dec.{eqb}
 use lib.Seq.{sets}
 use Rattle.model.specs.Base.{Answer, refused, value, passes, after}
+use Rattle.model.specs.Path.{Edge, rising, falling}
 use Rattle.model.specs.Store.{ByEdge}
 use Rattle.model.specs.Calls.{Survey, FaultCounts}
 
@@ -44,3 +45,12 @@ numberWord n = n ∷ []
 -- 1 for true, 0 for false
 abbrev pub boolWord : Bool → List ℕ
 boolWord b = cond b 1 0 ∷ []
+
+-- the edge that a caller hands over as a number, 0 rising, 1 falling; 60 for another
+unfoldable pub edgeIn : ℕ → Answer Edge
+edgeIn n = elim (eqb n 0) [ true ↦ value rising | false ↦ elim (eqb n 1) [ true ↦ value falling | false ↦ refused 60 ] ]
+
+-- the number of an edge, as a caller finds it: 0 rising, 1 falling
+abbrev pub edgeNumber : Edge → ℕ
+edgeNumber rising = 0
+edgeNumber falling = 1

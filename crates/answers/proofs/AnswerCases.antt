@@ -9,7 +9,11 @@ use Rattle.model.specs.Refusals.{refusalNumber}
 use Rattle.model.specs.declared.Refusal.{Refusal}
 use Rattle.netlist.specs.declared.Surveyed.{Surveyed}
 use Rattle.netlist.specs.declared.SurveyAnswer.the-variants as survey
+use Rattle.faults.specs.Answers.{faultAnswer}
 use Rattle.faults.specs.declared.PathNo.{PathNo}
+use Rattle.faults.specs.declared.FaultNo.{FaultNo}
+use Rattle.faults.specs.declared.FaultAnswer.{FaultAnswer}
+use Rattle.faults.specs.declared.FaultAnswer.the-variants as fault
 use Rattle.path_numbers.specs.PathNumbers.{numberAnswer}
 use Rattle.path_numbers.specs.declared.NumberAnswer.{NumberAnswer}
 use Rattle.path_numbers.specs.declared.NumberAnswer.the-variants as number
@@ -70,6 +74,9 @@ module _ (code : ℕ) (w : Refusal) (q : code ≡ refusalNumber w) (found : List
   pub number-refused : (r : NumberAnswer) → r ≡ number.Refused w → Answered (numberAnswer r) numberWord code found found
   number-refused r p = answered-refused (numberAnswer r) numberWord found w code q (ap numberAnswer p)
 
+  pub fault-refused : (r : FaultAnswer) → r ≡ fault.Refused w → Answered (faultAnswer r) numberWord code found found
+  fault-refused r p = answered-refused (faultAnswer r) numberWord found w code q (ap faultAnswer p)
+
   pub report-refused : (r : WriteAnswer) → r ≡ write.Refused w → Answered (writtenOf r) numberWord code found found
   report-refused r p = answered-refused (writtenOf r) numberWord found w code q (ap writtenOf p)
 
@@ -101,6 +108,9 @@ module _ (code : ℕ) (q : code ≡ 0) (found left : List ℕ) where
   pub number-taken : (r : NumberAnswer) (n : PathNo) → r ≡ number.Number n → left ≡ sets found 0 (numberWord (n .0)) → Answered (numberAnswer r) numberWord code found left
   number-taken r n p l = rw (q, l) (answered-value (numberAnswer r) numberWord found (n .0) (ap numberAnswer p))
 
+  pub fault-taken : (r : FaultAnswer) (f : FaultNo) → r ≡ fault.Fault f → left ≡ sets found 0 (numberWord (f .0)) → Answered (faultAnswer r) numberWord code found left
+  fault-taken r f p l = rw (q, l) (answered-value (faultAnswer r) numberWord found (f .0) (ap faultAnswer p))
+
   module _ (n : ℕ) (l : left ≡ sets found 0 (numberWord n)) where
     pub report-taken : (r : WriteAnswer) → r ≡ write.Written n → Answered (writtenOf r) numberWord code found left
     report-taken r p = rw (q, l) (answered-value (writtenOf r) numberWord found n (ap writtenOf p))
@@ -114,6 +124,8 @@ module _ (code : ℕ) (q : code ≡ 0) (found left : List ℕ) where
 pub ruleset survey-cases = (survey-refused, survey-taken, needs)
 
 pub ruleset number-cases = (number-refused, number-taken, needs)
+
+pub ruleset fault-cases = (fault-refused, fault-taken, needs)
 
 pub ruleset report-cases = (report-refused, report-taken, needs)
 

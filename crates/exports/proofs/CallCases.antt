@@ -1,6 +1,6 @@
 -- The answer that is turned into code and words is that of document 01's call.
 -- Assumes nothing.
-use mathlib.Core.Path.{_≡_, refl, sym, ap, _∙_, subst}
+use mathlib.Core.Path.{_≡_, refl, sym, ap, _∙_}
 use mathlib.Core.List.{List}
 use Prim.Native.Nat.{ℕ}
 use Rattle.model.specs.Base.{Answer, refused, value, passes}
@@ -23,16 +23,11 @@ use Rattle.lengths.specs.LengthAnswers as rows
 use Rattle.lengths.specs.declared.LengthRows.{LengthRows}
 use Rattle.lengths.specs.declared.LengthsAnswer.{LengthsAnswer}
 use Rattle.lengths.specs.declared.LengthsAnswer.the-variants as lengths
-use Rattle.answer_words.specs.Codes.{codeAnswer, Answered}
+use Rattle.answer_words.specs.Codes.{codeAnswer}
 use Rattle.answer_words.proofs.CodeLaws.{code-zero}
 use Rattle.store_answers.specs.Answers.{lengthsIn, lengthsOf}
 use Rattle.answers.specs.Answers.{surveyIn, surveyedOf}
 use Rattle.exports.proofs.NumberedLaws.{code-numbered, end-numbered}
-
--- code and words of an answer that is the call's
-pub answered-by : {A : Type 0} {x call : Answer A} {words : A → List ℕ} {code : ℕ} {found left : List ℕ}
-    → x ≡ call → Answered x words code found left → Answered call words code found left
-answered-by {words = words} {code = code} {found = found} {left = left} e a = subst (λ y. Answered y words code found left) e a
 
 -- a survey: what it counted stands beside its answer
 survey-in : (r : SurveyAnswer) (s : NetlistSurvey) (x : Answer Survey) → answerOf r ≡ passes x → s ≡ surveyData x → surveyIn r s ≡ x

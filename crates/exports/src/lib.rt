@@ -1,4 +1,5 @@
 // The calls of the papers for C: each returns 0, or the number of the refusal; a refused call leaves the answer words as they were.
+pub mod number_calls;
 pub mod tree_calls;
 
 ghost use mathlib.Core.Path.{_≡_};

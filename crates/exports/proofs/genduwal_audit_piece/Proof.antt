@@ -2,7 +2,7 @@
 use mathlib.Core.Path.{ap}
 use borrow.Author.Needs.{needs}
 use Rattle.answers.specs.Answers.{allTaken}
-use Rattle.exports.proofs.CallCases.{answered-by}
+use Rattle.answer_words.proofs.CodeLaws.{answered-by}
 use Rattle.exports.proofs.genduwal_audit_piece.Statement.{statement}
 use Rattle.exports.proofs.genduwal_audit_piece.Tie as tie
 

@@ -1,6 +1,7 @@
 -- `exports::genduwal_lengths` meets its contract: code and words are those of the answer of the call beneath. Assumes nothing.
 use borrow.Author.Needs.{needs}
-use Rattle.exports.proofs.CallCases.{answered-by, lengths-is}
+use Rattle.answer_words.proofs.CodeLaws.{answered-by}
+use Rattle.exports.proofs.CallCases.{lengths-is}
 use Rattle.exports.proofs.genduwal_lengths.Statement.{statement}
 use Rattle.exports.proofs.genduwal_lengths.Tie as tie
 

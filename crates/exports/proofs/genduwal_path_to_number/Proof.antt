@@ -1,6 +1,6 @@
 -- `exports::genduwal_path_to_number` meets its contract: code and words are those of the answer of the call beneath. Assumes nothing.
 use borrow.Author.Needs.{needs}
-use Rattle.exports.proofs.CallCases.{answered-by}
+use Rattle.answer_words.proofs.CodeLaws.{answered-by}
 use Rattle.exports.proofs.genduwal_path_to_number.Statement.{statement}
 use Rattle.exports.proofs.genduwal_path_to_number.Tie as tie
 

@@ -1,6 +1,7 @@
 -- `exports::genduwal_survey` meets its contract: code and words are those of the answer of the call beneath. Assumes nothing.
 use borrow.Author.Needs.{needs}
-use Rattle.exports.proofs.CallCases.{answered-by, survey-is}
+use Rattle.answer_words.proofs.CodeLaws.{answered-by}
+use Rattle.exports.proofs.CallCases.{survey-is}
 use Rattle.exports.proofs.genduwal_survey.Statement.{statement}
 use Rattle.exports.proofs.genduwal_survey.Tie as tie
 

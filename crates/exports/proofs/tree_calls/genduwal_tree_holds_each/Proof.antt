@@ -1,6 +1,6 @@
 -- `exports::tree_calls::genduwal_tree_holds_each` meets its contract: code and words are those of the answer of the call beneath. Assumes nothing.
 use borrow.Author.Needs.{needs}
-use Rattle.exports.proofs.CallCases.{answered-by}
+use Rattle.answer_words.proofs.CodeLaws.{answered-by}
 use Rattle.exports.proofs.tree_calls.genduwal_tree_holds_each.Statement.{statement}
 use Rattle.exports.proofs.tree_calls.genduwal_tree_holds_each.Tie as tie
 
