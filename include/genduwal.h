@@ -13,7 +13,7 @@
  * Lengths are counted in elements: bytes of a uint8_t part, words of a uint64_t or uint16_t part. A refused call leaves the answer words as
  * they were. The library keeps nothing between calls, so calls that write unlike parts of memory may run at the same time.
  *
- * No call uses a heap. The stack that a call needs is stated below (GENDUWAL_STACK_BYTES and the like).
+ * No call uses a heap. Most calls need at most GENDUWAL_STACK_BYTES of stack, some far more: see there.
  *
  * Refusals, in the order in which they are looked for:
  *   1  store (a viewer's second one, too) not 4,099 words
@@ -82,12 +82,16 @@ extern "C" {
 /* Least words of a tree. */
 #define GENDUWAL_TREE_WORDS 32768
 
-/* Bytes of stack that a call needs, from its caller's frame on: as measured, and a tenth more. STACKS */
-#define GENDUWAL_STACK_BYTES 20000
-#define GENDUWAL_VIEWER_STACK_BYTES 48000
-#define GENDUWAL_PATH_STACK_BYTES 75000
-#define GENDUWAL_LENGTHS_STACK_BYTES 300000
-#define GENDUWAL_AUDIT_STACK_BYTES 410000
+/* Bytes of stack that a call needs below its caller's frame, at least a tenth more than was measured over both classes, blocks of 64 inputs, of 6
+ * inputs and of 511 gates, paths of 511 gates and trees of 1,024 runs. Measured were 12,600 for the survey, 10,800 for the conversion of text,
+ * 9,500 for a test and at most 6,600 for the other calls without a name of their own below; 24,000 for a viewer's totals and 41,500 for his runs;
+ * 54,500 for a path's number and 62,700 for a number's path; 272,300 for coverage by length; 346,100 for an audit, 351,300 for a piece of one and
+ * 345,700 for all pairs of a small block. A signal handler on the same stack, and what a thread library keeps there, come on top. */
+#define GENDUWAL_STACK_BYTES 16384
+#define GENDUWAL_VIEWER_STACK_BYTES 49152   /* genduwal_viewer_totals, genduwal_viewer_runs */
+#define GENDUWAL_PATH_STACK_BYTES 73728     /* genduwal_path_to_number, genduwal_number_to_path */
+#define GENDUWAL_LENGTHS_STACK_BYTES 303104 /* genduwal_lengths */
+#define GENDUWAL_AUDIT_STACK_BYTES 393216   /* genduwal_audit, genduwal_audit_piece, genduwal_exhaust */
 
 /* The classes of tests: a test detects a fault non-robustly, or robustly (so that no other delay hides the fault; by the rule of Lin and
  * Reddy). Every robust fault of a test is also one of its non-robust faults. */
