@@ -1,6 +1,6 @@
 // The listing program: what each test record of a file adds on a netlist in a class, then the runs and the totals of the tested faults: `listing
 // [CIRCUIT [TESTS [CLASS]]]`, without names those of the current folder; a missing file counts as empty, a missing class file as class 2. What it
-// writes is made by `listing_lines` and `listing_walk`, each part with a promise. Where the netlist or the class file can't be read whole it writes
+// writes is made by `listing_head` and `listing_walk`, each part with a promise. Where the netlist or the class file can't be read whole it writes
 // nothing, and where the test file can't, neither runs nor totals.
 use command::close_file;
 use command::file_name;
@@ -12,18 +12,13 @@ use console::NETLIST_BYTES;
 use console::print;
 use libc::STDERR_FILENO;
 use libc::STDOUT_FILENO;
-use listing_lines::inner::put_paths;
-use listing_lines::inner::put_refusal;
+use listing_head::inner::put_head;
 use listing_text::inner::OUT_BYTES;
 use listing_walk::inner::Descriptors;
 use listing_walk::inner::list_file;
-use model::Refusal;
 use model::STORE_WORDS;
 use model::WORK_WORDS;
-use model::known_class;
-use netlist::SurveyAnswer;
 use netlist::inner::Loaded;
-use netlist::inner::load_by_value;
 use store_writing::inner::clear;
 ghost use mathlib.Core.Path.{_≡_};
 ghost use Prim.Native.Nat.{_≤_};
@@ -92,39 +87,24 @@ fn list_tests(
     }
 }
 
-// The listing of a legal netlist in a class that there is.
+// The lines after the first one: a store and working memory are made for them.
 fn list(netlist: &[u8], tables: Loaded, class: u32, out: &mut [u8])
     requires { ⌜ SomeTables (now netlist) (tables .positions) (tables .counts) (tables .shape) × (outBytes ≤ length (now out)) ⌝ }
 {
     let mut store = store_words();
     let mut work = work_words();
-    let n = put_paths(out, tables.total);
-    print(STDOUT_FILENO, &out[..n]);
     list_tests(netlist, tables, class, &mut store, &mut work, out);
 }
 
-// The line of a refused netlist, or of a class that there is not.
-fn refuse(why: Refusal, out: &mut [u8])
-    requires { ⌜ outBytes ≤ length (now out) ⌝ }
-{
-    let n = put_refusal(out, 0, why);
-    print(STDOUT_FILENO, &out[..n]);
-}
-
-// The listing on a netlist in a class.
+// The listing on a netlist in a class: the first line, and the lines after it where both pass.
 fn list_circuit(netlist: &[u8], class: u32) {
-    let tables = load_by_value(netlist);
-    let answer = tables.answer;
     let mut out = text_bytes();
-    match answer {
-        SurveyAnswer::Refused(why) => refuse(why, &mut out),
-        SurveyAnswer::Legal => {
-            if known_class(class) {
-                list(netlist, tables, class, &mut out);
-            } else {
-                refuse(Refusal::UnknownClass, &mut out);
-            }
-        }
+    let head = put_head(netlist, class, &mut out);
+    let end = head.end;
+    print(STDOUT_FILENO, &out[..end]);
+    if head.passed {
+        let tables = head.tables;
+        list(netlist, tables, class, &mut out);
     }
 }
 

@@ -1,0 +1,2 @@
+-- The first line of a listing.
+pub mod ListingHead
