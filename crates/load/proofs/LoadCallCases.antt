@@ -3,8 +3,8 @@
 use mathlib.Core.Path.{_≡_, refl, ap, sym, _∙_}
 use mathlib.Core.Bool.{Bool, true, false, not}
 use mathlib.Core.List.{List, [], _++_}
-use Prim.Native.Nat.{ℕ, zero, suc, _+_, _-_, _*_, _/_, _^_, _≤_, _<_}
-use native.Mathlib.Nat.{suc-mul, div-mul-le-self, mul-le-mul-right, le-div-iff-mul-le}
+use Prim.Native.Nat.{ℕ, zero, suc, _+_, _-_, _*_, _^_, _≤_, _<_}
+use native.Mathlib.Nat.{suc-mul}
 use native.Mathlib.Omega.{arith}
 use borrow.Author.Needs.{needs}
 use borrow.Author.Tests.{le-leb, lt-leb, not-true, not-false}
@@ -19,9 +19,9 @@ use Rattle.drawing.specs.Drawing.{stateAfter}
 use Rattle.drawing.proofs.DrawSteps.{no-steps}
 use Rattle.load.specs.Load.{loadRecords, vectorRecords}
 use Rattle.load.specs.Calls.{loadBufferBytes, loadCall, loadAnswer, loadBuffer}
-use Rattle.load.specs.Answers.{LoadTrue, FilledTrue, vectorSize}
+use Rattle.load.specs.Answers.{LoadTrue, vectorSize}
 use Rattle.load.specs.declared.LoadAnswer.the-variants as load
-use Rattle.load.proofs.SizeLaws.{length-load, size-most, size-positive, after-add, vectors-next, no-vectors}
+use Rattle.load.proofs.SizeLaws.{length-load, size-most, after-add, vectors-next, no-vectors}
 
 -- a number of inputs in range
 pub range-least : (n : ℕ) → within 1 64 n ≡ true → 1 ≤ n
@@ -156,41 +156,3 @@ module _ (inputs state vectors size : ℕ) (sized : size ≡ vectorSize inputs) 
         sym (ap (λ (z : List ℕ). sets records place z) e) ∙ g .whole
 
 pub ruleset gather-cases = (gather-first, gather-room, gather-fits, gather-next, gather-state, gather-bytes, needs)
-
--- as many vectors as fit, at the most
-module _ (inputs size room vectors : ℕ) (sized : size ≡ vectorSize inputs) (some : 1 ≤ inputs) where
-  positive : 0 < size
-  positive = rw sized (size-positive inputs some)
-
-  fit-some : size ≤ 2304 → 2304 ≤ room → 0 < room / size
-  fit-some l h = le-div-iff-mul-le {k = size} {x = 1} {y = room} positive .1 (omega arith)
-
-  module _ (few : vectors ≤ room / size) where
-    fit-bytes : vectors * size ≤ room
-    fit-bytes =
-        let a : vectors * size ≤ room / size * size = mul-le-mul-right {m = vectors} {n = room / size} size few in
-        let b : room / size * size ≤ room = div-mul-le-self room size in
-        omega arith
-
-    pub fit-room : vectors * vectorSize inputs ≤ room
-    fit-room =
-        let e : vectors * size ≡ vectors * vectorSize inputs = ap (λ k. vectors * k) sized in omega (arith, fit-bytes)
-
-    pub fit-size : room < 2 ^ 64 → vectors * size < 2 ^ 64
-    fit-size l = omega (arith, fit-bytes)
-
-module _ (inputs size vectors : ℕ) (found : List ℕ) (sized : size ≡ vectorSize inputs) (some : 1 ≤ inputs) (fit : vectors ≤ length found / size) where
-  pub fill-true : size ≤ 2304 → 2304 ≤ length found → (state left after : ℕ) (bytes : List ℕ) → vectors ≤ left
-      → (0 < left → 0 < length found / size → 0 < vectors) → after ≡ stateAfter (vectors * inputs) state
-      → bytes ≡ sets found 0 (vectorRecords inputs vectors state)
-      → FilledTrue (record { vectors = vectors; size = vectors * size; state = after }) state inputs left found bytes
-  fill-true l h state left after bytes few any steps put = record {
-    written = put;
-    stateIs = steps;
-    sizeIs = ap (λ k. vectors * k) sized;
-    inside = fit-bytes inputs size (length found) vectors sized some fit;
-    few = few;
-    some = λ m. any m (fit-some inputs size (length found) vectors sized some l h);
-  }
-
-pub ruleset fill-cases = (fit-room, fit-size, fill-true, needs)

@@ -2,18 +2,13 @@
 -- Assumes nothing.
 use mathlib.Core.Path.{_≡_}
 use mathlib.Core.List.{List}
-use Prim.Native.Nat.{ℕ, _+_, _*_, _≤_, _<_}
-use lib.ListN.{length}
-use lib.Seq.{sets}
+use Prim.Native.Nat.{ℕ, _+_, _*_}
 use Rattle.model.specs.Base.{Answer, refused, value}
 use Rattle.model.specs.Read.{vectorBytes}
 use Rattle.model.specs.Refusals.{refusalNumber}
-use Rattle.drawing.specs.Drawing.{stateAfter}
-use Rattle.load.specs.Load.{vectorRecords}
 use Rattle.load.specs.Calls.{Handed, loadAnswer, loadBuffer}
 use Rattle.load.specs.declared.LoadAnswer.{LoadAnswer}
 use Rattle.load.specs.declared.LoadAnswer.the-variants as load
-use Rattle.load.specs.declared.inner.Filled.{Filled}
 
 -- the load call: the state afterwards, and the length of the records
 abbrev pub loadedOf : LoadAnswer → Answer Handed
@@ -31,12 +26,3 @@ recordSize inputs = 2 + 2 * vectorBytes inputs
 
 abbrev pub vectorSize : ℕ → ℕ
 vectorSize inputs = inputs * (2 * recordSize inputs)
-
--- A buffer is filled with the records of the next vectors: of as many as are left or as fit, and of one at the least where one is left
-pub record FilledTrue (r : Filled) (state inputs left : ℕ) (found bytes : List ℕ) : Type 0 where
-  pub written : bytes ≡ sets found 0 (vectorRecords inputs (r .vectors) state)
-  pub stateIs : r .state ≡ stateAfter (r .vectors * inputs) state
-  pub sizeIs : r .size ≡ r .vectors * vectorSize inputs
-  pub inside : r .size ≤ length found
-  pub few : r .vectors ≤ left
-  pub some : 0 < left → 0 < r .vectors

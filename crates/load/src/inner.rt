@@ -5,17 +5,10 @@ ghost use lib.ListN.{length};
 ghost use lib.Seq.{sets};
 ghost use Rattle.drawing.specs.Drawing.{stateAfter};
 ghost use Rattle.load.specs.Load.{loadRecords, vectorRecords};
-ghost use Rattle.load.specs.Answers.{FilledTrue, vectorSize};
+ghost use Rattle.load.specs.Answers.{vectorSize};
 use drawing::inner::draw_vector;
 use test_records::inner::vector_bytes;
 use test_writing::inner::put_test;
-
-// What a buffer was filled with: the number of vectors, the bytes of their records, and the state afterwards.
-pub struct Filled {
-    pub vectors: usize,
-    pub size: usize,
-    pub state: u32,
-}
 
 // The bytes of one vector's records.
 pub fn vector_size(inputs: usize) -> usize
@@ -83,27 +76,4 @@ pub fn put_vectors(state: u32, inputs: usize, vectors: usize, records: &mut [u8]
         left -= 1;
     }
     last
-}
-
-// The smaller of two numbers.
-fn least(a: usize, b: usize) -> usize
-    ensures { λ r. ⌜ (r ≤ a) × (r ≤ b) ⌝ }
-    ensures { λ r. ⌜ (0 < a → 0 < b → 0 < r) ⌝ }
-{
-    if a < b { a } else { b }
-}
-
-// Fills a buffer with the records of the next vectors: of as many as are left, or as fit.
-pub fn fill(state: u32, inputs: usize, left: usize, records: &mut [u8]) -> Filled
-    requires { ⌜ (1 ≤ inputs) × (inputs ≤ 64) × (2304 ≤ length (now records)) ⌝ }
-    ensures { λ r. ⌜ FilledTrue r state inputs left (now (records .entry)) (now (records .exit)) ⌝ }
-{
-    let size = vector_size(inputs);
-    let vectors = least(left, records.len() / size);
-    let after = put_vectors(state, inputs, vectors, records);
-    Filled {
-        vectors,
-        size: vectors * size,
-        state: after,
-    }
 }

@@ -2,6 +2,7 @@
 // length than ten bytes, or with a number of inputs outside 1 to 64, writes nothing, and standard error says why; so where it can't be read whole.
 ghost use Prim.Native.Nat.{_≤_};
 ghost use lib.ListN.{length};
+ghost use Rattle.load_walk.specs.LoadWalk.{Walked};
 use command::end_progress;
 use command::file_name;
 use command::is_argument;
@@ -13,11 +14,11 @@ use console::print_line;
 use console::with_refusal;
 use libc::STDERR_FILENO;
 use libc::STDOUT_FILENO;
-use load::inner::fill;
-use load::inputs_fit;
-use load_request::Asked;
 use load_request::REQUEST_BYTES;
-use load_request::read_request;
+use load_walk::Start;
+use load_walk::begin;
+use load_walk::inner::Walk;
+use load_walk::inner::next_piece;
 use model::Refusal;
 
 fn print_usage(fd: i32) {
@@ -50,43 +51,55 @@ fn show_left(told: bool, left: usize, shown: i64) -> i64 {
     now
 }
 
-// Writes the records of so many vectors, the first drawn from a state, several vectors at a time. Whether all was written.
-fn write_vectors(state: u32, vectors: usize, inputs: usize, records: &mut [u8]) -> bool
-    requires { ⌜ (1 ≤ inputs) × (inputs ≤ 64) × (2304 ≤ length (now records)) ⌝ }
+// Writes a load piece by piece, each drawn from where the one before it ended. The walk after the last piece that was written whole: no vector is left
+// where all were.
+fn write_pieces(start: Walk, records: &mut [u8]) -> Walk
+    requires { ⌜ (1 ≤ start .inputs) × (start .inputs ≤ 64) × (2304 ≤ length (now records)) ⌝ }
+    ensures { λ r. ⌜ Walked (length (now (records .entry))) start r ⌝ }
 {
     let told = libc::isatty(STDERR_FILENO) != 0;
     let mut shown = seconds();
-    let mut last = state;
-    let mut left = vectors;
-    while 0 < left {
-        let filled = fill(last, inputs, left, records);
-        let size = filled.size;
+    let mut walk = start;
+    while 0 < walk.left {
+        let next = next_piece(walk, records);
+        let size = next.size;
         if !io::write_all(STDOUT_FILENO, &records[..size]) {
-            return false;
+            return walk;
         }
-        last = filled.state;
-        left -= filled.vectors;
-        shown = show_left(told, left, shown);
+        walk = next;
+        shown = show_left(told, walk.left, shown);
     }
-    true
+    walk
 }
 
-// The load of a seed.
-fn make(seed: u32, vectors: u32, inputs: u32) {
-    let fit = inputs_fit(inputs);
-    if !fit {
-        print_line(
-            STDERR_FILENO,
-            with_refusal(empty_line(), Refusal::HeaderRange),
-        );
-        print_error(b"The number of inputs is not 1 to 64.\n");
-        return;
-    }
+// Writes a load, and says so where standard output does not take it whole.
+fn write_load(start: Walk)
+    requires { ⌜ (1 ≤ start .inputs) × (start .inputs ≤ 64) ⌝ }
+{
     let mut records = io::large_buffer();
-    let whole = write_vectors(seed, vectors as usize, inputs as usize, &mut records);
+    let last = write_pieces(start, &mut records);
     end_progress();
-    if !whole {
+    if 0 < last.left {
         print_error(b"standard output could not be written\n");
+    }
+}
+
+// Says that the number of inputs is refused.
+fn refuse_inputs() {
+    print_line(
+        STDERR_FILENO,
+        with_refusal(empty_line(), Refusal::HeaderRange),
+    );
+    print_error(b"The number of inputs is not 1 to 64.\n");
+}
+
+// Writes the load that the bytes of load.bin start, or says why they start none.
+fn make(request: &[u8]) {
+    let started = begin(request);
+    match started {
+        Start::OtherLength => print_error(b"the request has not 10 bytes\n"),
+        Start::InputsRefused => refuse_inputs(),
+        Start::Load(walk) => write_load(walk),
     }
 }
 
@@ -107,13 +120,5 @@ fn main() {
     if !request.whole {
         return;
     }
-    let asked = read_request(&bytes[..length]);
-    match asked {
-        Asked::Nothing => print_error(b"the request has not 10 bytes\n"),
-        Asked::Load {
-            seed,
-            vectors,
-            inputs,
-        } => make(seed, vectors, inputs),
-    }
+    make(&bytes[..length]);
 }

@@ -1,0 +1,2 @@
+-- A load in pieces.
+pub mod LoadWalk

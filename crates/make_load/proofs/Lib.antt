@@ -1,0 +1,2 @@
+-- What the loop that writes a load needs.
+pub mod WriteCases
