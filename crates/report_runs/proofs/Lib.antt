@@ -2,4 +2,5 @@
 pub mod EightByteLaws
 pub mod RunByteLaws
 pub mod OrderCases
+pub mod AscendLaws
 pub mod ClaimLaws

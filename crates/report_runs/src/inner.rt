@@ -4,8 +4,7 @@ ghost use Prim.Native.Nat.{_+_, _*_, _-_, _/_, _≤_, _<_, min};
 ghost use lib.ListN.{length, take, drop};
 ghost use Rattle.model.specs.Base.{field};
 ghost use Rattle.model.specs.Path.{rising, falling};
-ghost use Rattle.model.specs.Report.{namedRuns};
-ghost use Rattle.report_runs.specs.ReportRuns.{runsOfBytes, StatedLength};
+ghost use Rattle.report_runs.specs.ReportRuns.{headOf, runsOfBytes, statedRuns};
 use records::inner::u16_at;
 use report_bytes::layout::FALLING_FAULTS_AT;
 use report_bytes::layout::FALLING_RUNS_AT;
@@ -41,6 +40,7 @@ pub fn number_at(bytes: &[u8], at: usize) -> u64
 // The fields before the runs.
 pub fn head_of(report: &[u8]) -> Head
     requires { ⌜ 34 ≤ length (now report) ⌝ }
+    ensures { λ r. ⌜ r ≡ headOf (now (report .entry)) ⌝ }
 {
     let tests = u16_at(report, TESTS_AT) + 65536 * u16_at(report, TESTS_AT + 2);
     Head {
@@ -71,11 +71,10 @@ fn runs_from(report: &[u8], at: usize, stated: usize) -> &[u8]
     &report[at..end]
 }
 
-// The bytes of the rising runs. In a report of the length that its fields state these are the runs that it names.
+// The bytes of the rising runs, of a report of any length.
 pub fn rising_runs(report: &[u8]) -> &[u8]
     requires { ⌜ 34 ≤ length (now report) ⌝ }
-    ensures { λ r. ⌜
-        (StatedLength (now (report .entry)) → runsOfBytes (now r) ≡ namedRuns (now (report .entry)) rising) ⌝ }
+    ensures { λ r. ⌜ runsOfBytes (now r) ≡ statedRuns (now (report .entry)) rising ⌝ }
 {
     runs_from(report, HEAD_BYTES, u16_at(report, RISING_RUNS_AT))
 }
@@ -83,8 +82,7 @@ pub fn rising_runs(report: &[u8]) -> &[u8]
 // The bytes of the falling runs, which follow the rising ones that are stated.
 pub fn falling_runs(report: &[u8]) -> &[u8]
     requires { ⌜ 34 ≤ length (now report) ⌝ }
-    ensures { λ r. ⌜
-        (StatedLength (now (report .entry)) → runsOfBytes (now r) ≡ namedRuns (now (report .entry)) falling) ⌝ }
+    ensures { λ r. ⌜ runsOfBytes (now r) ≡ statedRuns (now (report .entry)) falling ⌝ }
 {
     let at = HEAD_BYTES + RUN_BYTES * u16_at(report, RISING_RUNS_AT);
     if report.len() < at {

@@ -4,7 +4,7 @@ pub mod inner;
 ghost use mathlib.Core.Path.{_≡_};
 ghost use mathlib.Core.Bool.{_&&_};
 ghost use lib.Dec.{leb};
-ghost use Rattle.report_runs.specs.ReportRuns.{runsOfBytes, leastAt, Ordered};
+ghost use Rattle.report_runs.specs.ReportRuns.{runsOfBytes, leastAt, Ordered, ascend};
 use crate::inner::number_at;
 use report_bytes::layout::RUN_BYTES;
 
@@ -45,4 +45,15 @@ pub fn order_of(runs: &[u8]) -> Order
         at += 1;
     }
     Order::Ascending
+}
+
+// Whether runs in bytes ascend.
+pub fn ascending(runs: &[u8]) -> bool
+    ensures { λ r. ⌜ r ≡ ascend 0 (runsOfBytes (now (runs .entry))) ⌝ }
+{
+    let order = order_of(runs);
+    match order {
+        Order::Ascending => true,
+        Order::OutOfOrder(_) => false,
+    }
 }
