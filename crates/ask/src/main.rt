@@ -61,7 +61,8 @@ fn answer_store(netlist: &[u8], store: &[u64]) {
 // The same about the faults that the test file detects, in a class, that the second argument names.
 fn answer_tests(netlist: &[u8], class: u32) {
     let mut store = [0u64; STORE_WORDS];
-    if store_of_tests(2, netlist, class, &mut store) {
+    let tests = store_of_tests(2, netlist, class, &mut store);
+    if tests.taken {
         answer_store(netlist, &store);
     }
 }

@@ -72,7 +72,8 @@ fn print_coverage(netlist: &[u8], store: &[u64], picture: bool) {
 // The same of the faults that the test file detects, in a class, that an argument names.
 fn cover_tests(netlist: &[u8], class: u32, place: usize, picture: bool) {
     let mut store = [0u64; STORE_WORDS];
-    if store_of_tests(place, netlist, class, &mut store) {
+    let tests = store_of_tests(place, netlist, class, &mut store);
+    if tests.taken {
         print_coverage(netlist, &store, picture);
     }
 }

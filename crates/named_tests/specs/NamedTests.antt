@@ -2,11 +2,11 @@
 -- test file, and what is told is true of it. Working memory is the program's own and long enough, so 2 does not come.
 -- Assumes nothing.
 use mathlib.Core.Path.{_≡_}
-use mathlib.Core.Bool.{Bool, true}
+use mathlib.Core.Bool.{Bool, true, false, _&&_}
 use mathlib.Core.List.{List, [], _∷_}
-use Prim.Native.Nat.{ℕ, _≤_, _<_}
+use Prim.Native.Nat.{ℕ, _≤_}
 use lib.ListN.{length}
-use Rattle.model.specs.Base.{Answer, value, _into_, _then_, checks, after}
+use Rattle.model.specs.Base.{Answer, refused, value, _into_, _then_, checks, after}
 use Rattle.model.specs.Netlist.{Netlist}
 use Rattle.model.specs.Read.{readNetlist, classOf, classRule}
 use Rattle.model.specs.Calls.{workWords, storeRule}
@@ -14,8 +14,10 @@ use Rattle.model.specs.Report.{writerCall}
 use Rattle.file_block.specs.RecordsTaken.{leftStore}
 use Rattle.file_walk.specs.Walked.{fileTaken}
 use Rattle.test_file.specs.declared.Reported.{Reported}
-use Rattle.test_file.specs.TrueReport.{withReport}
+use Rattle.test_file.specs.TrueReport.{lengthIn, withReport}
 use Rattle.test_file.specs.Streams.{StreamReported}
+use Rattle.named_tests.specs.declared.ToldReport.{ToldReport}
+use Rattle.named_tests.specs.declared.ToldStore.{ToldStore}
 
 -- The report of a file by its name: with some space and working memory that is long enough, what is promised of a file from a descriptor
 pub record FileReported (r : Reported) (netlist : List ℕ) (class : ℕ) (truth truth′ ws ws′ : List ℕ) : Type 0 where
@@ -44,15 +46,27 @@ testsReport netlist class testFile ws buffer =
     into λ N. fileTaken N (classOf class) testFile
     into λ left. writerCall netlist left buffer
 
--- The report of the tests, told by its length: a number over 0 is that of the true report, whose bytes stand at the start of the buffer
-pub record TestsReported (told : ℕ) (netlist : List ℕ) (class : ℕ) (truth truth′ ws ws′ : List ℕ) : Type 0 where
+-- the length that is told of a file's report: that of a file that was read whole, 0 where it is refused; 0 where it was not read whole
+abbrev pub lengthTold : Bool → Answer (List ℕ) → ℕ
+lengthTold false report = 0
+lengthTold true report = lengthIn (report into λ written. value (length written))
+
+-- whether a test file is taken: no place before its tests refuses, 33 does not come, and no record is refused
+abbrev pub isTaken : Answer (List ℕ) → Bool
+isTaken (refused n) = false
+isTaken (value left) = true
+
+-- The report of the tests: there is a test file of so many bytes, and the length is exactly that of its report, whose bytes stand at the start of the buffer
+pub record TestsReported (r : ToldReport) (netlist : List ℕ) (class : ℕ) (truth truth′ ws ws′ : List ℕ) : Type 0 where
   pub testFile : List ℕ
-  pub lengthIs : 0 < told → (testsReport netlist class testFile ws truth into λ written. value (length written)) ≡ value told
+  pub bytesAre : r .bytes ≡ length testFile
+  pub lengthIs : r .length ≡ lengthTold (r .whole) (testsReport netlist class testFile ws truth)
   pub truthIs : truth′ ≡ withReport (testsReport netlist class testFile ws truth) truth
   pub store : ws′ ≡ testsStore netlist class testFile ws
 
--- The store of the tests: where they are told as taken they are, and this is the store that they leave
-pub record TestsStored (taken : Bool) (netlist : List ℕ) (class : ℕ) (ws ws′ : List ℕ) : Type 0 where
+-- The store of the tests: there is such a file, it is told as taken exactly where it was read whole and is taken, and this is the store that it leaves
+pub record TestsStored (r : ToldStore) (netlist : List ℕ) (class : ℕ) (ws ws′ : List ℕ) : Type 0 where
   pub testFile : List ℕ
-  pub allTaken : taken ≡ true → testsCall netlist class testFile ws ≡ value ws′
+  pub bytesAre : r .bytes ≡ length testFile
+  pub takenIs : r .taken ≡ (r .whole && isTaken (testsCall netlist class testFile ws))
   pub store : ws′ ≡ testsStore netlist class testFile ws

@@ -17,6 +17,21 @@ use report::WriteAnswer;
 use test_file::Reported;
 use test_file::report_stream;
 
+// What is told of the report of a test file: whether the program may judge by the file, the bytes that were read of it, and the length of its report, 0
+// where there is none.
+pub struct ToldReport {
+    pub whole: bool,
+    pub bytes: u64,
+    pub length: usize,
+}
+
+// What is told of the store that a test file leaves: the same of the file, and whether all of its tests were taken.
+pub struct ToldStore {
+    pub whole: bool,
+    pub bytes: u64,
+    pub taken: bool,
+}
+
 // Zeros for working memory: a caller's proof sees the length alone.
 fn no_work() -> [u64; WORK_WORDS]
     ensures { λ r. ⌜ workWords ≡ length r ⌝ }
@@ -58,38 +73,53 @@ pub fn report_file(
     }
 }
 
-// The report, in a class, of the test file that an argument names, tests.tp where there is no such argument: its length, with its bytes at the start of
-// `truth`; 0 where there is no report.
+// Says why there is no report.
+fn say_refused(answer: WriteAnswer, taken: usize) {
+    match answer {
+        WriteAnswer::Refused(why) => print_refused(why, taken),
+        WriteAnswer::Written(_) => {}
+    }
+}
+
+// The report, in a class, of the test file that an argument names, tests.tp where there is no such argument: its bytes are at the start of `truth`.
 pub fn report_of_tests(
     place: usize,
     netlist: &[u8],
     test_class: u32,
     truth: &mut [u8],
     store: &mut [u64],
-) -> usize
+) -> ToldReport
     ensures { λ r. ⌜ TestsReported r (now (netlist .entry)) «test_class» (now (truth .entry)) (now (truth .exit)) (now (store .entry)) (now (store .exit))
-        × Counts r (now (truth .exit)) ⌝ }
+        × Counts (r .length) (now (truth .exit)) ⌝ }
 {
     let mut name = io::buffer();
     let n = file_name(place, b"tests.tp", &mut name);
     let reported = report_file(&name[..n], netlist, test_class, truth, store);
     if !reported.whole {
-        return 0;
+        return ToldReport {
+            whole: false,
+            bytes: reported.bytes,
+            length: 0,
+        };
     }
     let answer = reported.answer;
-    match answer {
-        WriteAnswer::Refused(why) => {
-            print_refused(why, reported.taken);
-            0
-        }
-        WriteAnswer::Written(_) => reported.length,
+    say_refused(answer, reported.taken);
+    ToldReport {
+        whole: true,
+        bytes: reported.bytes,
+        length: reported.length,
     }
 }
 
 // The store that the same file leaves, and whether its tests were all taken.
-pub fn store_of_tests(place: usize, netlist: &[u8], test_class: u32, store: &mut [u64]) -> bool
+pub fn store_of_tests(place: usize, netlist: &[u8], test_class: u32, store: &mut [u64]) -> ToldStore
     ensures { λ r. ⌜ TestsStored r (now (netlist .entry)) «test_class» (now (store .entry)) (now (store .exit)) ⌝ }
 {
     let mut report = [0u8; REPORT_BYTES];
-    0 < report_of_tests(place, netlist, test_class, &mut report, store)
+    let told = report_of_tests(place, netlist, test_class, &mut report, store);
+    ToldStore {
+        whole: told.whole,
+        bytes: told.bytes,
+        taken: 0 < told.length,
+    }
 }

@@ -63,7 +63,8 @@ fn print_view(netlist: &[u8], store: &[u64], places: &[u16]) {
 // The same of what the test file that the second argument names leaves, in a class.
 fn view_tests(netlist: &[u8], class: u32, places: &[u16]) {
     let mut store = [0u64; STORE_WORDS];
-    if store_of_tests(2, netlist, class, &mut store) {
+    let tests = store_of_tests(2, netlist, class, &mut store);
+    if tests.taken {
         print_view(netlist, &store, places);
     }
 }

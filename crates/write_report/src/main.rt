@@ -25,7 +25,8 @@ fn print_usage(fd: i32) {
 fn print_report(netlist: &[u8], class: u32) {
     let mut report = [0u8; REPORT_BYTES];
     let mut store = [0u64; STORE_WORDS];
-    let length = report_of_tests(2, netlist, class, &mut report, &mut store);
+    let told = report_of_tests(2, netlist, class, &mut report, &mut store);
+    let length = told.length;
     print(STDOUT_FILENO, &report[..length]);
 }
 
