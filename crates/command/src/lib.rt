@@ -7,8 +7,6 @@ pub use arguments::file_name;
 pub use arguments::is_argument;
 pub use class_file::ClassRead;
 pub use class_file::class_chosen;
-pub use class_file::class_in;
-pub use class_file::class_listed;
 pub use class_file::read_class;
 pub use class_file::read_listed_class;
 pub use files::Content;
@@ -21,7 +19,8 @@ pub use files::load_file;
 pub use files::open_file;
 use libc::STDERR_FILENO;
 
-// Writes a text to standard error.
+// Writes a text to standard error. Nothing is returned by this and the functions of progress, so there is nothing to promise: no contract can say what the
+// system takes.
 pub fn print_error(text: &[u8]) {
     io::write_all(STDERR_FILENO, text);
 }

@@ -1,44 +1,19 @@
--- `command::same_text` is safe and ends. The invariant: as many bytes as were compared stand in both texts.
+-- `command::same_text` meets its contract. The invariant: the texts are as long, and what is left to compare gives the whole answer.
 -- Assumes nothing.
 use borrow.Author.Needs.{needs}
 use Prim.Native.Nat.{_≤_, _-_}
 use mathlib.Core.Path.{_≡_}
-use lib.ListN.{length}
+use lib.ListN.{length, drop}
+use Rattle.model.specs.Report.{sameBytes}
+use Rattle.command.proofs.TextLaws.{same-cases}
 use Rattle.command.proofs.arguments.same_text.Statement.{statement}
 use Rattle.command.proofs.arguments.same_text.Tie as tie
 
 abbrev Inv-loop : tie.InvT-loop
-Inv-loop left right i₀ i = (i ≤ length left) × (length left ≡ length right)
+Inv-loop left right i₀ i = (i ≤ length left) × (length left ≡ length right) × (sameBytes (drop i left) (drop i right) ≡ sameBytes left right)
 
 abbrev μ-loop : tie.MeasureT-loop
 μ-loop left right i₀ i = length left - i
-
-returns : tie.Need-returns Inv-loop μ-loop
-returns c = search needs
-
-loop-holds : tie.Need-loop-holds Inv-loop μ-loop
-loop-holds c = search needs
-
-shared-slice-read-if2 : tie.Need-shared-slice-read-if2 Inv-loop μ-loop
-shared-slice-read-if2 c = search needs
-
-shared-slice-read-if2-2 : tie.Need-shared-slice-read-if2-2 Inv-loop μ-loop
-shared-slice-read-if2-2 c = search needs
-
-returns-2 : tie.Need-returns-2 Inv-loop μ-loop
-returns-2 c = search needs
-
-add-i : tie.Need-add-i Inv-loop μ-loop
-add-i c = search needs
-
-loop-less : tie.Need-loop-less Inv-loop μ-loop
-loop-less c = search needs
-
-loop-again : tie.Need-loop-again Inv-loop μ-loop
-loop-again c = search needs
-
-returns-3 : tie.Need-returns-3 Inv-loop μ-loop
-returns-3 c = search needs
 
 pub same-text-spec : {M : Type 1} → statement M
 same-text-spec =
@@ -46,12 +21,12 @@ same-text-spec =
     (tie.spec
     Inv-loop
     μ-loop
-    returns
-    loop-holds
-    shared-slice-read-if2
-    shared-slice-read-if2-2
-    returns-2
-    add-i
-    loop-less
-    loop-again
-    returns-3)
+    (λ c. search same-cases)
+    (λ c. search needs)
+    (λ c. search needs)
+    (λ c. search needs)
+    (λ c. search same-cases)
+    (λ c. search needs)
+    (λ c. search needs)
+    (λ c. search same-cases)
+    (λ c. search same-cases))
