@@ -63,31 +63,24 @@
 extern "C" {
 #endif
 
-/* Words of a store, least words of working memory and of a path buffer, least bytes of a report buffer and of a buffer for a netlist file,
- * words of a survey. */
+/* Words of a store, least words of working memory, of a path buffer and of a tree, least bytes of a report buffer, of a buffer for a netlist
+ * file and of one for a vector's records of a load, words of a survey. */
 #define GENDUWAL_STORE_WORDS 4099
 #define GENDUWAL_WORK_WORDS 8192
 #define GENDUWAL_PATH_WORDS 513
+#define GENDUWAL_TREE_WORDS 32768
 #define GENDUWAL_REPORT_BYTES 32802
 #define GENDUWAL_NETLIST_BYTES 10484
+#define GENDUWAL_LOAD_BYTES 2304
 #define GENDUWAL_SURVEY_WORDS 516
 
 /* Lengths that coverage by length counts, 0 to 63 gates, and the words of its answer. */
 #define GENDUWAL_LENGTHS 64
 #define GENDUWAL_LENGTHS_WORDS 256
 
-/* Least bytes of a buffer for one vector's records of a load. */
-#define GENDUWAL_LOAD_BYTES 2304
-
-/* Least words of a tree. */
-#define GENDUWAL_TREE_WORDS 32768
-
-/* Bytes of stack that a call needs below its caller's frame, at least a tenth more than was measured over both classes, blocks of 64 inputs, of 6
- * inputs and of 511 gates, paths of 511 gates and trees of 1,024 runs. Measured were 12,600 for the survey, 10,800 for the conversion of text,
- * 9,500 for a test and at most 6,600 for the other calls without a name of their own below; 24,000 for a viewer's totals and 41,500 for his runs;
- * 54,500 for a path's number and 62,700 for a number's path; 272,300 for coverage by length; 346,100 for an audit, 351,300 for a piece of one and
- * 345,700 for all pairs of a small block. A signal handler on the same stack, and what a thread library keeps there, come on top. */
-#define GENDUWAL_STACK_BYTES 16384
+/* Bytes of stack that a call needs below its caller's frame, at least a tenth more than was measured on the largest blocks, paths and trees, in
+ * both classes (most: 351,223, a piece of an audit). A signal handler on the same stack, and what a thread library keeps there, come on top. */
+#define GENDUWAL_STACK_BYTES 16384          /* every call that is not named in the next four lines */
 #define GENDUWAL_VIEWER_STACK_BYTES 49152   /* genduwal_viewer_totals, genduwal_viewer_runs */
 #define GENDUWAL_PATH_STACK_BYTES 73728     /* genduwal_path_to_number, genduwal_number_to_path */
 #define GENDUWAL_LENGTHS_STACK_BYTES 303104 /* genduwal_lengths */
@@ -104,7 +97,7 @@ extern "C" {
 
 /* A path number and a fault number count unlike things: each is a type of its own, in registers and in memory the same as a uint64_t, so that
  * a compiler refuses one in the place of the other. Both count from 1; path i has the faults 2i - 1 (rising) and 2i (falling). Only
- * genduwal_fault_of and genduwal_path_of lead from one to the other. The header defines GENDUWAL_TYPED_NUMBERS since it has these types. */
+ * genduwal_fault_of and genduwal_path_of lead from one to the other. GENDUWAL_TYPED_NUMBERS says that the header has these types. */
 #define GENDUWAL_TYPED_NUMBERS 1
 typedef struct { uint64_t number; } genduwal_path_no;
 typedef struct { uint64_t number; } genduwal_fault_no;
@@ -113,9 +106,8 @@ typedef struct { uint64_t number; } genduwal_fault_no;
  * Refusals: 60 (another edge, or a path number that is not 1 to 2^62: no netlist has such a path). */
 uint32_t genduwal_fault_of(genduwal_path_no number, uint32_t edge, genduwal_fault_no answer[1]);
 
-/* The path of a fault and its edge. answer: the path's number, (f + 1) / 2 for fault f, rounded down. edge: GENDUWAL_RISING if f is odd,
- * GENDUWAL_FALLING if it is even; it stays as it was where the call is refused, as the answer does. A fault number over 2^63 has a path number
- * over 2^62, which every netlist refuses.
+/* The path of a fault and its edge. answer: the path's number, (f + 1) / 2 for fault f, rounded down; over 2^62, where no netlist has a path, for
+ * f over 2^63. edge: GENDUWAL_RISING if f is odd, GENDUWAL_FALLING if it is even. A refused call leaves both as they were.
  * Refusals: 60 (fault number 0). */
 uint32_t genduwal_path_of(genduwal_fault_no fault, genduwal_path_no answer[1], uint32_t edge[1]);
 
@@ -183,8 +175,7 @@ uint32_t genduwal_viewer_runs(const uint8_t *netlist, size_t netlist_len, const 
 /* The number of a path. path: the output's place, the number n of pins, then n pins from the output back; path_len is exactly 2 + n.
  * answer: the path's number, from 1.
  * Refusals: 10 to 15, 17 to 21, 61. */
-uint32_t genduwal_path_to_number(const uint8_t *netlist, size_t netlist_len, const uint16_t *path, size_t path_len,
-                                 genduwal_path_no answer[1]);
+uint32_t genduwal_path_to_number(const uint8_t *netlist, size_t netlist_len, const uint16_t *path, size_t path_len, genduwal_path_no answer[1]);
 
 /* Writes the path of a number into the first 513 words of path, with zeros after it; path is at least 513 words, and later ones stay as they
  * were. A refused call leaves all of them as they were.
