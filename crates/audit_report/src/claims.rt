@@ -11,12 +11,9 @@ use differences::inner::walk::next_piece;
 use faults::Edge;
 use libc::STDOUT_FILENO;
 use report_bytes::layout::HEAD_BYTES;
-use report_runs::Order;
+use report_runs::ascending;
 use report_runs::inner::falling_runs;
 use report_runs::inner::rising_runs;
-use report_runs::order_of;
-ghost use mathlib.Core.Path.{_≡_};
-ghost use mathlib.Core.Bool.{true};
 ghost use Prim.Native.Nat.{_≤_};
 ghost use lib.ListN.{length};
 ghost use Rattle.report_runs.specs.ReportRuns.{runsOfBytes, Ascends};
@@ -26,17 +23,6 @@ ghost use Rattle.audit_report.specs.ClaimedNumbers.{ClaimTrue};
 fn print_piece(kind: Kind, edge: Edge, low: u64, high: u64, is_shown: bool) {
     if is_shown {
         print_line(STDOUT_FILENO, claim_line(kind, edge, low, high));
-    }
-}
-
-// Whether runs ascend.
-pub(crate) fn ascending(runs: &[u8]) -> bool
-    ensures { λ r. ⌜ (r ≡ true → Ascends 0 (runsOfBytes (now (runs .entry)))) ⌝ }
-{
-    let order = order_of(runs);
-    match order {
-        Order::Ascending => true,
-        Order::OutOfOrder(_) => false,
     }
 }
 

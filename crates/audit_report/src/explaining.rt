@@ -1,6 +1,5 @@
 // What is false in a report that is refused for its length or its bytes: the fields that differ, the runs that are out of order, and, for an edge
 // whose runs ascend, the numbers that are claimed and not detected and those that are detected and not claimed.
-use crate::claims::ascending;
 use crate::claims::print_numbers;
 use crate::one_more;
 use claim_text::faults_line;
@@ -11,8 +10,8 @@ use console::empty_line;
 use console::print_line;
 use console::with_number;
 use console::with_text;
-use differences::inner::walk::Piece;
-use differences::inner::walk::next_piece;
+use differences::inner::first::Told;
+use differences::inner::first::first_told;
 use faults::Edge;
 use faults::PathNo;
 use libc::STDOUT_FILENO;
@@ -28,7 +27,6 @@ use report_runs::inner::rising_runs;
 use report_runs::order_of;
 ghost use Prim.Native.Nat.{_≤_};
 ghost use lib.ListN.{length};
-ghost use Rattle.report_runs.specs.ReportRuns.{runsOfBytes, Ascends};
 
 // A field of the head where it differs.
 fn print_field(field: Field, claimed: u64, truth: u64) {
@@ -84,33 +82,6 @@ fn print_order(edge: Edge, runs: &[u8]) {
     }
 }
 
-// The first number from 1 to T in the runs of `a` and not in those of `b`; 0 where there is none.
-fn first_number(a: &[u8], b: &[u8], paths: u64) -> u64
-    requires { ⌜ Ascends 0 (runsOfBytes (now a)) × Ascends 0 (runsOfBytes (now b)) ⌝ }
-{
-    let found = next_piece(a, 0, b, 0, 1);
-    let piece = found.piece;
-    match piece {
-        Piece::Nothing => 0,
-        Piece::Stretch { low, .. } => {
-            if paths < low {
-                return 0;
-            }
-            low
-        }
-    }
-}
-
-// The first number from 1 to T that is claimed and not detected; 0 where there is none, or one of the lists does not ascend.
-fn first_claim(claimed: &[u8], truth: &[u8], paths: u64) -> u64 {
-    if ascending(claimed) {
-        if ascending(truth) {
-            return first_number(claimed, truth, paths);
-        }
-    }
-    0
-}
-
 // A false claim, with its path in gates.
 fn print_claim(netlist: &[u8], edge: &[u8], path: u64) {
     let named = with_text(
@@ -122,18 +93,25 @@ fn print_claim(netlist: &[u8], edge: &[u8], path: u64) {
     print_path(STDOUT_FILENO, netlist, PathNo(path));
 }
 
-// The first false claim, if there is one.
-fn print_first_claim(netlist: &[u8], paths: u64, report: &[u8], truth: &[u8])
+// That every claim is true in class 1.
+fn print_not_robust() {
+    let line = with_text(
+        empty_line(),
+        b"No claim is false in class 1: what is claimed is detected, not robustly.",
+    );
+    print_line(STDOUT_FILENO, line);
+}
+
+// The first false claim, if there is one; in class 2 one that is false in class 1, too, or that there is no such claim.
+fn print_first_claim(netlist: &[u8], paths: u64, report: &[u8], truth: &[u8], plain: &[u8])
     requires { ⌜ (34 ≤ length (now report)) × (34 ≤ length (now truth)) ⌝ }
 {
-    let rising = first_claim(rising_runs(report), rising_runs(truth), paths);
-    if 0 < rising {
-        print_claim(netlist, b"rising", rising);
-        return;
-    }
-    let falling = first_claim(falling_runs(report), falling_runs(truth), paths);
-    if 0 < falling {
-        print_claim(netlist, b"falling", falling);
+    let told = first_told(report, truth, plain, paths);
+    match told {
+        Told::Nothing => return,
+        Told::NotRobust => print_not_robust(),
+        Told::Rising(path) => print_claim(netlist, b"rising", path),
+        Told::Falling(path) => print_claim(netlist, b"falling", path),
     }
 }
 
@@ -156,5 +134,5 @@ pub(crate) fn explain(
     print_order(Edge::Rising, rising_runs(report));
     print_order(Edge::Falling, falling_runs(report));
     print_numbers(report, truth, plain, all);
-    print_first_claim(netlist, paths, report, truth);
+    print_first_claim(netlist, paths, report, truth, plain);
 }

@@ -17,9 +17,13 @@ use Rattle.differences.specs.declared.inner.walk.First.the-variants as f
 use Rattle.differences.specs.declared.inner.walk.Piece.{Piece}
 use Rattle.differences.specs.declared.inner.walk.Piece.the-variants as piece
 
+-- the number is claimed and not held
+abbrev pub outside : List Run → List Run → ℕ → Bool
+outside claimed held k = inRuns claimed k && not (inRuns held k)
+
 -- the number is in the runs of `a` and not in those of `b`
 unfoldable pub only : List ℕ → List ℕ → ℕ → Bool
-only a b k = inRuns (runsOfBytes a) k && not (inRuns (runsOfBytes b) k)
+only a b k = outside (runsOfBytes a) (runsOfBytes b) k
 
 -- place `i` of ascending runs, from which the numbers from `n` on are looked for: the runs before it hold none of them
 abbrev pub Passed : List ℕ → ℕ → ℕ → Type 0

@@ -1,6 +1,7 @@
 -- `audit_report::claims::print_claims_of` is safe: lists are compared only where all ascend.
 -- Assumes nothing.
 use borrow.Author.Needs.{needs}
+use Rattle.report_runs.proofs.AscendLaws.{ascends-of}
 use Rattle.audit_report.proofs.claims.print_claims_of.Statement.{statement}
 use Rattle.audit_report.proofs.claims.print_claims_of.Tie as tie
 
@@ -21,9 +22,9 @@ ascending-requires-3 c κs = search needs
 
 print-split-requires : tie.Need-print-split-requires
 print-split-requires c κs =
-    let claimed = c .before .before .before .before .before .ascending .ensures (c .before .before .before .before .if2 .taken) in
-    let truth = c .before .before .before .ascending2 .ensures (c .before .before .if3 .taken) in
-    (claimed, truth, c .before .ascending3 .ensures (c .if4 .taken))
+    let claimed = ascends-of _ (c .before .before .before .before .before .ascending .ensures) (c .before .before .before .before .if2 .taken) in
+    let truth = ascends-of _ (c .before .before .before .ascending2 .ensures) (c .before .before .if3 .taken) in
+    (claimed, truth, ascends-of _ (c .before .ascending3 .ensures) (c .if4 .taken))
 
 returns-2 : tie.Need-returns-2
 returns-2 c = search needs

@@ -1,6 +1,7 @@
 -- `audit_report::claims::print_edge` is safe: lists are compared only where both ascend.
 -- Assumes nothing.
 use borrow.Author.Needs.{needs}
+use Rattle.report_runs.proofs.AscendLaws.{ascends-of}
 use Rattle.audit_report.proofs.claims.print_edge.Statement.{statement}
 use Rattle.audit_report.proofs.claims.print_edge.Tie as tie
 
@@ -12,7 +13,7 @@ ascending-requires-2 c κs = search needs
 
 print-pieces-requires : tie.Need-print-pieces-requires
 print-pieces-requires c κs =
-    (c .before .before .before .ascending .ensures (c .before .before .if1 .taken), c .before .ascending2 .ensures (c .if2 .taken))
+    (ascends-of _ (c .before .before .before .ascending .ensures) (c .before .before .if1 .taken), ascends-of _ (c .before .ascending2 .ensures) (c .if2 .taken))
 
 returns : tie.Need-returns
 returns c = search needs
