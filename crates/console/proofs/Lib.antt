@@ -1,0 +1,2 @@
+-- The cases of the sentences.
+pub mod ConditionLaws
