@@ -1,2 +1,3 @@
--- The cases of the calls.
+-- The cases of the calls, and the line on a refusal.
 pub mod NamedTestCases
+pub mod RefusingLaws

@@ -13,6 +13,7 @@ use command::open_file;
 use model::REPORT_BYTES;
 use model::WORK_WORDS;
 pub use refusing::print_refused;
+pub use refusing::refused_line;
 use report::WriteAnswer;
 use test_file::Reported;
 use test_file::report_stream;
