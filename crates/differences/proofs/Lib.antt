@@ -1,4 +1,4 @@
--- Places in ascending runs, and the steps from stretch to stretch.
+-- Places in ascending runs, the steps from stretch to stretch, and the first false claim.
 pub mod RunCases
 pub mod StretchCases
 pub mod HeldLaws

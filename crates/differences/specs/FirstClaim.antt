@@ -20,7 +20,7 @@ unfoldable pub firstClaim : List Run → List Run → ℕ → ℕ
 firstClaim claimed held paths =
     elim (ascend 0 claimed && ascend 0 held) [ true ↦ firstFrom (outside claimed held) 1 paths | false ↦ 0 ]
 
--- every number that is claimed is held
+-- every number that is claimed is held; a number of no path counts, too
 abbrev pub eachHeld : List Run → List Run → Bool
 eachHeld claimed held = allOf (λ r. allOf (inRuns held) (numbersFrom (r .low) (suc (r .high) - r .low))) claimed
 
@@ -49,8 +49,8 @@ claimsHeld report held =
     allHeld (statedRuns report rising) (statedRuns held rising) && allHeld (statedRuns report falling) (statedRuns held falling)
 
 -- What is told of a report that is refused. `truth` is the true report in the class of the audit. In class 2 `plain` is the true report in class 1: it
--- names every fault that the one in class 2 does (`robustReportNames` of `ClassesTrue`), so what it does not hold neither holds. In class 1, and where
--- there is no such report, `plain` has no head
+-- names every fault that the one in class 2 does (`classes-true`), so a claim that it does not hold is false in both. In class 1, and where there is
+-- no such report, `plain` has no head
 unfoldable pub toldOf : List ℕ → List ℕ → List ℕ → ℕ → Told
 toldOf report truth plain paths =
     elim (leb 34 (length plain)) [
