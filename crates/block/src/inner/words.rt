@@ -102,7 +102,8 @@ pub fn gate_lists(
     up_lens: &mut [u16; 64],
     down_lens: &mut [u16; 64],
 )
-    requires { ⌜ SomeTable (now table) (shape .inputs) (shape .nets) × (netsSize ≤ length (now words)) × EmptyLists (now ups) (now «up_lens») × EmptyLists (now downs) (now «down_lens») ⌝ }
+    requires { ⌜ SomeTable (now table) (shape .inputs) (shape .nets) × (netsSize ≤ length (now words)) × EmptyLists (now ups) (now «up_lens»)
+        × EmptyLists (now downs) (now «down_lens») ⌝ }
     ensures { λ _. ⌜
         GatesListed (now (table .entry)) shape class (now (words .entry)) (now (words .exit)) (now (ups .entry)) (now (ups .exit)) (now («up_lens» .exit))
         (now (downs .entry)) (now (downs .exit)) (now («down_lens» .exit))
