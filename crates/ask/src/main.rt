@@ -3,8 +3,8 @@
 // read from standard input, one a line, and each is answered as soon as its line has come: held or not, and the nodes of the tree that were visited.
 // Where the netlist, the class, the file or a record is refused it answers nothing, and says why on standard error; so where a file can't be read whole.
 ghost use Rattle.std.specs.Prelude.{◌≡◌, length};
-ghost use Rattle.tree_words.specs.TreeLayout.{treeWords};
-ghost use Rattle.ask_walk.specs.InputWalk.{pieceBytes};
+ghost use Rattle.tree_words.specs.TreeLayout.{tree_words_count};
+ghost use Rattle.ask_walk.specs.InputWalk.{piece_bytes};
 
 use ask_walk::inner::{PIECE_BYTES, answer_input};
 use libc::{STDERR_FILENO, STDOUT_FILENO};
@@ -25,13 +25,13 @@ fn print_usage(fd: i32) {
 
 // Zeros for a tree, and for the questions that are read at a time.
 fn no_tree() -> [u64; TREE_WORDS]
-    ensures { treeWords ≡ length result }
+    ensures { tree_words_count ≡ length result }
 {
     [0; TREE_WORDS]
 }
 
 fn no_questions() -> [u8; PIECE_BYTES]
-    ensures { pieceBytes ≡ length result }
+    ensures { piece_bytes ≡ length result }
 {
     [0; PIECE_BYTES]
 }

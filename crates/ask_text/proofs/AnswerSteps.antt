@@ -5,8 +5,8 @@ use Rattle.model.specs.Base.{Answer}
 use Rattle.text_buffer.specs.Written.{Written}
 use Rattle.text_buffer.proofs.WrittenLaws.{none_written, then-written, written_as, written-length}
 use Rattle.tree_words.specs.Calls.{Asked}
-use Rattle.ask_text.specs.Questions.{faultAsked, byteAfter, answerLine}
-use Rattle.ask_text.specs.Pieces.{placeAfter, lineAfter, pieceText, lastText, ByteReady, PieceReady, PieceAnswered}
+use Rattle.ask_text.specs.Questions.{fault_asked, byte_after_of, answer_line}
+use Rattle.ask_text.specs.Pieces.{place_after, line_after, piece_text, last_text, ByteReady, PieceReady, PieceAnswered}
 use Rattle.ask_text.specs.declared.inner.Asking.{Asking}
 use Rattle.ask_text.specs.declared.inner.Stated.{Stated}
 use Rattle.ask_text.specs.declared.inner.Stated.TheVariants as stated
@@ -16,37 +16,37 @@ use Rattle.ask_text.proofs.AnsweredPieceLaws.{place_end, place_other, line-end, 
 
 module _ (s : Asking) (paths : ℕ) (up down : List ℕ) (b : ℕ) (out : List ℕ) where
   abbrev asked : ℕ → Answer Asked
-  asked = faultAsked paths up down
+  asked = fault_asked paths up down
 
-  pub byte-end : b ≡ 10 → (out' : List ℕ) (end : ℕ) → Written out out' s.bytes (answerLine asked s.place s.line) end × (end ≤ s.bytes + 128)
+  pub byte-end : b ≡ 10 → (out' : List ℕ) (end : ℕ) → Written out out' s.bytes (answer_line asked s.place s.line) end × (end ≤ s.bytes + 128)
       → PieceAnswered s (record { place = s.place + 1; line = stated.Nothing; bytes = end }) paths up down (b ∷ []) out out'
-  unfolding placeAfter lineAfter pieceText
+  unfolding place_after line_after piece_text
   byte-end e out' end p =
       let t = eq-eqb b 10 e in
       record {
-        text = written_as (sym (text-end b [] t asked s.place s.line ∙ append-nil (answerLine asked s.place s.line))) p.0;
+        text = written_as (sym (text-end b [] t asked s.place s.line ∙ append-nil (answer_line asked s.place s.line))) p.0;
         few = omega (arith, p.1);
-        placeIs = sym (place_end b [] t s.place);
-        lineIs = sym (line-end b [] t s.line);
+        place_is_of = sym (place_end b [] t s.place);
+        line_is = sym (line-end b [] t s.line);
       }
 
-  pub byte-other : (b ≡ 10 → ⊥) → s.bytes ≤ length out → (line : Stated) → line ≡ byteAfter s.line b
+  pub byte-other : (b ≡ 10 → ⊥) → s.bytes ≤ length out → (line : Stated) → line ≡ byte_after_of s.line b
       → PieceAnswered s (record { place = s.place; line = line; bytes = s.bytes }) paths up down (b ∷ []) out out
-  unfolding placeAfter lineAfter pieceText
+  unfolding place_after line_after piece_text
   byte-other n h line el =
       let t = ne_eqb b 10 n in
       record {
         text = written_as (sym (text-other b [] t asked s.place s.line)) (none_written out s.bytes h);
         few = omega arith;
-        placeIs = sym (place_other b [] t s.place);
-        lineIs = el ∙ sym (line_other b [] t s.line);
+        place_is_of = sym (place_other b [] t s.place);
+        line_is = el ∙ sym (line_other b [] t s.line);
       }
 
 -- ---- the bytes so far: what is put, with the answers to what is left, is the whole
 
 module _ (s : Asking) (paths : ℕ) (up down piece out₀ : List ℕ) where
   abbrev ask : ℕ → Answer Asked
-  ask = faultAsked paths up down
+  ask = fault_asked paths up down
 
   pub record AnsweringPiece (out : List ℕ) (a : Asking) (i : ℕ) : Type 0 where
     pub within : i ≤ length piece
@@ -55,9 +55,9 @@ module _ (s : Asking) (paths : ℕ) (up down piece out₀ : List ℕ) where
     pub places : a.place ≤ s.place + i
     pub done : List ℕ
     pub put : Written out₀ out s.bytes done a.bytes
-    pub text : done ++ pieceText ask a.place a.line (drop i piece) ≡ pieceText ask s.place s.line piece
-    pub placeIs : placeAfter a.place (drop i piece) ≡ placeAfter s.place piece
-    pub lineIs : lineAfter a.line (drop i piece) ≡ lineAfter s.line piece
+    pub text : done ++ piece_text ask a.place a.line (drop i piece) ≡ piece_text ask s.place s.line piece
+    pub place_is_of : place_after a.place (drop i piece) ≡ place_after s.place piece
+    pub line_is : line_after a.line (drop i piece) ≡ line_after s.line piece
 
   pub piece-start : PieceReady s paths up down piece out₀ → AnsweringPiece out₀ s 0
   piece-start r = record {
@@ -68,8 +68,8 @@ module _ (s : Asking) (paths : ℕ) (up down piece out₀ : List ℕ) where
     done = [];
     put = none_written out₀ s.bytes (omega (arith, r.room));
     text = refl;
-    placeIs = refl;
-    lineIs = refl;
+    place_is_of = refl;
+    line_is = refl;
   }
 
   module _ {out : List ℕ} {a : Asking} {i : ℕ} (g : AnsweringPiece out a i) (h : i < length piece) where
@@ -92,67 +92,67 @@ module _ (s : Asking) (paths : ℕ) (up down piece out₀ : List ℕ) where
       left = drop (i + 1) piece
 
       abbrev more : List ℕ
-      more = pieceText ask a.place a.line byte
+      more = piece_text ask a.place a.line byte
 
-      next-text : (g.done ++ more) ++ pieceText ask a'.place a'.line left ≡ pieceText ask s.place s.line piece
+      next-text : (g.done ++ more) ++ piece_text ask a'.place a'.line left ≡ piece_text ask s.place s.line piece
       next-text =
-          append_assoc g.done more (pieceText ask a'.place a'.line left)
-          ∙ ap (λ (t : List ℕ). g.done ++ t) (rest p.placeIs p.lineIs ∙ sym (text-more ask a.place a.line byte left))
-          ∙ ap (λ (l : List ℕ). g.done ++ pieceText ask a.place a.line l) (sym left_is)
+          append_assoc g.done more (piece_text ask a'.place a'.line left)
+          ∙ ap (λ (t : List ℕ). g.done ++ t) (rest p.place_is_of p.line_is ∙ sym (text-more ask a.place a.line byte left))
+          ∙ ap (λ (l : List ℕ). g.done ++ piece_text ask a.place a.line l) (sym left_is)
           ∙ g.text
         where
-          rest : {k : ℕ} {l : Stated} → a'.place ≡ k → a'.line ≡ l → more ++ pieceText ask a'.place a'.line left ≡ more ++ pieceText ask k l left
-          rest ek el j = more ++ pieceText ask (ek j) (el j) left
+          rest : {k : ℕ} {l : Stated} → a'.place ≡ k → a'.line ≡ l → more ++ piece_text ask a'.place a'.line left ≡ more ++ piece_text ask k l left
+          rest ek el j = more ++ piece_text ask (ek j) (el j) left
 
       pub piece-next : AnsweringPiece out' a' (i + 1)
       piece-next = record {
         within = omega (arith, h);
         sized = written-length p.text ∙ g.sized;
         few = omega (arith, p.few, g.few);
-        places = omega (arith, p.placeIs, place-most a.place byte, g.places);
+        places = omega (arith, p.place_is_of, place-most a.place byte, g.places);
         done = g.done ++ more;
         put = then-written g.put p.text;
         text = next-text;
-        placeIs =
-            ap (λ (k : ℕ). placeAfter k left) p.placeIs
+        place_is_of =
+            ap (λ (k : ℕ). place_after k left) p.place_is_of
             ∙ sym (place-more a.place byte left)
-            ∙ ap (placeAfter a.place) (sym left_is)
-            ∙ g.placeIs;
-        lineIs =
-            ap (λ (l : Stated). lineAfter l left) p.lineIs
+            ∙ ap (place_after a.place) (sym left_is)
+            ∙ g.place_is_of;
+        line_is =
+            ap (λ (l : Stated). line_after l left) p.line_is
             ∙ sym (line-more a.line byte left)
-            ∙ ap (lineAfter a.line) (sym left_is)
-            ∙ g.lineIs;
+            ∙ ap (line_after a.line) (sym left_is)
+            ∙ g.line_is;
       }
 
   pub piece-done : {out : List ℕ} {a : Asking} {i : ℕ} → AnsweringPiece out a i → length piece ≤ i → PieceAnswered s a paths up down piece out₀ out
-  unfolding pieceText placeAfter lineAfter
+  unfolding piece_text place_after line_after
   piece-done {out} {a} {i} g h =
       let none : drop i piece ≡ [] = drop_of_length-le piece {i = i} h in
       record {
         text =
             written_as
-            (sym (append-nil g.done) ∙ sym (ap (λ (l : List ℕ). g.done ++ pieceText ask a.place a.line l) none) ∙ g.text)
+            (sym (append-nil g.done) ∙ sym (ap (λ (l : List ℕ). g.done ++ piece_text ask a.place a.line l) none) ∙ g.text)
             g.put;
         few = omega (arith, g.few, g.within);
-        placeIs = sym (ap (placeAfter a.place) none) ∙ g.placeIs;
-        lineIs = sym (ap (lineAfter a.line) none) ∙ g.lineIs;
+        place_is_of = sym (ap (place_after a.place) none) ∙ g.place_is_of;
+        line_is = sym (ap (line_after a.line) none) ∙ g.line_is;
       }
 
 -- ---- what stands after the last end of a line
 
 module _ (ask : ℕ → Answer Asked) (out out' : List ℕ) (at r place : ℕ) (line : Stated) where
-  pub last-nothing : line ≡ stated.Nothing → at + 128 ≤ length out → Written out out at (lastText ask place line) at
-  unfolding lastText
-  last-nothing e h = written_as (ap (lastText ask place) (sym e)) (none_written out at (omega arith))
+  pub last-nothing : line ≡ stated.Nothing → at + 128 ≤ length out → Written out out at (last_text ask place line) at
+  unfolding last_text
+  last-nothing e h = written_as (ap (last_text ask place) (sym e)) (none_written out at (omega arith))
 
-  pub last-number : (n : ℕ) → line ≡ stated.Number n → Written out out' at (answerLine ask place (stated.Number n)) r × (r ≤ at + 128)
-      → Written out out' at (lastText ask place line) r
-  unfolding lastText
-  last-number n e p = written_as (ap (lastText ask place) (sym e)) p.0
+  pub last-number : (n : ℕ) → line ≡ stated.Number n → Written out out' at (answer_line ask place (stated.Number n)) r × (r ≤ at + 128)
+      → Written out out' at (last_text ask place line) r
+  unfolding last_text
+  last-number n e p = written_as (ap (last_text ask place) (sym e)) p.0
 
-  pub last-wrong : line ≡ stated.Wrong → Written out out' at (answerLine ask place stated.Wrong) r × (r ≤ at + 128) → Written out out' at (lastText ask place line) r
-  unfolding lastText
-  last-wrong e p = written_as (ap (lastText ask place) (sym e)) p.0
+  pub last-wrong : line ≡ stated.Wrong → Written out out' at (answer_line ask place stated.Wrong) r × (r ≤ at + 128) → Written out out' at (last_text ask place line) r
+  unfolding last_text
+  last-wrong e p = written_as (ap (last_text ask place) (sym e)) p.0
 
 pub ruleset last-cases = (last-nothing, last-number, last-wrong, needs)

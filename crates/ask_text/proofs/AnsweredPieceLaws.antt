@@ -3,8 +3,8 @@ use Rattle.model.proofs.Prelude.{ℕ, ◌≤◌, ◌+◌, ◌≡◌, ◌∙◌, 
 use Rattle.model.specs.Base.{Answer}
 use Rattle.model.proofs.BoolLaws.{bool_cases}
 use Rattle.tree_words.specs.Calls.{Asked}
-use Rattle.ask_text.specs.Questions.{byteAfter, answerLine}
-use Rattle.ask_text.specs.Pieces.{placeAfter, lineAfter, pieceText}
+use Rattle.ask_text.specs.Questions.{byte_after_of, answer_line}
+use Rattle.ask_text.specs.Pieces.{place_after, line_after, piece_text}
 use Rattle.ask_text.specs.declared.inner.Stated.{Stated}
 use Rattle.ask_text.specs.declared.inner.Stated.TheVariants as stated
 
@@ -12,80 +12,80 @@ use Rattle.ask_text.specs.declared.inner.Stated.TheVariants as stated
 
 module _ (b : ℕ) (bs : List ℕ) where
   module _ (e : eqb b 10 ≡ true) where
-    pub place_end : (place : ℕ) → placeAfter place (b ∷ bs) ≡ placeAfter (place + 1) bs
-    unfolding placeAfter
-    place_end place = rw (e, placeAfter) refl
+    pub place_end : (place : ℕ) → place_after place (b ∷ bs) ≡ place_after (place + 1) bs
+    unfolding place_after
+    place_end place = rw (e, place_after) refl
 
-    pub line-end : (line : Stated) → lineAfter line (b ∷ bs) ≡ lineAfter stated.Nothing bs
-    unfolding lineAfter
-    line-end line = rw (e, lineAfter) refl
+    pub line-end : (line : Stated) → line_after line (b ∷ bs) ≡ line_after stated.Nothing bs
+    unfolding line_after
+    line-end line = rw (e, line_after) refl
 
     pub text-end : (ask : ℕ → Answer Asked) (place : ℕ) (line : Stated)
-        → pieceText ask place line (b ∷ bs) ≡ answerLine ask place line ++ pieceText ask (place + 1) stated.Nothing bs
-    unfolding pieceText
-    text-end ask place line = rw (e, pieceText) refl
+        → piece_text ask place line (b ∷ bs) ≡ answer_line ask place line ++ piece_text ask (place + 1) stated.Nothing bs
+    unfolding piece_text
+    text-end ask place line = rw (e, piece_text) refl
 
   module _ (e : eqb b 10 ≡ false) where
-    pub place_other : (place : ℕ) → placeAfter place (b ∷ bs) ≡ placeAfter place bs
-    unfolding placeAfter
-    place_other place = rw (e, placeAfter) refl
+    pub place_other : (place : ℕ) → place_after place (b ∷ bs) ≡ place_after place bs
+    unfolding place_after
+    place_other place = rw (e, place_after) refl
 
-    pub line_other : (line : Stated) → lineAfter line (b ∷ bs) ≡ lineAfter (byteAfter line b) bs
-    unfolding lineAfter
-    line_other line = rw (e, lineAfter) refl
+    pub line_other : (line : Stated) → line_after line (b ∷ bs) ≡ line_after (byte_after_of line b) bs
+    unfolding line_after
+    line_other line = rw (e, line_after) refl
 
-    pub text-other : (ask : ℕ → Answer Asked) (place : ℕ) (line : Stated) → pieceText ask place line (b ∷ bs) ≡ pieceText ask place (byteAfter line b) bs
-    unfolding pieceText
-    text-other ask place line = rw (e, pieceText) refl
+    pub text-other : (ask : ℕ → Answer Asked) (place : ℕ) (line : Stated) → piece_text ask place line (b ∷ bs) ≡ piece_text ask place (byte_after_of line b) bs
+    unfolding piece_text
+    text-other ask place line = rw (e, piece_text) refl
 
 -- ---- a piece before another
 
-pub place-more : (place : ℕ) (xs ys : List ℕ) → placeAfter place (xs ++ ys) ≡ placeAfter (placeAfter place xs) ys
-unfolding placeAfter
+pub place-more : (place : ℕ) (xs ys : List ℕ) → place_after place (xs ++ ys) ≡ place_after (place_after place xs) ys
+unfolding place_after
 place-more place [] ys = refl
 place-more place (b ∷ xs) ys =
     ⊎_elim
-    (λ (e : eqb b 10 ≡ true). place_end b (xs ++ ys) e place ∙ place-more (place + 1) xs ys ∙ sym (ap (λ (k : ℕ). placeAfter k ys) (place_end b xs e place)))
-    (λ (e : eqb b 10 ≡ false). place_other b (xs ++ ys) e place ∙ place-more place xs ys ∙ sym (ap (λ (k : ℕ). placeAfter k ys) (place_other b xs e place)))
+    (λ (e : eqb b 10 ≡ true). place_end b (xs ++ ys) e place ∙ place-more (place + 1) xs ys ∙ sym (ap (λ (k : ℕ). place_after k ys) (place_end b xs e place)))
+    (λ (e : eqb b 10 ≡ false). place_other b (xs ++ ys) e place ∙ place-more place xs ys ∙ sym (ap (λ (k : ℕ). place_after k ys) (place_other b xs e place)))
     (bool_cases (eqb b 10))
 
-pub line-more : (line : Stated) (xs ys : List ℕ) → lineAfter line (xs ++ ys) ≡ lineAfter (lineAfter line xs) ys
-unfolding lineAfter
+pub line-more : (line : Stated) (xs ys : List ℕ) → line_after line (xs ++ ys) ≡ line_after (line_after line xs) ys
+unfolding line_after
 line-more line [] ys = refl
 line-more line (b ∷ xs) ys =
     ⊎_elim
     (λ (e : eqb b 10 ≡ true).
-    line-end b (xs ++ ys) e line ∙ line-more stated.Nothing xs ys ∙ sym (ap (λ (s : Stated). lineAfter s ys) (line-end b xs e line)))
+    line-end b (xs ++ ys) e line ∙ line-more stated.Nothing xs ys ∙ sym (ap (λ (s : Stated). line_after s ys) (line-end b xs e line)))
     (λ (e : eqb b 10 ≡ false).
-    line_other b (xs ++ ys) e line ∙ line-more (byteAfter line b) xs ys ∙ sym (ap (λ (s : Stated). lineAfter s ys) (line_other b xs e line)))
+    line_other b (xs ++ ys) e line ∙ line-more (byte_after_of line b) xs ys ∙ sym (ap (λ (s : Stated). line_after s ys) (line_other b xs e line)))
     (bool_cases (eqb b 10))
 
 pub text-more : (ask : ℕ → Answer Asked) (place : ℕ) (line : Stated) (xs ys : List ℕ)
-    → pieceText ask place line (xs ++ ys) ≡ pieceText ask place line xs ++ pieceText ask (placeAfter place xs) (lineAfter line xs) ys
-unfolding pieceText placeAfter lineAfter
+    → piece_text ask place line (xs ++ ys) ≡ piece_text ask place line xs ++ piece_text ask (place_after place xs) (line_after line xs) ys
+unfolding piece_text place_after line_after
 text-more ask place line [] ys = refl
 text-more ask place line (b ∷ xs) ys =
     ⊎_elim
     (λ (e : eqb b 10 ≡ true).
-    let here : List ℕ = answerLine ask place line in
+    let here : List ℕ = answer_line ask place line in
     text-end b (xs ++ ys) e ask place line
     ∙ ap (λ (t : List ℕ). here ++ t) (text-more ask (place + 1) stated.Nothing xs ys)
-    ∙ sym (append_assoc here (pieceText ask (place + 1) stated.Nothing xs) (pieceText ask (placeAfter (place + 1) xs) (lineAfter stated.Nothing xs) ys))
+    ∙ sym (append_assoc here (piece_text ask (place + 1) stated.Nothing xs) (piece_text ask (place_after (place + 1) xs) (line_after stated.Nothing xs) ys))
     ∙ sym (both-parts b xs ask place line ys (text-end b xs e ask place line) (place_end b xs e place) (line-end b xs e line)))
     (λ (e : eqb b 10 ≡ false).
     text-other b (xs ++ ys) e ask place line
-    ∙ text-more ask place (byteAfter line b) xs ys
+    ∙ text-more ask place (byte_after_of line b) xs ys
     ∙ sym (both-parts b xs ask place line ys (text-other b xs e ask place line) (place_other b xs e place) (line_other b xs e line)))
     (bool_cases (eqb b 10))
   where
     both-parts : (b : ℕ) (xs : List ℕ) (ask : ℕ → Answer Asked) (place : ℕ) (line : Stated) (ys : List ℕ) {t : List ℕ} {k : ℕ} {s : Stated}
-        → pieceText ask place line (b ∷ xs) ≡ t → placeAfter place (b ∷ xs) ≡ k → lineAfter line (b ∷ xs) ≡ s
-        → pieceText ask place line (b ∷ xs) ++ pieceText ask (placeAfter place (b ∷ xs)) (lineAfter line (b ∷ xs)) ys ≡ t ++ pieceText ask k s ys
-    both-parts b xs ask place line ys et ek es i = et i ++ pieceText ask (ek i) (es i) ys
+        → piece_text ask place line (b ∷ xs) ≡ t → place_after place (b ∷ xs) ≡ k → line_after line (b ∷ xs) ≡ s
+        → piece_text ask place line (b ∷ xs) ++ piece_text ask (place_after place (b ∷ xs)) (line_after line (b ∷ xs)) ys ≡ t ++ piece_text ask k s ys
+    both-parts b xs ask place line ys et ek es i = et i ++ piece_text ask (ek i) (es i) ys
 
 -- a piece has no more lines than bytes
-pub place-most : (place : ℕ) (bs : List ℕ) → placeAfter place bs ≤ place + length bs
-unfolding placeAfter
+pub place-most : (place : ℕ) (bs : List ℕ) → place_after place bs ≤ place + length bs
+unfolding place_after
 place-most place [] = omega arith
 place-most place (b ∷ bs) =
     ⊎_elim

@@ -4,8 +4,8 @@ mod numbers;
 
 ghost use Rattle.std.specs.Prelude.{[], ◌∷◌};
 ghost use Rattle.text_buffer.specs.Written.{Written};
-ghost use Rattle.ask_text.specs.Questions.{faultAsked};
-ghost use Rattle.ask_text.specs.Pieces.{lastText, ByteReady, PieceReady, PieceAnswered};
+ghost use Rattle.ask_text.specs.Questions.{fault_asked};
+ghost use Rattle.ask_text.specs.Pieces.{last_text, ByteReady, PieceReady, PieceAnswered};
 
 use crate::inner::answer_lines::put_answer;
 use crate::inner::numbers::byte_after;
@@ -86,7 +86,7 @@ pub fn put_last(
 ) -> usize
     requires { ByteReady asking paths rising.now falling.now out.old }
     ensures { Written out.old out.new asking.bytes
-        (lastText (faultAsked paths rising.now falling.now) asking.place asking.line) result }
+        (last_text (fault_asked paths rising.now falling.now) asking.place asking.line) result }
 {
     let Asking { place, line, bytes } = asking;
     match line {

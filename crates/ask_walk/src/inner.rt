@@ -2,7 +2,7 @@
 ghost use Rattle.std.specs.Prelude.{◌≡◌, ◌≤◌, length};
 ghost use Rattle.io.specs.Counts.{IsPrefixLen};
 ghost use Rattle.tree_filling.specs.TreesOfStore.{TreesReady};
-ghost use Rattle.ask_walk.specs.InputWalk.{pieceBytes, outBytes, InputTaken, InputAnswered};
+ghost use Rattle.ask_walk.specs.InputWalk.{piece_bytes, out_bytes, InputTaken, InputAnswered};
 
 use ask_text::inner::{Asking, Stated, put_answers, put_last};
 use libc::{STDIN_FILENO, STDOUT_FILENO};
@@ -90,7 +90,7 @@ fn take_input(
     space: &mut [u8],
     out: &mut [u8],
 ) -> Taken
-    requires { TreesReady paths rising.now falling.now × (length space.old ≤ pieceBytes) × (outBytes ≤ length out.old) }
+    requires { TreesReady paths rising.now falling.now × (length space.old ≤ piece_bytes) × (out_bytes ≤ length out.old) }
     ensures { InputTaken result }
 {
     let mut asking = Asking {
@@ -133,7 +133,7 @@ pub fn answer_input(
     space: &mut [u8],
     out: &mut [u8],
 ) -> AnsweredInput
-    requires { TreesReady paths rising.now falling.now × (length space.old ≤ pieceBytes) × (outBytes ≤ length out.old) }
+    requires { TreesReady paths rising.now falling.now × (length space.old ≤ piece_bytes) × (out_bytes ≤ length out.old) }
     ensures { InputAnswered result paths rising.now falling.now out.new }
 {
     let taken = take_input(paths, rising, falling, space, out);

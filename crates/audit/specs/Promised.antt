@@ -5,24 +5,24 @@ use Rattle.model.specs.Base.{Answer, refused, value}
 use Rattle.model.specs.Netlist.{Netlist}
 use Rattle.model.specs.Path.{Edge, rising, falling, Fault, valid, number_of}
 use Rattle.model.specs.Detect.{Class, Test}
-use Rattle.model.specs.Read.{readNetlist, class_of}
-use Rattle.model.specs.Runs.{inRuns}
-use Rattle.model.specs.Store.{emptyStore, storeRuns, testsTaken, storeWords}
-use Rattle.model.specs.Calls.{FaultCounts, totalsCall, workWords}
-use Rattle.model.specs.Report.{fileRecords, reportBufferBytes}
-use Rattle.model.specs.Demand3.{Call, testIn, knownClass, CountOf, Detected, RunsOfDetected, detectedBy, NoRefusal, Returned, WhollyTaken, FileCalls, testsOf, TrueReport, NamesDetected, Acceptable}
+use Rattle.model.specs.Read.{read_netlist, class_of}
+use Rattle.model.specs.Runs.{in_runs}
+use Rattle.model.specs.Store.{empty_store, store_runs, tests_taken_of, store_words_count}
+use Rattle.model.specs.Calls.{FaultCounts, totals_call, work_words_count}
+use Rattle.model.specs.Report.{file_records, report_buffer_bytes}
+use Rattle.model.specs.Demand3.{Call, test_in, known_class, CountOf, Detected, RunsOfDetected, detected_by, NoRefusal, Returned, WhollyTaken, FileCalls, tests_of, TrueReport, NamesDetected, Acceptable}
 use Rattle.model.specs.Unchanged.{Unchanged}
 use Rattle.store_coverage.specs.TestCall.{tested_of}
 use Rattle.single_call.specs.TestPromise.{TestTrue}
 use Rattle.store_coverage.specs.declared.TestAnswer.{TestAnswer}
-use Rattle.store.specs.Answers.{totalsOf}
+use Rattle.store.specs.Answers.{totals_among}
 use Rattle.store.specs.declared.TotalsAnswer.{TotalsAnswer}
 use Rattle.store.specs.declared.TotalsAnswer.TheVariants as totals
 use Rattle.report.specs.Answers.{WriteTrue}
 use Rattle.report.specs.declared.WriteAnswer.{WriteAnswer}
 use Rattle.report.specs.declared.WriteAnswer.TheVariants as write
 use Rattle.audit.specs.Answers.{AuditTrue}
-use Rattle.audit_judging.specs.FileJudging.{auditedOf}
+use Rattle.audit_judging.specs.FileJudging.{audited_of}
 use Rattle.audit_judging.specs.declared.AuditAnswer.{AuditAnswer}
 use Rattle.audit_judging.specs.declared.AuditAnswer.TheVariants as audit
 
@@ -31,7 +31,7 @@ pub record MadeCall : Type 0 where
   pub call : Call
   pub answer : TestAnswer
   pub left : List ℕ
-  pub workLeft : List ℕ
+  pub work_left : List ℕ
 
 -- Taken: the call was not refused
 pub record TakenCall (m : MadeCall) : Type 0 where
@@ -41,83 +41,83 @@ pub record TakenCall (m : MadeCall) : Type 0 where
 -- The promise of each call of a list: the first gets the store `ws`, each later one the store as the call before left it
 abbrev pub Promised : List ℕ → List ℕ → List MadeCall → Type 0
 Promised netlist ws [] = Unit {0}
-Promised netlist ws (m ∷ ms) = TestTrue m.answer netlist m.call.class m.call.rec ws m.left m.call.work m.workLeft × Promised netlist m.left ms
+Promised netlist ws (m ∷ ms) = TestTrue m.answer netlist m.call.class m.call.rec ws m.left m.call.work m.work_left × Promised netlist m.left ms
 
 -- the store after a list
-abbrev pub lastStore : List ℕ → List MadeCall → List ℕ
-lastStore ws [] = ws
-lastStore ws (m ∷ ms) = lastStore m.left ms
+abbrev pub last_store : List ℕ → List MadeCall → List ℕ
+last_store ws [] = ws
+last_store ws (m ∷ ms) = last_store m.left ms
 
 -- a call's test before the others, if the call was taken
-abbrev pub withTaken : Answer FaultCounts → Test → List Test → List Test
-withTaken (refused n) t ts = ts
-withTaken (value r) t ts = t ∷ ts
+abbrev pub with_taken : Answer FaultCounts → Test → List Test → List Test
+with_taken (refused n) t ts = ts
+with_taken (value r) t ts = t ∷ ts
 
 -- the tests of the taken calls of a list, and the tests `before`
-abbrev pub takenTests : Netlist → List Test → List MadeCall → List Test
-takenTests N before [] = before
-takenTests N before (m ∷ ms) = takenTests N (withTaken (tested_of m.answer) (testIn N m.call) before) ms
+abbrev pub taken_tests : Netlist → List Test → List MadeCall → List Test
+taken_tests N before [] = before
+taken_tests N before (m ∷ ms) = taken_tests N (with_taken (tested_of m.answer) (test_in N m.call) before) ms
 
 -- What the totals call returned: for each edge the number of distinct faults that the tests detect
 pub record TotalsTrue (N : Netlist) (ts : List Test) (r : TotalsAnswer) : Type 0 where
-  pub onRising : ℕ
-  pub onFalling : ℕ
-  pub returned : r ≡ totals.Totals onRising onFalling
-  pub risingTrue : CountOf (Detected N ts rising) onRising
-  pub fallingTrue : CountOf (Detected N ts falling) onFalling
+  pub on_rising : ℕ
+  pub on_falling : ℕ
+  pub returned : r ≡ totals.Totals on_rising on_falling
+  pub rising_true : CountOf (Detected N ts rising) on_rising
+  pub falling_true : CountOf (Detected N ts falling) on_falling
 
 -- What is claimed after a list of calls on a legal netlist, from an empty store
 pub record ListTrue (netlist : List ℕ) (N : Netlist) (ms : List MadeCall) : Type 0 where
   -- the store holds exactly the faults that some taken test detects
-  pub holdsFault : (f : Fault) → T (valid N f.path)
-      → T (inRuns (storeRuns (lastStore emptyStore ms) f.edge) (number_of N f.path)) ↔ T (detectedBy N (takenTests N [] ms) f)
-  pub holdsNoOther : (e : Edge) → RunsOfDetected N (takenTests N [] ms) e (storeRuns (lastStore emptyStore ms) e)
+  pub holds_fault : (f : Fault) → T (valid N f.path)
+      → T (in_runs (store_runs (last_store empty_store ms) f.edge) (number_of N f.path)) ↔ T (detected_by N (taken_tests N [] ms) f)
+  pub holds_no_other : (e : Edge) → RunsOfDetected N (taken_tests N [] ms) e (store_runs (last_store empty_store ms) e)
   -- its third word is the number of calls taken
-  pub testsTrue : testsTaken (lastStore emptyStore ms) ≡ length (takenTests N [] ms)
+  pub tests_true : tests_taken_of (last_store empty_store ms) ≡ length (taken_tests N [] ms)
   -- the totals call then gives the numbers of distinct faults so detected
-  pub totalsTrue : (r : TotalsAnswer) → totalsOf r ≡ totalsCall netlist (lastStore emptyStore ms) → TotalsTrue N (takenTests N [] ms) r
+  pub totals_true : (r : TotalsAnswer) → totals_among r ≡ totals_call netlist (last_store empty_store ms) → TotalsTrue N (taken_tests N [] ms) r
   -- each call was taken exactly when no condition for refusing it holds, and a taken one returned true numbers
-  pub takenExactly : (before : List MadeCall) (m : MadeCall) (rest : List MadeCall) → ms ≡ before ++ (m ∷ rest)
-      → TakenCall m ↔ NoRefusal N (takenTests N [] before) m.call
-  pub returnedTrue : (before : List MadeCall) (m : MadeCall) (rest : List MadeCall) → ms ≡ before ++ (m ∷ rest)
-      → (r : FaultCounts) → tested_of m.answer ≡ value r → (e : Edge) → Returned N (takenTests N [] before) (testIn N m.call) e r
+  pub taken_exactly : (before : List MadeCall) (m : MadeCall) (rest : List MadeCall) → ms ≡ before ++ (m ∷ rest)
+      → TakenCall m ↔ NoRefusal N (taken_tests N [] before) m.call
+  pub returned_true : (before : List MadeCall) (m : MadeCall) (rest : List MadeCall) → ms ≡ before ++ (m ∷ rest)
+      → (r : FaultCounts) → tested_of m.answer ≡ value r → (e : Edge) → Returned N (taken_tests N [] before) (test_in N m.call) e r
   -- a call with memory long enough that was handed another class was refused 83
-  pub otherClass : (before : List MadeCall) (m : MadeCall) (rest : List MadeCall) → ms ≡ before ++ (m ∷ rest)
-      → workWords ≤ length m.call.work → T (not (knownClass m.call.class)) → tested_of m.answer ≡ refused 83
+  pub other_class : (before : List MadeCall) (m : MadeCall) (rest : List MadeCall) → ms ≡ before ++ (m ∷ rest)
+      → work_words_count ≤ length m.call.work → T (not (known_class m.call.class)) → tested_of m.answer ≡ refused 83
 
 -- What the writer left and returned: the true report, which names exactly the faults that the tests detect, and the bytes past it as they were
-pub record WrittenTrue (N : Netlist) (c : Class) (testFile found left : List ℕ) (r : WriteAnswer) : Type 0 where
+pub record WrittenTrue (N : Netlist) (c : Class) (test_file found left : List ℕ) (r : WriteAnswer) : Type 0 where
   pub report : List ℕ
-  pub isTrue : TrueReport N (testsOf N c testFile) report
-  pub names : NamesDetected N (testsOf N c testFile) report
+  pub is_true : TrueReport N (tests_of N c test_file) report
+  pub names : NamesDetected N (tests_of N c test_file) report
   pub returned : r ≡ write.Written (length report)
   pub written : left ≡ report ++ drop (length report) found
 
 -- Demand 3, of the values that the calls return
 pub record CallsTrue : Type 0 where
-  pub afterEveryList : (netlist : List ℕ) (N : Netlist) → readNetlist netlist ≡ value N
-      → (ms : List MadeCall) → Promised netlist emptyStore ms → ListTrue netlist N ms
-  pub writes : (netlist : List ℕ) (N : Netlist) → readNetlist netlist ≡ value N → (class : ℕ) → T (knownClass class)
-      → (testFile : List ℕ) → WhollyTaken N (class_of class) testFile
-      → (ms : List MadeCall) → Promised netlist emptyStore ms → FileCalls N class testFile (map (λ m. m.call) ms)
-      → (found left : List ℕ) → reportBufferBytes ≤ length found
-      → (r : WriteAnswer) → WriteTrue r netlist (lastStore emptyStore ms) found left
-      → WrittenTrue N (class_of class) testFile found left r
-  pub audits : (r : AuditAnswer) (netlist : List ℕ) (class : ℕ) (testFile report ws ws' found left : List ℕ)
-      → AuditTrue r netlist class testFile report ws ws' found left
-      → (r ≡ audit.Accepted) ↔ Acceptable netlist class testFile report ws found
+  pub after_every_list : (netlist : List ℕ) (N : Netlist) → read_netlist netlist ≡ value N
+      → (ms : List MadeCall) → Promised netlist empty_store ms → ListTrue netlist N ms
+  pub writes : (netlist : List ℕ) (N : Netlist) → read_netlist netlist ≡ value N → (class : ℕ) → T (known_class class)
+      → (test_file : List ℕ) → WhollyTaken N (class_of class) test_file
+      → (ms : List MadeCall) → Promised netlist empty_store ms → FileCalls N class test_file (map (λ m. m.call) ms)
+      → (found left : List ℕ) → report_buffer_bytes ≤ length found
+      → (r : WriteAnswer) → WriteTrue r netlist (last_store empty_store ms) found left
+      → WrittenTrue N (class_of class) test_file found left r
+  pub audits : (r : AuditAnswer) (netlist : List ℕ) (class : ℕ) (test_file report ws ws' found left : List ℕ)
+      → AuditTrue r netlist class test_file report ws ws' found left
+      → (r ≡ audit.Accepted) ↔ Acceptable netlist class test_file report ws found
   -- and the report that it accepts names exactly the faults that the file's tests detect, judged in that class
-  pub acceptedNames : (r : AuditAnswer) (netlist : List ℕ) (class : ℕ) (testFile report ws ws' found left : List ℕ)
-      → AuditTrue r netlist class testFile report ws ws' found left
-      → r ≡ audit.Accepted → (N : Netlist) → readNetlist netlist ≡ value N → NamesDetected N (testsOf N (class_of class) testFile) report
+  pub accepted_names : (r : AuditAnswer) (netlist : List ℕ) (class : ℕ) (test_file report ws ws' found left : List ℕ)
+      → AuditTrue r netlist class test_file report ws ws' found left
+      → r ≡ audit.Accepted → (N : Netlist) → read_netlist netlist ≡ value N → NamesDetected N (tests_of N (class_of class) test_file) report
   -- on a legal netlist, with memory of 01's lengths, an audit that was handed another class was refused 83
-  pub auditsOtherClass : (r : AuditAnswer) (netlist : List ℕ) (class : ℕ) (testFile report ws ws' found left : List ℕ)
-      → AuditTrue r netlist class testFile report ws ws' found left
-      → (N : Netlist) → readNetlist netlist ≡ value N → T (not (knownClass class)) → length ws ≡ storeWords → workWords ≤ length found
-      → auditedOf r ≡ refused 83
+  pub audits_other_class : (r : AuditAnswer) (netlist : List ℕ) (class : ℕ) (test_file report ws ws' found left : List ℕ)
+      → AuditTrue r netlist class test_file report ws ws' found left
+      → (N : Netlist) → read_netlist netlist ≡ value N → T (not (known_class class)) → length ws ≡ store_words_count → work_words_count ≤ length found
+      → audited_of r ≡ refused 83
 
 -- Pairs that change nothing, of the value that the audit returns: a report whose list of tests holds one is not accepted
 pub record PaddingRefused : Type 0 where
-  pub notAccepted : (r : AuditAnswer) (netlist : List ℕ) (class : ℕ) (testFile report ws ws' found left : List ℕ)
-      → AuditTrue r netlist class testFile report ws ws' found left → (N : Netlist) → readNetlist netlist ≡ value N
-      → (rec : List ℕ) → Memᴰ rec (fileRecords N testFile) → Unchanged N rec → r ≡ audit.Accepted → ⊥
+  pub not_accepted : (r : AuditAnswer) (netlist : List ℕ) (class : ℕ) (test_file report ws ws' found left : List ℕ)
+      → AuditTrue r netlist class test_file report ws ws' found left → (N : Netlist) → read_netlist netlist ≡ value N
+      → (rec : List ℕ) → Memᴰ rec (file_records N test_file) → Unchanged N rec → r ≡ audit.Accepted → ⊥

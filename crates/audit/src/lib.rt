@@ -1,6 +1,6 @@
 // The audit of a report with its netlist and test file.
 ghost use Rattle.std.specs.Prelude.{◌≡◌};
-ghost use Rattle.model.specs.Store.{emptyStore};
+ghost use Rattle.model.specs.Store.{empty_store};
 ghost use Rattle.audit_records.specs.FileRecords.{Ready};
 ghost use Rattle.audit.specs.Answers.{AuditTrue};
 ghost use Rattle.audit.specs.TestFile.{FileAudited};
@@ -60,7 +60,7 @@ fn audit_file(
     work: &mut [u64],
 ) -> AuditAnswer
     requires ready { Ready netlist.now loaded store.old work.old }
-    requires store_value { store.old ≡ emptyStore }
+    requires store_value { store.old ≡ empty_store }
     ensures { FileAudited result netlist.now class tests.now report.now store.new work.old work.new }
 {
     let bytes = tests.len() as u64;

@@ -4,37 +4,37 @@ use native.Mathlib.Nat.{mul-le-mul_left, mul-one}
 use Rattle.model.specs.Base.{refused, value, ◌into◌, ◌then◌}
 use Rattle.model.specs.Netlist.{Netlist}
 use Rattle.model.specs.Detect.{Class}
-use Rattle.model.specs.Read.{class_of, recordLength}
-use Rattle.model.specs.Refusals.{refusalNumber}
+use Rattle.model.specs.Read.{class_of, record_length}
+use Rattle.model.specs.Refusals.{refusal_number_of}
 use Rattle.model.specs.declared.Refusal.{Refusal}
-use Rattle.model.specs.Report.{fileRecords, testAll}
-use Rattle.model.proofs.BoolLaws.{le-or-lt}
-use Rattle.model.proofs.PieceLaws.{testAll-append}
-use Rattle.model.proofs.ReadLaws.{limits, in-class}
+use Rattle.model.specs.Report.{file_records, test_all}
+use Rattle.model.proofs.BoolLaws.{le_or_lt}
+use Rattle.model.proofs.PieceLaws.{test_all-append}
+use Rattle.model.proofs.ReadLaws.{limits, in_class_lem}
 use Rattle.record_test.specs.declared.inner.RecordAnswer.{RecordAnswer}
 use Rattle.record_test.specs.declared.inner.RecordAnswer.TheVariants as record-answer
-use Rattle.store_coverage.specs.Stage.{MemoryReady, stageOf}
+use Rattle.store_coverage.specs.Stage.{MemoryReady, stage_of}
 use Rattle.store_coverage.specs.declared.inner.StageAnswer.{StageAnswer}
 use Rattle.store_coverage.specs.declared.inner.StageAnswer.TheVariants as stage
-use Rattle.block_activity.specs.Marks.{recordAt, testAt, BlockRead}
+use Rattle.block_activity.specs.Marks.{record_at, test_at, BlockRead}
 use Rattle.block_activity.specs.declared.inner.Batch.{Batch}
 use Rattle.block_stage.specs.declared.inner.Applied.{Applied}
-use Rattle.audit_block.specs.RecordsTaken.{fileOf, taken_of}
+use Rattle.audit_block.specs.RecordsTaken.{file_of, taken_of}
 use Rattle.audit_block.specs.FileBlocks.{BlockTables, BlocksReady, BlockTrue, BlockDone}
 use Rattle.audit_block.specs.VectorBlocks.{TestsAt, TestsReady, TestsTaken}
 use Rattle.audit_block.specs.declared.inner.TakenRecords.{TakenRecords}
 use Rattle.audit_block.specs.declared.inner.FileNumbers.{FileNumbers}
 use Rattle.audit_block.proofs.MemoryLaws.{all-memory}
-use Rattle.audit_block.proofs.TakenRecordLaws.{takenThen, taken-append, taken-most, taken-all}
-use Rattle.audit_block.proofs.BlockFileLaws.{blockRecords, length-block, file-block, block-all, block-taken, rest-refused, rest-untaken}
+use Rattle.audit_block.proofs.TakenRecordLaws.{taken_then_of, taken-append, taken-most, taken-all}
+use Rattle.audit_block.proofs.BlockFileLaws.{block_records, length-block, file-block, block-all, block-taken, rest-refused, rest-untaken}
 
 -- a netlist's numbers
 module _ {N : Netlist} {table offsets : List ℕ} {file : FileNumbers} (t : BlockTables N table offsets file) where
   pub some-input : 1 ≤ file.inputs
-  some-input = omega (arith, t.circuit.inputsAre, (limits t.circuit.file N t.circuit.legal).someInput)
+  some-input = omega (arith, t.circuit.inputs_are, (limits t.circuit.file N t.circuit.legal).some_input)
 
   pub few-inputs : file.inputs ≤ 64
-  few-inputs = omega (arith, t.circuit.inputsAre, (limits t.circuit.file N t.circuit.legal).fewInputs)
+  few-inputs = omega (arith, t.circuit.inputs_are, (limits t.circuit.file N t.circuit.legal).few_inputs)
 
 module _ {table offsets : List ℕ} {file : FileNumbers} {risingLists fallingLists ws work : List ℕ} (s : BlocksReady table offsets file risingLists fallingLists ws work) where
   pub block-some : 1 ≤ file.inputs
@@ -51,28 +51,28 @@ module _ {table offsets : List ℕ} {file : FileNumbers} {risingLists fallingLis
     c = class_of file.class
 
     pub read_of : (N : Netlist) → BlockTables N table offsets file → BlockRead N part vectors n after
-    read_of N t = read N (sym t.circuit.inputsAre)
+    read_of N t = read N (sym t.circuit.inputs_are)
 
     pub block-records : n ≤ 64
     block-records = (read_of s.netlist s.tables).few
 
-    pub read-tests : (N : Netlist) → BlockTables N table offsets file → TestsAt N (testAt N c part) table offsets batch vectors
+    pub read-tests : (N : Netlist) → BlockTables N table offsets file → TestsAt N (test_at N c part) table offsets batch vectors
     read-tests N t = record {
       circuit = t.circuit;
       placed = t.placed;
-      outputsAre = t.outputsAre;
-      block = record { few = block-records; inClass = λ i h. in-class N c _ };
-      vectorsAre = (read_of N t).vectorsAre c;
+      outputs_are = t.outputs_are;
+      block = record { few = block-records; in_class = λ i h. in_class_lem N c _ };
+      vectors_are = (read_of N t).vectors_are c;
     }
 
     pub read-ready : TestsReady table offsets batch vectors risingLists fallingLists ws work
     read-ready = record {
       netlist = s.netlist;
-      tests = testAt s.netlist c part;
+      tests = test_at s.netlist c part;
       given = read-tests s.netlist s.tables;
       memory = s.memory;
-      upRoom = s.upRoom;
-      downRoom = s.downRoom;
+      up_room_of = s.up_room_of;
+      down_room = s.down_room;
     }
 
     module _ {risingLists' fallingLists' ws' work' : List ℕ} {r : Applied}
@@ -83,76 +83,76 @@ module _ {table offsets : List ℕ} {file : FileNumbers} {risingLists fallingLis
         b = read_of N t
 
         abbrev block : List (List ℕ)
-        block = blockRecords N part 0 n
+        block = block_records N part 0 n
 
         abbrev rest : List (List ℕ)
-        rest = fileRecords N (drop (recordLength N * n) part)
+        rest = file_records N (drop (record_length N * n) part)
 
-        answers : testAll N c block ws ≡ (stageOf r.answer then value ws')
-        answers = block-all N c (recordAt N part) work n m b.legal ∙ sym (done.ofTests N (testAt N c part) (read-tests N t) m).answer
+        answers : test_all N c block ws ≡ (stage_of r.answer then value ws')
+        answers = block-all N c (record_at N part) work n m b.legal ∙ sym (done.of_tests N (test_at N c part) (read-tests N t) m).answer
 
         count : r.taken ≡ taken_of N c block ws
-        count = (done.ofTests N (testAt N c part) (read-tests N t) m).taken ∙ sym (block-taken N c (recordAt N part) work n m b.legal)
+        count = (done.of_tests N (test_at N c part) (read-tests N t) m).taken ∙ sym (block-taken N c (record_at N part) work n m b.legal)
 
-        all_of : testAll N c (fileRecords N part) ws ≡ (testAll N c block ws into λ left. testAll N c rest left)
-        all_of = ap (λ (rs : List (List ℕ)). testAll N c rs ws) (file-block N part n b.whole) ∙ testAll-append N c block rest ws
+        all_of : test_all N c (file_records N part) ws ≡ (test_all N c block ws into λ left. test_all N c rest left)
+        all_of = ap (λ (rs : List (List ℕ)). test_all N c rs ws) (file-block N part n b.whole) ∙ test_all-append N c block rest ws
 
-        counted : taken_of N c (fileRecords N part) ws ≡ takenThen N c rest (testAll N c block ws) (taken_of N c block ws)
+        counted : taken_of N c (file_records N part) ws ≡ taken_then_of N c rest (test_all N c block ws) (taken_of N c block ws)
         counted = ap (λ (rs : List (List ℕ)). taken_of N c rs ws) (file-block N part n b.whole) ∙ taken-append N c block rest ws
 
         taken-few : r.taken ≤ n
         taken-few = omega (arith, count, taken-most N c block ws, length-block N part 0 n)
 
         -- the end of the file's records, by the number of a refusal
-        refused-at : {taken : ℕ} {w : Refusal} → taken ≤ n → testAll N c (fileRecords N part) ws ≡ refused (refusalNumber w) → taken ≡ taken_of N c (fileRecords N part) ws
+        refused-at : {taken : ℕ} {w : Refusal} → taken ≤ n → test_all N c (file_records N part) ws ≡ refused (refusal_number_of w) → taken ≡ taken_of N c (file_records N part) ws
             → BlockTrue (record { taken = taken; answer = stage.Refused w }) N c part ws ws' work'
         refused-at h q e = record {
-          within = le_trans (mul-le-mul_left (recordLength N) h) b.whole;
+          within = le_trans (mul-le-mul_left (record_length N) h) b.whole;
           onward = λ z. (let y : ◌≡◌ {A = ℕ} 0 1 = cc in absurd (omega arith));
-          refuses = λ v z. record { all = q ∙ ap (λ (a : StageAnswer). fileOf a ws) z; counted = e };
+          refuses = λ v z. record { all = q ∙ ap (λ (a : StageAnswer). file_of a ws) z; counted = e };
         }
 
-        true-refused : (w : Refusal) → r.answer ≡ stage.Refused w → BlockTrue (record { taken = r.taken; answer = stage.Refused w }) N c part ws ws' work'
-        true-refused w e =
-            let q : testAll N c block ws ≡ refused (refusalNumber w) = answers ∙ ap (λ (a : StageAnswer). stageOf a then value ws') e in
+        true_refused : (w : Refusal) → r.answer ≡ stage.Refused w → BlockTrue (record { taken = r.taken; answer = stage.Refused w }) N c part ws ws' work'
+        true_refused w e =
+            let q : test_all N c block ws ≡ refused (refusal_number_of w) = answers ∙ ap (λ (a : StageAnswer). stage_of a then value ws') e in
             refused-at taken-few (all_of ∙ rw q refl) (count ∙ sym (counted ∙ rw q refl))
 
         module _ (e : r.answer ≡ stage.Taken) where
-          made : testAll N c block ws ≡ value ws'
-          made = answers ∙ ap (λ (a : StageAnswer). stageOf a then value ws') e
+          made : test_all N c block ws ≡ value ws'
+          made = answers ∙ ap (λ (a : StageAnswer). stage_of a then value ws') e
 
           all-taken : taken_of N c block ws ≡ n
           all-taken = taken-all N c block ws ws' made ∙ length-block N part 0 n
 
-          goes_on : testAll N c (fileRecords N part) ws ≡ testAll N c rest ws'
+          goes_on : test_all N c (file_records N part) ws ≡ test_all N c rest ws'
           goes_on = all_of ∙ rw made refl
 
-          counts-on : taken_of N c (fileRecords N part) ws ≡ n + taken_of N c rest ws'
+          counts-on : taken_of N c (file_records N part) ws ≡ n + taken_of N c rest ws'
           counts-on = counted ∙ rw (made, all-taken) refl
 
-          true-next : (w : Refusal) → after ≡ record-answer.Refused w → BlockTrue (record { taken = n; answer = stage.Refused w }) N c part ws ws' work'
-          true-next w o =
+          true_next : (w : Refusal) → after ≡ record-answer.Refused w → BlockTrue (record { taken = n; answer = stage.Refused w }) N c part ws ws' work'
+          true_next w o =
               let z = b.refuses w o in
               refused-at (omega arith) (goes_on ∙ rest-refused N c part n z.0 z.1 ws')
               (omega (arith, counts-on, rest-untaken N c part n z.0 z.1 ws'))
 
-          some-taken : after ≡ record-answer.Legal → recordLength N ≤ length part → 1 ≤ n
-          some-taken o l = ⊎_elim (λ (h : 1 ≤ n). h) (λ (h : n < 1). absurd (none n h (b.ended o))) (le-or-lt 1 n)
+          some-taken : after ≡ record-answer.Legal → record_length N ≤ length part → 1 ≤ n
+          some-taken o l = ⊎_elim (λ (h : 1 ≤ n). h) (λ (h : n < 1). absurd (none n h (b.ended o))) (le_or_lt 1 n)
             where
-              none : (k : ℕ) → k < 1 → (k ≡ 64) ⊎ (length part < recordLength N * (k + 1)) → ⊥
+              none : (k : ℕ) → k < 1 → (k ≡ 64) ⊎ (length part < record_length N * (k + 1)) → ⊥
               none k h x =
                   let z : k ≡ 0 = omega arith in
                   ⊎_elim (λ (q : k ≡ 64). omega arith)
-                  (λ (q : length part < recordLength N * (k + 1)). omega (arith, ap (λ i. recordLength N * (i + 1)) z, mul-one (recordLength N))) x
+                  (λ (q : length part < record_length N * (k + 1)). omega (arith, ap (λ i. record_length N * (i + 1)) z, mul-one (record_length N))) x
 
-          true-onward : after ≡ record-answer.Legal → BlockTrue (record { taken = n; answer = stage.Taken }) N c part ws ws' work'
-          true-onward o = record {
+          true_onward : after ≡ record-answer.Legal → BlockTrue (record { taken = n; answer = stage.Taken }) N c part ws ws' work'
+          true_onward o = record {
             within = b.whole;
             onward = λ z. record {
               some = some-taken o;
               rest = sym goes_on;
               counted = sym counts-on;
-              memory = all-memory N c ws work work' m done.kept.sameLength block ws' made;
+              memory = all-memory N c ws work work' m done.kept.same_length_of block ws' made;
             };
             refuses = λ v z. (let y : ◌≡◌ {A = ℕ} 0 1 = cc in absurd (omega arith));
           }
@@ -161,21 +161,21 @@ module _ {table offsets : List ℕ} {file : FileNumbers} {risingLists fallingLis
           → BlockDone x table offsets file part risingLists risingLists' fallingLists fallingLists' ws ws' work work'
       ends h f = record {
         few = omega (arith, block-records);
-        storeLength = done.storeLength ∙ sym s.memory.storeLength;
+        store_length = done.store_length ∙ sym s.memory.store_length;
         kept = done.kept;
-        ofCircuit = f;
+        of_circuit = f;
       }
 
       pub block_refused : {w : Refusal} → r.answer ≡ stage.Refused w
           → BlockDone (record { taken = r.taken; answer = stage.Refused w }) table offsets file part risingLists risingLists' fallingLists fallingLists' ws ws' work work'
-      block_refused {w} e = ends (taken-few s.netlist s.tables s.memory) (λ N t m. true-refused N t m w e)
+      block_refused {w} e = ends (taken-few s.netlist s.tables s.memory) (λ N t m. true_refused N t m w e)
 
       pub block-next : r.answer ≡ stage.Taken → {w : Refusal} → after ≡ record-answer.Refused w
           → BlockDone (record { taken = n; answer = stage.Refused w }) table offsets file part risingLists risingLists' fallingLists fallingLists' ws ws' work work'
-      block-next e {w} o = ends (omega arith) (λ N t m. true-next N t m e w o)
+      block-next e {w} o = ends (omega arith) (λ N t m. true_next N t m e w o)
 
       pub block-onward : r.answer ≡ stage.Taken → after ≡ record-answer.Legal
           → BlockDone (record { taken = n; answer = stage.Taken }) table offsets file part risingLists risingLists' fallingLists fallingLists' ws ws' work work'
-      block-onward e o = ends (omega arith) (λ N t m. true-onward N t m e o)
+      block-onward e o = ends (omega arith) (λ N t m. true_onward N t m e o)
 
 pub ruleset take_cases = (block-some, block-few, read-ready, block_refused, block-next, block-onward, needs)

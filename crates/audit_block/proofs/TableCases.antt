@@ -20,6 +20,6 @@ module _ {netlist positions counts : List ℕ} {shape : Shape} (s : SomeTables n
         → OffsetTable N offsets) → (class : ℕ)
         → TablesMade (record { inputs = shape.inputs; nets = shape.nets; outputs = shape.outputs; class = class }) netlist positions counts shape class table offsets
     tables-made placed class = record {
-      numbersAre = refl;
-      tables = λ N t. record { circuit = filled N counts t; placed = placed N positions t (filled N counts t); outputsAre = sym t.outputsAre };
+      numbers_are = refl;
+      tables = λ N t. record { circuit = filled N counts t; placed = placed N positions t (filled N counts t); outputs_are = sym t.outputs_are };
     }

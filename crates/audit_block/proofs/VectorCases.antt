@@ -21,17 +21,17 @@ module _ {table offsets : List ℕ} {batch : Batch} {vectors risingLists falling
   out-net o h =
       let t = s.given in
       let N : Netlist = s.netlist in
-      let l : o < length N.outputs = omega (arith, t.outputsAre) in
-      omega (arith, t.placed.outNet o l, output-net N (legal t.circuit.file N t.circuit.legal) o l, (limits t.circuit.file N t.circuit.legal).fewNets)
+      let l : o < length N.outputs = omega (arith, t.outputs_are) in
+      omega (arith, t.placed.out_net o l, output-net N (legal t.circuit.file N t.circuit.legal) o l, (limits t.circuit.file N t.circuit.legal).few_nets)
 
   pub tests-tables : BatchTables table offsets batch
   tests-tables =
       let t = s.given in
       record {
-        circuit = record { circuit = s.netlist; isIn = t.circuit };
-        fewOutputs = omega (arith, t.outputsAre, (limits t.circuit.file s.netlist t.circuit.legal).fewOutputs);
-        fewRecords = t.block.few;
-        outNets = out-net;
+        circuit = record { circuit = s.netlist; is_in = t.circuit };
+        few_outputs = omega (arith, t.outputs_are, (limits t.circuit.file s.netlist t.circuit.legal).few_outputs);
+        few_records = t.block.few;
+        out_nets = out-net;
       }
 
   module _ {risingLists' fallingLists' marks : List ℕ} (filled : (N : Netlist) (tests : ℕ → Test) → CircuitTable N table batch.inputs batch.nets → OffsetTable N offsets
@@ -43,18 +43,18 @@ module _ {table offsets : List ℕ} {batch : Batch} {vectors risingLists falling
       few = t.block.few;
       circuit = t.circuit;
       placed = t.placed;
-      marked = filled N tests t.circuit t.placed t.outputsAre t.block t.vectorsAre;
+      marked = filled N tests t.circuit t.placed t.outputs_are t.block t.vectors_are;
     }
 
-    pub still-ready : (N : Netlist) → MemoryReady N ws work → MemoryReady N ws work₁
-    still-ready N m = record { storeLength = m.storeLength; sound = m.sound; workLength = omega (arith, m.workLength, lent.sameLength) }
+    pub still_ready : (N : Netlist) → MemoryReady N ws work → MemoryReady N ws work₁
+    still_ready N m = record { store_length = m.store_length; sound = m.sound; work_length = omega (arith, m.work_length, lent.same_length_of) }
 
     pub marked-ready : BlockReady table offsets risingLists' fallingLists' marks batch ws work₁
     marked-ready = record {
       netlist = s.netlist;
       tests = s.tests;
       block = marked-at s.netlist s.tests s.given;
-      memory = still-ready s.netlist s.memory;
+      memory = still_ready s.netlist s.memory;
     }
 
     pub tests-taken : {ws' work' : List ℕ} {r : Applied} → MemoryKept ws' work₁ work'
@@ -62,8 +62,8 @@ module _ {table offsets : List ℕ} {batch : Batch} {vectors risingLists falling
         → BlockTaken r N tests batch.records ws ws')
         → length risingLists' ≡ length risingLists → length fallingLists' ≡ length fallingLists
         → TestsTaken r table offsets batch vectors risingLists risingLists' fallingLists fallingLists' ws ws' work work'
-    tests-taken kept applied sameRising sameFalling = record {
-      storeLength = kept.storeLength;
-      kept = record { sameRising = sameRising; sameFalling = sameFalling; sameLength = kept.sameLength ∙ lent.sameLength; pastWork = kept.pastWork ∙ lent.pastWork };
-      ofTests = λ N tests t m. applied N tests (marked-at N tests t) (still-ready N m);
+    tests-taken kept applied same_rising same_falling = record {
+      store_length = kept.store_length;
+      kept = record { same_rising = same_rising; same_falling = same_falling; same_length_of = kept.same_length_of ∙ lent.same_length_of; past_work = kept.past_work ∙ lent.past_work };
+      of_tests = λ N tests t m. applied N tests (marked-at N tests t) (still_ready N m);
     }

@@ -2,8 +2,8 @@
 // proves what a function requires.
 ghost use Rattle.std.specs.Prelude.{◌≡◌, length};
 ghost use Rattle.netlist.specs.Tables.{SomeTables};
-ghost use Rattle.block_words.specs.Layout.{gateTableSize};
-ghost use Rattle.block_activity.specs.Layout.{offsetTableSize};
+ghost use Rattle.block_words.specs.Layout.{gate_table_size};
+ghost use Rattle.block_activity.specs.Layout.{offset_table_size};
 ghost use Rattle.audit_block.specs.FileBlocks.{TablesMade, BlocksReady, BlockDone};
 ghost use Rattle.audit_block.specs.VectorBlocks.{TestsReady, TestsTaken};
 
@@ -45,7 +45,7 @@ pub fn fill_tables(
     table: &mut [u16; GATE_TABLE_SIZE],
     offsets: &mut [u64; OFFSET_TABLE_SIZE],
 ) -> FileNumbers
-    requires { SomeTables netlist.now positions.now counts.now shape × (length table.old ≡ gateTableSize) × (length offsets.old ≡ offsetTableSize) }
+    requires { SomeTables netlist.now positions.now counts.now shape × (length table.old ≡ gate_table_size) × (length offsets.old ≡ offset_table_size) }
     ensures { TablesMade result netlist.now positions.now counts.now shape class table.new offsets.new }
 {
     fill_table(netlist, positions, shape, table);

@@ -1,10 +1,10 @@
 // The length of a test file, and the place Report. Each caller proves what a function requires.
 ghost use Rattle.std.specs.Prelude.{◌≡◌, ◌+◌, ◌*◌, ◌^◌, ◌≤◌, ◌<◌, length};
 ghost use Rattle.model.specs.Base.{passes};
-ghost use Rattle.model.specs.Read.{vectorBytes};
-ghost use Rattle.model.specs.Store.{storeWords};
+ghost use Rattle.model.specs.Read.{vector_bytes_of};
+ghost use Rattle.model.specs.Store.{store_words_count};
 ghost use Rattle.store_words.specs.Sound.{SoundWords};
-ghost use Rattle.audit_judging.specs.FileJudging.{wholeLength, Judged, ended_of, endLegal};
+ghost use Rattle.audit_judging.specs.FileJudging.{whole_length_of, Judged, ended_of, end_legal_of};
 
 use crate::{AuditAnswer, EndAnswer};
 use model::{MAX_TESTS, Refusal};
@@ -17,7 +17,7 @@ use store_writing::inner::clear;
 // Whether so many bytes are a whole number of records, of `each` bytes, and not too many of them.
 pub fn whole_length(bytes: u64, each: u64) -> bool
     requires { 0 < each }
-    ensures { result ≡ wholeLength each bytes }
+    ensures { result ≡ whole_length_of each bytes }
 {
     bytes % each == 0 && bytes / each <= MAX_TESTS
 }
@@ -46,8 +46,8 @@ pub fn end_legal(
     report: &[u8],
     store: &[u64],
 ) -> EndAnswer
-    requires { (inputs ≤ 64) × (paths ≤ 2 ^ 62) × (length store.now ≡ storeWords) }
-    ensures { ended_of result ≡ passes (endLegal (2 + 2 * vectorBytes inputs) paths bytes first report.now store.now) }
+    requires { (inputs ≤ 64) × (paths ≤ 2 ^ 62) × (length store.now ≡ store_words_count) }
+    ensures { ended_of result ≡ passes (end_legal_of (2 + 2 * vector_bytes_of inputs) paths bytes first report.now store.now) }
 {
     let each = record_length(inputs) as u64;
     if !whole_length(bytes, each) {

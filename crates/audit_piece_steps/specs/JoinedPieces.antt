@@ -3,8 +3,8 @@ use Rattle.std.specs.Prelude.{◌≡◌, List, [], ◌∷◌, ◌++◌, ℕ, ◌
 use Rattle.model.specs.Base.{Answer}
 use Rattle.model.specs.Netlist.{Netlist}
 use Rattle.model.specs.Detect.{Class}
-use Rattle.model.specs.Read.{recordLength}
-use Rattle.audit_piece_steps.specs.Steps.{withPiece}
+use Rattle.model.specs.Read.{record_length}
+use Rattle.audit_piece_steps.specs.Steps.{with_piece}
 
 -- the file that the pieces make
 abbrev pub joined : List (List ℕ) → List ℕ
@@ -15,9 +15,9 @@ joined (p ∷ ps) = p ++ joined ps
 abbrev pub WholeButLast : Netlist → List (List ℕ) → Type 0
 WholeButLast N [] = Unit {0}
 WholeButLast N (p ∷ []) = Unit {0}
-WholeButLast N (p ∷ q ∷ ps) = (length p % recordLength N ≡ 0) × WholeButLast N (q ∷ ps)
+WholeButLast N (p ∷ q ∷ ps) = (length p % record_length N ≡ 0) × WholeButLast N (q ∷ ps)
 
 -- the pieces in order, all in one class
-unfoldable pub withPieces : Netlist → Class → List (List ℕ) → Answer (List ℕ) → Answer (List ℕ)
-withPieces N c [] x = x
-withPieces N c (p ∷ ps) x = withPieces N c ps (withPiece N c p x)
+unfoldable pub with_pieces : Netlist → Class → List (List ℕ) → Answer (List ℕ) → Answer (List ℕ)
+with_pieces N c [] x = x
+with_pieces N c (p ∷ ps) x = with_pieces N c ps (with_piece N c p x)

@@ -2,92 +2,92 @@
 use Rattle.model.proofs.Prelude.{ℕ, ◌≤◌, ◌<◌, ◌^◌, ◌≡◌, ◌∙◌, ap, refl, sym, true, Bool, false, not, List, length, replicate, arith, needs, not-true}
 use Rattle.model.proofs.Prelude.{not-false}
 use Rattle.model.specs.Base.{Answer, refused, value, checks, passes}
-use Rattle.model.specs.Netlist.{Netlist, pathTotal}
-use Rattle.model.specs.Read.{within, readNetlist, class_of}
-use Rattle.model.specs.Refusals.{refusalNumber}
-use Rattle.model.specs.Store.{storeWords, storeRules}
-use Rattle.model.specs.Calls.{workWords, beforeTest}
-use Rattle.model.specs.Report.{fileRecords, testAll}
+use Rattle.model.specs.Netlist.{Netlist, path_total}
+use Rattle.model.specs.Read.{within, read_netlist, class_of}
+use Rattle.model.specs.Refusals.{refusal_number_of}
+use Rattle.model.specs.Store.{store_words_count, store_rules}
+use Rattle.model.specs.Calls.{work_words_count, before_test}
+use Rattle.model.specs.Report.{file_records, test_all}
 use Rattle.model.specs.declared.Refusal.{Refusal}
 use Rattle.model.specs.declared.Refusal.TheVariants as why
-use Rattle.model.proofs.AnswerLaws.{not-refused, value_inj}
+use Rattle.model.proofs.AnswerLaws.{not_refused, value_inj}
 use Rattle.model.proofs.ReadLaws.{limits}
 use Rattle.netlist.specs.Answers.{LoadedTrue}
 use Rattle.netlist.specs.declared.SurveyAnswer.TheVariants as survey
 use Rattle.netlist.specs.declared.inner.Loaded.{Loaded}
-use Rattle.netlist.proofs.LoadLaws.{loaded-legal, loaded-refused}
-use Rattle.store_words.specs.WordAnswers.{checkOf}
+use Rattle.netlist.proofs.LoadLaws.{loaded_legal, loaded_refused}
+use Rattle.store_words.specs.WordAnswers.{check_of}
 use Rattle.store_words.specs.declared.inner.StoreCheck.{StoreCheck}
 use Rattle.store_words.specs.declared.inner.StoreCheck.TheVariants as check
-use Rattle.audit_block.specs.RecordsTaken.{fileOf, leftStore, taken_of}
+use Rattle.audit_block.specs.RecordsTaken.{file_of, left_store, taken_of}
 use Rattle.store_coverage.specs.declared.inner.StageAnswer.TheVariants as stage
 use Rattle.audit_block.specs.declared.inner.TakenRecords.{TakenRecords}
 use Rattle.audit_block.proofs.MemoryLaws.{emptied}
 use Rattle.audit_pieces.specs.declared.PieceAnswer.{PieceAnswer}
 use Rattle.audit_pieces.specs.declared.PieceAnswer.TheVariants as piece
-use Rattle.audit_piece_steps.specs.Steps.{lentRules, PieceTaken, withPiece, takenWith, piece_store}
+use Rattle.audit_piece_steps.specs.Steps.{lent_rules, PieceTaken, with_piece, taken_with, piece_store}
 use Rattle.audit_records.specs.FileRecords.{Ready}
-use Rattle.audit_pieces.specs.Calls.{RecordsSaid, piece_of, recordsSaid, pieceAnswer, pieceCall, pieceLeft, PieceWork, PieceTrue, PieceReady, PieceStaged}
-use Rattle.audit_judging.specs.FileJudging.{storeChecked}
+use Rattle.audit_pieces.specs.Calls.{RecordsSaid, piece_of, records_said, piece_answer, piece_call, piece_left, PieceWork, PieceTrue, PieceReady, PieceStaged}
+use Rattle.audit_judging.specs.FileJudging.{store_checked}
 use Rattle.audit_piece_steps.proofs.StepCases.{lent-words, lent-short, lent-passed}
 
 -- A piece on a legal netlist
 module _ (netlist : List ℕ) (loaded : Loaded) (class : ℕ) (bytes ws work : List ℕ) (ready : PieceReady netlist loaded ws work) where
   pub on-paths : loaded.total ≤ 2 ^ 62
-  on-paths = omega (arith, ready.totalIs, (limits netlist ready.circuit ready.tables.legal).totalFits)
+  on-paths = omega (arith, ready.total_is, (limits netlist ready.circuit ready.tables.legal).total_fits)
 
-  total_of : (N : Netlist) → readNetlist netlist ≡ value N → loaded.total ≡ pathTotal N
-  total_of N q = ready.totalIs ∙ ap pathTotal (value_inj (sym ready.tables.legal ∙ q))
+  total_of : (N : Netlist) → read_netlist netlist ≡ value N → loaded.total ≡ path_total N
+  total_of N q = ready.total_is ∙ ap path_total (value_inj (sym ready.tables.legal ∙ q))
 
-  module _ (k : StoreCheck) (ek : checkOf k ≡ checks (storeRules loaded.total ws)) where
-    checked-is : (N : Netlist) → readNetlist netlist ≡ value N → checks (storeRules (pathTotal N) ws) ≡ checkOf k
-    checked-is N q = ap (λ (p : ℕ). checks (storeRules p ws)) (sym (total_of N q)) ∙ sym ek
+  module _ (k : StoreCheck) (ek : check_of k ≡ checks (store_rules loaded.total ws)) where
+    checked_is : (N : Netlist) → read_netlist netlist ≡ value N → checks (store_rules (path_total N) ws) ≡ check_of k
+    checked_is N q = ap (λ (p : ℕ). checks (store_rules p ws)) (sym (total_of N q)) ∙ sym ek
 
     pub on-refused : (w : Refusal) → k ≡ check.Refused w → (ws' : List ℕ) → ws' ≡ replicate (length ws) 0
         → PieceStaged (piece.Refused w) netlist class bytes ws ws' work work
-    unfolding leftStore
+    unfolding left_store
     on-refused w e ws' z =
-        let x : (N : Netlist) → readNetlist netlist ≡ value N → checks (storeRules (pathTotal N) ws) ≡ refused (refusalNumber w) =
-        λ N q. checked-is N q ∙ ap checkOf e in
+        let x : (N : Netlist) → read_netlist netlist ≡ value N → checks (store_rules (path_total N) ws) ≡ refused (refusal_number_of w) =
+        λ N q. checked_is N q ∙ ap check_of e in
         record {
           answer = λ N q. rw (x N q) refl;
-          store = λ N q. emptied ws' (length ws) z ready.storeLength ∙ rw (x N q) refl;
-          sameLength = refl;
-          pastWork = refl;
-          notReached = λ N q n f. refl;
+          store = λ N q. emptied ws' (length ws) z ready.store_length ∙ rw (x N q) refl;
+          same_length_of = refl;
+          past_work = refl;
+          not_reached = λ N q n f. refl;
         }
 
     module _ (s : k ≡ check.Sound) where
-      sound-is : (N : Netlist) → readNetlist netlist ≡ value N → checks (storeRules (pathTotal N) ws) ≡ value tt
-      sound-is N q = checked-is N q ∙ ap checkOf s
+      sound-is : (N : Netlist) → read_netlist netlist ≡ value N → checks (store_rules (path_total N) ws) ≡ value tt
+      sound-is N q = checked_is N q ∙ ap check_of s
 
       pub on-ready : Ready netlist loaded ws work
       on-ready = record {
         circuit = ready.circuit;
         tables = ready.tables;
-        totalIs = ready.totalIs;
-        memory = record { storeLength = ready.storeLength; sound = sound-is ready.circuit ready.tables.legal; workLength = ready.workLength };
+        total_is = ready.total_is;
+        memory = record { store_length = ready.store_length; sound = sound-is ready.circuit ready.tables.legal; work_length = ready.work_length };
       }
 
       module _ (r : TakenRecords) (ws' work' : List ℕ) (t : PieceTaken r netlist loaded class (record { taken = 0; answer = stage.Taken }) bytes ws ws' work work') where
-        said-is : (N : Netlist) → readNetlist netlist ≡ value N → record { taken = r.taken; said = passes (fileOf r.answer ws') } ≡ recordsSaid N (class_of class) bytes ws
-        unfolding recordsSaid withPiece takenWith
+        said-is : (N : Netlist) → read_netlist netlist ≡ value N → record { taken = r.taken; said = passes (file_of r.answer ws') } ≡ records_said N (class_of class) bytes ws
+        unfolding records_said with_piece taken_with
         said-is N q =
-            let a : r.taken ≡ taken_of N (class_of class) (fileRecords N bytes) ws = omega (arith, t.taken N q) in
-            let b : passes (fileOf r.answer ws') ≡ passes (testAll N (class_of class) (fileRecords N bytes) ws) = ap (λ (x : Answer (List ℕ)). passes x) (t.answer N q) in
+            let a : r.taken ≡ taken_of N (class_of class) (file_records N bytes) ws = omega (arith, t.taken N q) in
+            let b : passes (file_of r.answer ws') ≡ passes (test_all N (class_of class) (file_records N bytes) ws) = ap (λ (x : Answer (List ℕ)). passes x) (t.answer N q) in
             λ i. record { taken = a i; said = b i }
 
-        staged : (p : PieceAnswer) → piece_of p ≡ value (record { taken = r.taken; said = passes (fileOf r.answer ws') })
+        staged : (p : PieceAnswer) → piece_of p ≡ value (record { taken = r.taken; said = passes (file_of r.answer ws') })
             → PieceStaged p netlist class bytes ws ws' work work'
         unfolding piece_store
         staged p e = record {
           answer = λ N q. rw (sound-is N q) (e ∙ ap (λ (x : RecordsSaid). value x) (said-is N q));
           store = λ N q. rw (sound-is N q) (t.store N q);
-          sameLength = t.sameLength;
-          pastWork = t.pastWork;
-          notReached = λ N q n f.
-              let x : storeChecked (pathTotal N) ws ≡ value ws = rw (sound-is N q) refl in
-              absurd (not-refused (sym f ∙ x));
+          same_length_of = t.same_length_of;
+          past_work = t.past_work;
+          not_reached = λ N q n f.
+              let x : store_checked (path_total N) ws ≡ value ws = rw (sound-is N q) refl in
+              absurd (not_refused (sym f ∙ x));
         }
 
         pub on-taken : r.answer ≡ stage.Taken → PieceStaged (piece.Taken r.taken) netlist class bytes ws ws' work work'
@@ -101,26 +101,26 @@ pub ruleset on-cases = (on-paths, on-refused, on-ready, on-taken, on-record, nee
 -- A piece
 module _ (netlist : List ℕ) (class : ℕ) (bytes ws work : List ℕ) where
   untouched : PieceWork netlist class ws work work
-  untouched = record { sameLength = refl; pastWork = refl; notReached = λ n e. refl }
+  untouched = record { same_length_of = refl; past_work = refl; not_reached = λ n e. refl }
 
-  at-lent : (w : Refusal) → lentRules ws work ≡ refused (refusalNumber w) → PieceTrue (piece.Refused w) netlist class bytes ws ws work work
-  unfolding pieceAnswer pieceLeft
+  at-lent : (w : Refusal) → lent_rules ws work ≡ refused (refusal_number_of w) → PieceTrue (piece.Refused w) netlist class bytes ws ws work work
+  unfolding piece_answer piece_left
   at-lent w e = record { answer = rw e refl; store = rw e refl; memory = untouched }
 
-  pub piece-words : (length ws ≡ storeWords → ⊥) → PieceTrue (piece.Refused why.StoreLength) netlist class bytes ws ws work work
+  pub piece-words : (length ws ≡ store_words_count → ⊥) → PieceTrue (piece.Refused why.StoreLength) netlist class bytes ws ws work work
   piece-words d = at-lent why.StoreLength (lent-words ws work d)
 
-  module _ (l : length ws ≡ storeWords) where
-    pub piece-short : length work < workWords → PieceTrue (piece.Refused why.WorkLength) netlist class bytes ws ws work work
+  module _ (l : length ws ≡ store_words_count) where
+    pub piece-short : length work < work_words_count → PieceTrue (piece.Refused why.WorkLength) netlist class bytes ws ws work work
     piece-short h = at-lent why.WorkLength (lent-short ws work l h)
 
-    module _ (h : workWords ≤ length work) (loaded : Loaded) (t : LoadedTrue loaded netlist) where
+    module _ (h : work_words_count ≤ length work) (loaded : Loaded) (t : LoadedTrue loaded netlist) where
       pub piece-netlist : (w : Refusal) → loaded.answer ≡ survey.Refused w → (ws' : List ℕ) → ws' ≡ replicate (length ws) 0
           → PieceTrue (piece.Refused w) netlist class bytes ws ws' work work
-      unfolding pieceAnswer pieceLeft pieceCall leftStore
+      unfolding piece_answer piece_left piece_call left_store
       piece-netlist w e ws' z =
           let p = lent-passed ws work l h in
-          let q = loaded-refused loaded netlist t w e in
+          let q = loaded_refused loaded netlist t w e in
           record {
             answer = rw (p, q) refl;
             store = emptied ws' (length ws) z l ∙ rw (p, q) refl;
@@ -130,15 +130,15 @@ module _ (netlist : List ℕ) (class : ℕ) (bytes ws work : List ℕ) where
       module _ (e : loaded.answer ≡ survey.Legal) where
         pub piece-legal : PieceReady netlist loaded ws work
         piece-legal =
-            let d = loaded-legal loaded netlist t e in
-            record { circuit = d.circuit; tables = d.tables; totalIs = d.totalIs; storeLength = l; workLength = h }
+            let d = loaded_legal loaded netlist t e in
+            record { circuit = d.circuit; tables = d.tables; total_is = d.total_is; store_length = l; work_length = h }
 
         pub piece-class : (k : Bool) → k ≡ within 1 2 class → not k ≡ true → (ws' : List ℕ) → ws' ≡ replicate (length ws) 0
             → PieceTrue (piece.Refused why.UnknownClass) netlist class bytes ws ws' work work
-        unfolding pieceAnswer pieceLeft pieceCall leftStore
+        unfolding piece_answer piece_left piece_call left_store
         piece-class k ek n ws' z =
             let p = lent-passed ws work l h in
-            let q = (loaded-legal loaded netlist t e).tables.legal in
+            let q = (loaded_legal loaded netlist t e).tables.legal in
             let u : within 1 2 class ≡ false = sym ek ∙ not-true k n in
             record {
               answer = rw (p, q) (rw u refl);
@@ -148,19 +148,19 @@ module _ (netlist : List ℕ) (class : ℕ) (bytes ws work : List ℕ) where
 
         pub piece-done : (r : PieceAnswer) (ws' work' : List ℕ) (k : Bool) → k ≡ within 1 2 class → not k ≡ false
             → PieceStaged r netlist class bytes ws ws' work work' → PieceTrue r netlist class bytes ws ws' work work'
-        unfolding pieceAnswer pieceLeft pieceCall
+        unfolding piece_answer piece_left piece_call
         piece-done r ws' work' k ek n s =
-            let d = loaded-legal loaded netlist t e in
+            let d = loaded_legal loaded netlist t e in
             let p = lent-passed ws work l h in
             let u : within 1 2 class ≡ true = sym ek ∙ not-false k n in
-            let before : beforeTest netlist class ws work ≡ value d.circuit = rw (p, d.tables.legal) (rw u refl) in
+            let before : before_test netlist class ws work ≡ value d.circuit = rw (p, d.tables.legal) (rw u refl) in
             record {
               answer = s.answer d.circuit d.tables.legal ∙ rw (p, d.tables.legal) (rw u refl);
               store = s.store d.circuit d.tables.legal ∙ rw (p, d.tables.legal) (rw u refl);
               memory = record {
-                sameLength = s.sameLength;
-                pastWork = s.pastWork;
-                notReached = λ n q. s.notReached d.circuit d.tables.legal n (rw before at q);
+                same_length_of = s.same_length_of;
+                past_work = s.past_work;
+                not_reached = λ n q. s.not_reached d.circuit d.tables.legal n (rw before at q);
               };
             }
 

@@ -2,13 +2,13 @@
 use Rattle.model.proofs.Prelude.{ℕ, ◌≡◌, ◌∙◌, ap, refl, sym, ◌↔◌, List}
 use Rattle.model.specs.Base.{value}
 use Rattle.model.specs.Read.{class_of}
-use Rattle.model.specs.Store.{emptyStore}
-use Rattle.model.specs.Refusals.{refusalNumber}
-use Rattle.model.specs.Report.{fileRecords}
+use Rattle.model.specs.Store.{empty_store}
+use Rattle.model.specs.Refusals.{refusal_number_of}
+use Rattle.model.specs.Report.{file_records}
 use Rattle.model.specs.Demand3.{Acceptable}
 use Rattle.model.specs.declared.Refusal.{Refusal}
-use Rattle.model.proofs.AnswerLaws.{not-refused}
-use Rattle.model.proofs.ReportsHold.{demand-3}
+use Rattle.model.proofs.AnswerLaws.{not_refused}
+use Rattle.model.proofs.ReportsHold.{demand_3}
 use Rattle.audit.specs.Answers.{AuditTrue}
 use Rattle.audit_block.specs.RecordsTaken.{taken_of}
 use Rattle.audit_judging.specs.declared.AuditAnswer.{AuditAnswer}
@@ -18,49 +18,49 @@ use Rattle.audit_piece_steps.specs.declared.BeginAnswer.TheVariants as beginning
 use Rattle.audit_judging.specs.declared.EndAnswer.{EndAnswer}
 use Rattle.audit_judging.specs.declared.EndAnswer.TheVariants as ending
 use Rattle.audit_piece_steps.specs.declared.inner.Begun.{Begun}
-use Rattle.audit_piece_steps.specs.Steps.{BeginTrue, begunOf}
+use Rattle.audit_piece_steps.specs.Steps.{BeginTrue, begun_of}
 use Rattle.audit_pieces.specs.Calls.{BegunTrue}
 use Rattle.audit_judging.specs.FileJudging.{ended_of}
 use Rattle.audit_piece_steps.specs.JoinedPieces.{joined}
-use Rattle.audit_pieces.specs.Together.{MadePiece, bytes_of, noRecords, lastAnswer, StepsMade, WholeAudit, PiecesTrue}
+use Rattle.audit_pieces.specs.Together.{MadePiece, bytes_of, no_records, last_answer, StepsMade, WholeAudit, PiecesTrue}
 use Rattle.audit_pieces.proofs.TogetherHolds.{calls-joined, pieces-made, begun-ready, begun-empty, begun-refused, untouched}
-use Rattle.audit_pieces.proofs.TakenLaws.{takenWiths, taken-whole, last_taken}
-use Rattle.audit_pieces.proofs.CallsTogether.{calls-made, never-for-store, call-places}
+use Rattle.audit_pieces.proofs.TakenLaws.{taken_withs, taken-whole, last_taken}
+use Rattle.audit_pieces.proofs.CallsTogether.{calls-made, never-for_store, call-places}
 
 -- a beginning that was refused
-refused-at-once : (netlist : List ℕ) (class : ℕ) (testFile report ws ws₀ work : List ℕ) (b : Begun) → BeginTrue b netlist class ws ws₀ work
-    → (w : Refusal) → b.answer ≡ beginning.Refused w → AuditTrue (audit.Refused w) netlist class testFile report ws ws₀ work work
-refused-at-once netlist class testFile report ws ws₀ work b t w q =
-    let x = begun-refused netlist class testFile report ws ws₀ work (refusalNumber w) (sym (ap begunOf q) ∙ t.answer) t.store in
-    record { answer = x.0; store = x.1; work = untouched netlist class testFile report ws ws₀ work (refusalNumber w) (sym (ap begunOf q) ∙ t.answer) t.store }
+refused-at-once : (netlist : List ℕ) (class : ℕ) (test_file report ws ws₀ work : List ℕ) (b : Begun) → BeginTrue b netlist class ws ws₀ work
+    → (w : Refusal) → b.answer ≡ beginning.Refused w → AuditTrue (audit.Refused w) netlist class test_file report ws ws₀ work work
+refused-at-once netlist class test_file report ws ws₀ work b t w q =
+    let x = begun-refused netlist class test_file report ws ws₀ work (refusal_number_of w) (sym (ap begun_of q) ∙ t.answer) t.store in
+    record { answer = x.0; store = x.1; work = untouched netlist class test_file report ws ws₀ work (refusal_number_of w) (sym (ap begun_of q) ∙ t.answer) t.store }
 
-call-refused-at-once : (netlist : List ℕ) (class : ℕ) (testFile report ws ws₀ work : List ℕ) (w : Refusal)
-    → BegunTrue (beginning.Refused w) netlist class ws ws₀ work → WholeAudit (ending.Refused (refusalNumber w)) netlist class testFile report ws ws₀ work
-call-refused-at-once netlist class testFile report ws ws₀ work w t =
-    let x = begun-refused netlist class testFile report ws ws₀ work (refusalNumber w) t.answer t.store in
+call-refused-at-once : (netlist : List ℕ) (class : ℕ) (test_file report ws ws₀ work : List ℕ) (w : Refusal)
+    → BegunTrue (beginning.Refused w) netlist class ws ws₀ work → WholeAudit (ending.Refused (refusal_number_of w)) netlist class test_file report ws ws₀ work
+call-refused-at-once netlist class test_file report ws ws₀ work w t =
+    let x = begun-refused netlist class test_file report ws ws₀ work (refusal_number_of w) t.answer t.store in
     record { answer = x.0; store = x.1 }
 
 -- the number of records taken
 step-places : (netlist : List ℕ) (class : ℕ) (ms : List MadePiece) (report ws ws' work : List ℕ) (r : AuditAnswer)
     → (s : StepsMade netlist class ms report ws ws' work r)
-    → (lastAnswer noRecords ms).taken ≡ taken_of s.circuit (class_of class) (fileRecords s.circuit (joined (bytes_of ms))) emptyStore
+    → (last_answer no_records ms).taken ≡ taken_of s.circuit (class_of class) (file_records s.circuit (joined (bytes_of ms))) empty_store
 step-places netlist class ms report ws ws' work r s =
     let ws₀ : List ℕ = s.emptied in
-    last_taken netlist s.begun.loaded class s.circuit s.legal noRecords ws₀ ms s.takes
-    ∙ ap (λ (x : List ℕ). takenWiths s.circuit (class_of class) (bytes_of ms) (value x) 0)
-    (begun-empty netlist class ws ws₀ work s.begun.answer s.begins.answer s.isReady s.begins.store)
-    ∙ taken-whole s.circuit (class_of class) (bytes_of ms) s.whole emptyStore
+    last_taken netlist s.begun.loaded class s.circuit s.legal no_records ws₀ ms s.takes
+    ∙ ap (λ (x : List ℕ). taken_withs s.circuit (class_of class) (bytes_of ms) (value x) 0)
+    (begun-empty netlist class ws ws₀ work s.begun.answer s.begins.answer s.is_ready s.begins.store)
+    ∙ taken-whole s.circuit (class_of class) (bytes_of ms) s.whole empty_store
 
 -- an audit whose answer is a number accepts exactly the true report
-accepted-is : (r : EndAnswer) → ended_of r ≡ value tt → r ≡ ending.Accepted
-accepted-is ending.Accepted e = refl
-accepted-is (ending.Refused n) e = absurd (not-refused e)
+accepted_is : (r : EndAnswer) → ended_of r ≡ value tt → r ≡ ending.Accepted
+accepted_is ending.Accepted e = refl
+accepted_is (ending.Refused n) e = absurd (not_refused e)
 
-whole-accepts : (netlist : List ℕ) (class : ℕ) (testFile report ws ws' work : List ℕ) (r : EndAnswer)
-    → WholeAudit r netlist class testFile report ws ws' work → (r ≡ ending.Accepted) ↔ Acceptable netlist class testFile report ws work
-whole-accepts netlist class testFile report ws ws' work r a = (
-  λ q. (demand-3.audits netlist class testFile report ws work).0 (sym a.answer ∙ ap ended_of q),
-  λ q. accepted-is r (a.answer ∙ (demand-3.audits netlist class testFile report ws work).1 q),
+whole-accepts : (netlist : List ℕ) (class : ℕ) (test_file report ws ws' work : List ℕ) (r : EndAnswer)
+    → WholeAudit r netlist class test_file report ws ws' work → (r ≡ ending.Accepted) ↔ Acceptable netlist class test_file report ws work
+whole-accepts netlist class test_file report ws ws' work r a = (
+  λ q. (demand_3.audits netlist class test_file report ws work).0 (sym a.answer ∙ ap ended_of q),
+  λ q. accepted_is r (a.answer ∙ (demand_3.audits netlist class test_file report ws work).1 q),
 )
 
 pub pieces-true : PiecesTrue
@@ -69,13 +69,13 @@ pieces-true = record {
   made = pieces-made;
   accepts = λ netlist class ms report ws ws' work r s.
       calls-true.audits r netlist class (joined (bytes_of ms)) report ws ws' work _ (pieces-made netlist class ms report ws ws' work r s);
-  refusedAtOnce = refused-at-once;
-  readyThen = begun-ready;
-  callsMade = λ netlist class ms report ws ws' work r s. calls-made netlist class ms ws work s.pieces report ws' r s.ends;
-  callsAccept = λ netlist class ms report ws ws' work r s.
+  refused_at_once = refused-at-once;
+  ready_then = begun-ready;
+  calls_made = λ netlist class ms report ws ws' work r s. calls-made netlist class ms ws work s.pieces report ws' r s.ends;
+  calls_accept = λ netlist class ms report ws ws' work r s.
       whole-accepts netlist class _ report ws ws' work r (calls-made netlist class ms ws work s.pieces report ws' r s.ends);
-  callRefusedAtOnce = call-refused-at-once;
-  neverForStore = never-for-store;
+  call_refused_at_once = call-refused-at-once;
+  never_for_store = never-for_store;
   places = step-places;
-  callPlaces = call-places;
+  call_places = call-places;
 }

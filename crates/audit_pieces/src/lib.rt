@@ -3,9 +3,9 @@
 // piece is refused, no other is handed over.
 ghost use Rattle.std.specs.Prelude.{◌≡◌, length};
 ghost use Rattle.model.specs.Base.{passes};
-ghost use Rattle.model.specs.Store.{storeWords};
+ghost use Rattle.model.specs.Store.{store_words_count};
 ghost use Rattle.audit_judging.specs.FileJudging.{ended_of};
-ghost use Rattle.audit_pieces.specs.Calls.{BegunTrue, PieceReady, PieceStaged, PieceTrue, EndTrue, endStage};
+ghost use Rattle.audit_pieces.specs.Calls.{BegunTrue, PieceReady, PieceStaged, PieceTrue, EndTrue, end_stage};
 
 use audit_block::inner::TakenRecords;
 use audit_judging::EndAnswer;
@@ -132,8 +132,8 @@ pub fn audit_end(
 
 // What the end answers, with a store of the right length.
 fn end_on(netlist: &[u8], bytes: u64, first: u32, report: &[u8], store: &[u64]) -> EndAnswer
-    requires { length store.now ≡ storeWords }
-    ensures { ended_of result ≡ passes (endStage netlist.now bytes first report.now store.now) }
+    requires { length store.now ≡ store_words_count }
+    ensures { ended_of result ≡ passes (end_stage netlist.now bytes first report.now store.now) }
 {
     let surveyed = survey(netlist);
     let answer = surveyed.answer;

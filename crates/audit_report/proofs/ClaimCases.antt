@@ -13,26 +13,26 @@ use Rattle.audit_report.specs.declared.claims.Claim.{Claim}
 
 module _ (i j : ℕ) (a plain : List ℕ) (low high : ℕ) (lh : low ≤ high) (hb : Fits w64 high) (x : Piece) (s : PieceFrom x i j a plain low) where
   -- no number from `low` on is in the runs of `a` only
-  pub claim-nothing : x ≡ piece.Nothing → ClaimTrue (record { kind = kind.NotRobust; high = high }) a plain low high
-  claim-nothing e =
+  pub claim_nothing : x ≡ piece.Nothing → ClaimTrue (record { kind = kind.NotRobust; high = high }) a plain low high
+  claim_nothing e =
       let t : FirstPiece piece.Nothing a plain low = piece-as i j a plain low x piece.Nothing s e in
-      record { some = lh; within = omega arith; kindIs = λ k l m. t k l (omega (arith, hb.fits)) }
+      record { some = lh; within = omega arith; kind_is = λ k l m. t k l (omega (arith, hb.fits)) }
 
   module _ (first last : ℕ) (e : x ≡ piece.Range first last) where
     t : FirstPiece (piece.Range first last) a plain low
     t = (piece-as i j a plain low x (piece.Range first last) s e).0
 
-    pub claim-before : high < first → ClaimTrue (record { kind = kind.NotRobust; high = high }) a plain low high
-    claim-before h = record { some = lh; within = omega arith; kindIs = λ k l m. t.1 k l (omega arith) }
+    pub claim_before : high < first → ClaimTrue (record { kind = kind.NotRobust; high = high }) a plain low high
+    claim_before h = record { some = lh; within = omega arith; kind_is = λ k l m. t.1 k l (omega arith) }
 
-    pub claim-until : low < first → first ≤ high → ClaimTrue (record { kind = kind.NotRobust; high = first - 1 }) a plain low high
-    claim-until h g = record { some = omega arith; within = omega arith; kindIs = λ k l m. t.1 k l (omega arith) }
+    pub claim_until : low < first → first ≤ high → ClaimTrue (record { kind = kind.NotRobust; high = first - 1 }) a plain low high
+    claim_until h g = record { some = omega arith; within = omega arith; kind_is = λ k l m. t.1 k l (omega arith) }
 
-    pub claim-whole : first ≤ low → high < last → ClaimTrue (record { kind = kind.FalseClaim; high = high }) a plain low high
-    claim-whole h g = record { some = lh; within = omega arith; kindIs = λ k l m. t.2.1 k (omega arith) (omega arith) }
+    pub claim_whole : first ≤ low → high < last → ClaimTrue (record { kind = kind.FalseClaim; high = high }) a plain low high
+    claim_whole h g = record { some = lh; within = omega arith; kind_is = λ k l m. t.2.1 k (omega arith) (omega arith) }
 
-    pub claim-part : first ≤ low → last ≤ high → ClaimTrue (record { kind = kind.FalseClaim; high = last }) a plain low high
-    claim-part h g = record { some = omega (arith, t.0, t.2.0); within = g; kindIs = λ k l m. t.2.1 k (omega arith) m }
+    pub claim_part : first ≤ low → last ≤ high → ClaimTrue (record { kind = kind.FalseClaim; high = last }) a plain low high
+    claim_part h g = record { some = omega (arith, t.0, t.2.0); within = g; kind_is = λ k l m. t.2.1 k (omega arith) m }
 
 -- the range that a walk finds from a number on, and the walk after it
 module _ (i j : ℕ) (a b : List ℕ) (from : ℕ) (x : Piece) (s : PieceFrom x i j a b from) (low high : ℕ) (e : x ≡ piece.Range low high) where
@@ -59,6 +59,6 @@ module _ (i j : ℕ) (a b : List ℕ) (from : ℕ) (x : Piece) (s : PieceFrom x 
     pub within-passed : (k : ℕ) (l : List ℕ) → Passed l k from → Passed l k (r.high + 1)
     within-passed k l p = passed_later l k from (r.high + 1) (omega (arith, u.0.0, split.some)) p
 
-pub ruleset claim-cases = (claim-nothing, claim-before, claim-until, claim-whole, claim-part, needs)
+pub ruleset claim-cases = (claim_nothing, claim_before, claim_until, claim_whole, claim_part, needs)
 
 pub ruleset walk-cases = (passed_none, range-some, range-less, first-passed, last-passed, split-less, within-passed, needs)

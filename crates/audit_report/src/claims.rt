@@ -1,7 +1,7 @@
 // The numbers that are claimed and not detected, and those that are detected and not claimed, for an edge whose runs ascend. Where the report was
 // judged in class 2 and the true report in class 1 is at hand, claims that are true in class 1 are told apart.
 ghost use Rattle.std.specs.Prelude.{◌≤◌, length};
-ghost use Rattle.report_runs.specs.ReportRuns.{runsOfBytes, Ascends};
+ghost use Rattle.report_runs.specs.ReportRuns.{runs_of_bytes, Ascends};
 ghost use Rattle.audit_report.specs.ClaimedNumbers.{ClaimTrue};
 
 use crate::one_more;
@@ -25,7 +25,7 @@ fn print_piece(kind: Kind, edge: Edge, low: u64, high: u64, is_shown: bool) {
 // The lines for the ranges of numbers in the runs of `a` and not in those of `b`, of which those are printed whose place is below `shown`; the
 // number of lines with those before.
 fn print_pieces(kind: Kind, edge: Edge, a: &[u8], b: &[u8], before: u64, shown: u64) -> u64
-    requires { Ascends 0 (runsOfBytes a.now) × Ascends 0 (runsOfBytes b.now) }
+    requires { Ascends 0 (runs_of_bytes a.now) × Ascends 0 (runs_of_bytes b.now) }
 {
     let mut lines = before;
     let mut i = 0;
@@ -60,7 +60,7 @@ struct Claim {
 // Of the numbers from `low` to `high`, which are in the runs of the report: those from `low` on that are all in the runs of the true report in class
 // 1, or all not.
 fn claim_in(a: &[u8], plain: &[u8], low: u64, high: u64) -> Claim
-    requires { Ascends 0 (runsOfBytes a.now) × Ascends 0 (runsOfBytes plain.now) × (low ≤ high) }
+    requires { Ascends 0 (runs_of_bytes a.now) × Ascends 0 (runs_of_bytes plain.now) × (low ≤ high) }
     ensures { ClaimTrue result a.now plain.now low high }
 {
     let found = next_piece(a, 0, plain, 0, low);
@@ -103,7 +103,7 @@ fn claim_in(a: &[u8], plain: &[u8], low: u64, high: u64) -> Claim
 // The lines for the numbers in the runs of the report `a` and not in those of the true report `b`, cut where they begin or end to be in those of the
 // true report in class 1.
 fn print_split(edge: Edge, a: &[u8], b: &[u8], plain: &[u8], before: u64, shown: u64) -> u64
-    requires { Ascends 0 (runsOfBytes a.now) × Ascends 0 (runsOfBytes b.now) × Ascends 0 (runsOfBytes plain.now) }
+    requires { Ascends 0 (runs_of_bytes a.now) × Ascends 0 (runs_of_bytes b.now) × Ascends 0 (runs_of_bytes plain.now) }
 {
     let mut lines = before;
     let mut i = 0;

@@ -1,17 +1,17 @@
 -- A line judged, by its statement.
 use Rattle.model.proofs.Prelude.{ℕ, ◌≤◌, ◌<◌, ◌+◌, ◌*◌, ◌≡◌, ◌∙◌, ap, refl, sym, subst, ◌&&◌, List, [], ◌∷◌, ◌++◌, length, ltb, ltb→lt, arith}
 use Rattle.model.specs.Base.{Rule, checks}
-use Rattle.model.specs.Read.{pinsFit}
+use Rattle.model.specs.Read.{pins_fit}
 use Rattle.model.proofs.BoolLaws.{and_left}
 use Rattle.model.proofs.AnswerLaws.{checks→}
-use Rattle.bench_lines.specs.Text.{Statement, blank, input, output, gate, other, tokensOf, statementOf}
+use Rattle.bench_lines.specs.Text.{Statement, blank, input, output, gate, other, tokens_of, statement_of}
 use Rattle.bench_lines.specs.LineReading.{part, NameIn}
 use Rattle.bench_lines.specs.Keys.{AllNamed}
 use Rattle.bench_lines.specs.Stating.{GateAt, InputAt, OutputAt, LineStated}
-use Rattle.bench_circuit.specs.Circuit.{GateLine, Circuit, lineRules, added}
+use Rattle.bench_circuit.specs.Circuit.{GateLine, Circuit, line_rules, added}
 use Rattle.bench_names.specs.NameNets.{NamesRoom}
-use Rattle.bench_circuit.specs.Judging.{PutAfter, PinsNamed, NameJudged, inputRules, InputJudged, outputRules, OutputJudged, gateRules, GateJudged, NamesHeld, Held, HeldRoom}
-use Rattle.bench_circuit.specs.Judging.{LineJudged, RoomAfter, LineTrue, countedAs}
+use Rattle.bench_circuit.specs.Judging.{PutAfter, PinsNamed, NameJudged, input_rules, InputJudged, output_rules, OutputJudged, gate_rules, GateJudged, NamesHeld, Held, HeldRoom}
+use Rattle.bench_circuit.specs.Judging.{LineJudged, RoomAfter, LineTrue, counted_as}
 use Rattle.model.specs.declared.Refusal.{Refusal}
 use Rattle.model.specs.declared.Refusal.TheVariants as why
 use Rattle.bench_lines.specs.declared.inner.statements.GateParts.{GateParts}
@@ -28,23 +28,23 @@ use Rattle.bench_circuit.proofs.JudgeCases.{input-rules, output-rules, gate-rule
 
 pub room-names : (is gs os : List ℕ) (n : NameCounts) → HeldRoom is gs os n → NamesRoom is n.inputs gs n.gates
 room-names is gs os n r = record {
-  inputWords = r.words.inputWords;
-  gateWords = r.words.gateWords;
-  fewInputs = r.fewInputs;
-  fewGates = r.fewGates;
+  input_words = r.words.input_words;
+  gate_words = r.words.gate_words;
+  few_inputs = r.few_inputs;
+  few_gates = r.few_gates;
 }
 
 pub room-outputs : (is gs os : List ℕ) (n : NameCounts) → HeldRoom is gs os n → 2 * n.outputs ≤ length os
-room-outputs is gs os n r = omega (arith, r.words.outputWords, r.fewOutputs)
+room-outputs is gs os n r = omega (arith, r.words.output_words, r.few_outputs)
 
 -- the answer to a name, counted
 pub counted-no : (a : NameAnswer) (i g o : ℕ) (w : Refusal) → a ≡ answer.Refused w
-    → lineAnswer.Refused w ≡ countedAs a i g o
-counted-no a i g o w e = sym (ap (λ (x : NameAnswer). countedAs x i g o) e)
+    → lineAnswer.Refused w ≡ counted_as a i g o
+counted-no a i g o w e = sym (ap (λ (x : NameAnswer). counted_as x i g o) e)
 
 pub counted-yes : (a : NameAnswer) (i g o : ℕ) → a ≡ answer.Added
-    → lineAnswer.Taken (record { inputs = i; gates = g; outputs = o }) ≡ countedAs a i g o
-counted-yes a i g o e = sym (ap (λ (x : NameAnswer). countedAs x i g o) e)
+    → lineAnswer.Taken (record { inputs = i; gates = g; outputs = o }) ≡ counted_as a i g o
+counted-yes a i g o e = sym (ap (λ (x : NameAnswer). counted_as x i g o) e)
 
 pins-more : (gs : List GateLine) (g : GateLine) → PinsNamed gs → AllNamed g.pins → PinsNamed (gs ++ (g ∷ []))
 unfolding PinsNamed
@@ -55,7 +55,7 @@ abbrev counts : ℕ → ℕ → ℕ → NameCounts
 counts i g o = record { inputs = i; gates = g; outputs = o }
 
 module _ (l is gs os : List ℕ) (n : NameCounts) (room : HeldRoom is gs os n) (st : LineStatement) (k : LineStated st l) where
-  judged-as : (r : LineAnswer) (s : Statement) (is' gs' os' : List ℕ) → statementOf (tokensOf l) ≡ s
+  judged-as : (r : LineAnswer) (s : Statement) (is' gs' os' : List ℕ) → statement_of (tokens_of l) ≡ s
       → ((c : Circuit) → Held is gs os n c → LineJudged r c s is' gs' os')
       → RoomAfter r is' gs' os' → LineTrue r l n is gs os is' gs' os'
   judged-as r s is' gs' os' e f w = record {
@@ -64,37 +64,37 @@ module _ (l is gs os : List ℕ) (n : NameCounts) (room : HeldRoom is gs os n) (
   }
 
   pub line-blank : st ≡ stated.Blank → LineTrue (lineAnswer.Taken n) l n is gs os is gs os
-  unfolding lineRules added
+  unfolding line_rules added
   line-blank e =
       judged-as (lineAnswer.Taken n) blank is gs os (stated-as l k e) (λ c h. record { passed = refl; held = h }) room
 
   pub line_other : (is' gs' os' : List ℕ) → st ≡ stated.Other
       → LineTrue (lineAnswer.Refused why.BenchLine) l n is gs os is' gs' os'
-  unfolding lineRules
+  unfolding line_rules
   line_other is' gs' os' e =
       judged-as (lineAnswer.Refused why.BenchLine) other is' gs' os' (stated-as l k e) (λ c h. refl) tt
 
   -- ---- an input
 
   module _ (f t : ℕ) (e : st ≡ stated.Input f t) where
-    in-at : InputAt f t l (statementOf (tokensOf l))
-    in-at = stated-as l k e
+    in_at : InputAt f t l (statement_of (tokens_of l))
+    in_at = stated-as l k e
 
     pub line-input-name : NameIn f t l
-    line-input-name = in-at.isName
+    line-input-name = in_at.is_name
 
     module _ (a : NameAnswer) (is' : List ℕ) (j : InputJudged a (part f t l) is is' n.inputs gs n.gates) where
-      abbrev in-rules : List Rule
-      in-rules = inputRules is n.inputs gs n.gates (part f t l)
+      abbrev in_rules : List Rule
+      in_rules = input_rules is n.inputs gs n.gates (part f t l)
 
-      in-checks : {c : Circuit} → Held is gs os n c → checks (lineRules c (input (part f t l))) ≡ checks in-rules
-      in-checks h = ap checks (sym (input-rules h (part f t l) in-at.isName.named))
+      in_checks : {c : Circuit} → Held is gs os n c → checks (line_rules c (input (part f t l))) ≡ checks in_rules
+      in_checks h = ap checks (sym (input-rules h (part f t l) in_at.is_name.named))
 
       line-input-no : (w : Refusal) (is'' gs'' os'' : List ℕ) → a ≡ answer.Refused w
           → LineTrue (lineAnswer.Refused w) l n is gs os is'' gs'' os''
       line-input-no w is'' gs'' os'' q =
-          let z : NameJudged (answer.Refused w) in-rules = subst (λ (x : NameAnswer). NameJudged x in-rules) q j.judged in
-          judged-as (lineAnswer.Refused w) (input (part f t l)) is'' gs'' os'' in-at.is (λ c h. in-checks h ∙ z) tt
+          let z : NameJudged (answer.Refused w) in_rules = subst (λ (x : NameAnswer). NameJudged x in_rules) q j.judged in
+          judged-as (lineAnswer.Refused w) (input (part f t l)) is'' gs'' os'' in_at.is (λ c h. in_checks h ∙ z) tt
 
       line-input-yes : a ≡ answer.Added
           → LineTrue (lineAnswer.Taken (counts (n.inputs + 1) n.gates n.outputs)) l n is gs os is' gs os
@@ -102,15 +102,15 @@ module _ (l is gs os : List ℕ) (n : NameCounts) (room : HeldRoom is gs os n) (
       line-input-yes q =
           let j' : InputJudged answer.Added (part f t l) is is' n.inputs gs n.gates =
           subst (λ (x : NameAnswer). InputJudged x (part f t l) is is' n.inputs gs n.gates) q j in
-          let p = checks→ in-rules (record { got = tt; is = j'.judged }) in
+          let p = checks→ in_rules (record { got = tt; is = j'.judged }) in
           let few : n.inputs < 64 =
           ltb→lt n.inputs 64 (and_left (ltb n.inputs 64) (ltb (n.inputs + n.gates) 512) p.1.0) in
-          let fits : 2 * n.inputs + 1 < length is = omega (arith, few, room.words.inputWords) in
-          judged-as (lineAnswer.Taken (counts (n.inputs + 1) n.gates n.outputs)) (input (part f t l)) is' gs os in-at.is
+          let fits : 2 * n.inputs + 1 < length is = omega (arith, few, room.words.input_words) in
+          judged-as (lineAnswer.Taken (counts (n.inputs + 1) n.gates n.outputs)) (input (part f t l)) is' gs os in_at.is
           (λ c h. record {
-            passed = in-checks h ∙ j'.judged;
+            passed = in_checks h ∙ j'.judged;
             held = record {
-              inputs = held_more h.inputs in-at.isName.named fits j'.put;
+              inputs = held_more h.inputs in_at.is_name.named fits j'.put;
               gates = h.gates;
               outputs = h.outputs;
               pins = h.pins;
@@ -118,39 +118,39 @@ module _ (l is gs os : List ℕ) (n : NameCounts) (room : HeldRoom is gs os n) (
           })
           (record {
             words = record {
-              inputWords = set-two is is' _ _ _ _ j'.put ∙ room.words.inputWords;
-              gateWords = room.words.gateWords;
-              outputWords = room.words.outputWords;
+              input_words = set-two is is' _ _ _ _ j'.put ∙ room.words.input_words;
+              gate_words = room.words.gate_words;
+              output_words = room.words.output_words;
             };
-            fewInputs = omega (arith, few);
-            fewGates = room.fewGates;
-            fewOutputs = room.fewOutputs;
+            few_inputs = omega (arith, few);
+            few_gates = room.few_gates;
+            few_outputs = room.few_outputs;
           })
 
-      pub line-input : (r : LineAnswer) → r ≡ countedAs a (n.inputs + 1) n.gates n.outputs
+      pub line-input : (r : LineAnswer) → r ≡ counted_as a (n.inputs + 1) n.gates n.outputs
           → LineTrue r l n is gs os is' gs os
       line-input r q = subst (λ (y : LineAnswer). LineTrue y l n is gs os is' gs os) (sym q) (go a refl)
         where
           go : (b : NameAnswer) → a ≡ b
-              → LineTrue (countedAs b (n.inputs + 1) n.gates n.outputs) l n is gs os is' gs os
+              → LineTrue (counted_as b (n.inputs + 1) n.gates n.outputs) l n is gs os is' gs os
           go answer.Added u = line-input-yes u
           go (answer.Refused w) u = line-input-no w is' gs os u
 
   -- ---- an output
 
   module _ (f t : ℕ) (e : st ≡ stated.Output f t) where
-    out_at : OutputAt f t l (statementOf (tokensOf l))
+    out_at : OutputAt f t l (statement_of (tokens_of l))
     out_at = stated-as l k e
 
     pub line-output-name : NameIn f t l
-    line-output-name = out_at.isName
+    line-output-name = out_at.is_name
 
     module _ (a : NameAnswer) (os' : List ℕ) (j : OutputJudged a (part f t l) os os' n.outputs) where
       abbrev out-rules : List Rule
-      out-rules = outputRules os n.outputs (part f t l)
+      out-rules = output_rules os n.outputs (part f t l)
 
-      out-checks : {c : Circuit} → Held is gs os n c → checks (lineRules c (output (part f t l))) ≡ checks out-rules
-      out-checks h = ap checks (sym (output-rules h (part f t l) out_at.isName.named))
+      out-checks : {c : Circuit} → Held is gs os n c → checks (line_rules c (output (part f t l))) ≡ checks out-rules
+      out-checks h = ap checks (sym (output-rules h (part f t l) out_at.is_name.named))
 
       line-output-no : (w : Refusal) (is'' gs'' os'' : List ℕ) → a ≡ answer.Refused w
           → LineTrue (lineAnswer.Refused w) l n is gs os is'' gs'' os''
@@ -167,7 +167,7 @@ module _ (l is gs os : List ℕ) (n : NameCounts) (room : HeldRoom is gs os n) (
           subst (λ (x : NameAnswer). OutputJudged x (part f t l) os os' n.outputs) q j in
           let p = checks→ out-rules (record { got = tt; is = j'.judged }) in
           let few : n.outputs < 64 = ltb→lt n.outputs 64 p.1.0 in
-          let fits : 2 * n.outputs + 1 < length os = omega (arith, few, room.words.outputWords) in
+          let fits : 2 * n.outputs + 1 < length os = omega (arith, few, room.words.output_words) in
           judged-as (lineAnswer.Taken (counts n.inputs n.gates (n.outputs + 1))) (output (part f t l)) is gs os'
           out_at.is
           (λ c h. record {
@@ -175,27 +175,27 @@ module _ (l is gs os : List ℕ) (n : NameCounts) (room : HeldRoom is gs os n) (
             held = record {
               inputs = h.inputs;
               gates = h.gates;
-              outputs = held_more h.outputs out_at.isName.named fits j'.put;
+              outputs = held_more h.outputs out_at.is_name.named fits j'.put;
               pins = h.pins;
             };
           })
           (record {
             words = record {
-              inputWords = room.words.inputWords;
-              gateWords = room.words.gateWords;
-              outputWords = set-two os os' _ _ _ _ j'.put ∙ room.words.outputWords;
+              input_words = room.words.input_words;
+              gate_words = room.words.gate_words;
+              output_words = set-two os os' _ _ _ _ j'.put ∙ room.words.output_words;
             };
-            fewInputs = room.fewInputs;
-            fewGates = room.fewGates;
-            fewOutputs = omega (arith, few);
+            few_inputs = room.few_inputs;
+            few_gates = room.few_gates;
+            few_outputs = omega (arith, few);
           })
 
-      pub line-output : (r : LineAnswer) → r ≡ countedAs a n.inputs n.gates (n.outputs + 1)
+      pub line-output : (r : LineAnswer) → r ≡ counted_as a n.inputs n.gates (n.outputs + 1)
           → LineTrue r l n is gs os is gs os'
       line-output r q = subst (λ (y : LineAnswer). LineTrue y l n is gs os is gs os') (sym q) (go a refl)
         where
           go : (b : NameAnswer) → a ≡ b
-              → LineTrue (countedAs b n.inputs n.gates (n.outputs + 1)) l n is gs os is gs os'
+              → LineTrue (counted_as b n.inputs n.gates (n.outputs + 1)) l n is gs os is gs os'
           go answer.Added u = line-output-yes u
           go (answer.Refused w) u = line-output-no w is gs os' u
 
@@ -208,24 +208,24 @@ module _ (l is gs os : List ℕ) (n : NameCounts) (room : HeldRoom is gs os n) (
     abbrev kind : ℕ
     kind = parts.kind
 
-    gate-at : GateAt parts.from parts.to parts.kind parts.at parts.pins l (statementOf (tokensOf l))
+    gate-at : GateAt parts.from parts.to parts.kind parts.at parts.pins l (statement_of (tokens_of l))
     gate-at = stated-as l k e
 
     abbrev ys : List (List ℕ)
     ys = gate-at.names
 
     pub line-gate-name : NameIn parts.from parts.to l
-    line-gate-name = gate-at.isName
+    line-gate-name = gate-at.is_name
 
     pub line-gate-inside : parts.at ≤ length l
     line-gate-inside = gate-at.inside
 
     module _ (a : NameAnswer) (gs' : List ℕ) (j : GateJudged a l parts is n.inputs gs gs' n.gates) where
       abbrev pin-rules : List Rule
-      pin-rules = gateRules is n.inputs gs n.gates x kind ys
+      pin-rules = gate_rules is n.inputs gs n.gates x kind ys
 
-      pin-checks : {c : Circuit} → Held is gs os n c → checks (lineRules c (gate x kind ys)) ≡ checks pin-rules
-      pin-checks h = ap checks (sym (gate-rules h x kind ys gate-at.isName.named gate-at.allNamed))
+      pin-checks : {c : Circuit} → Held is gs os n c → checks (line_rules c (gate x kind ys)) ≡ checks pin-rules
+      pin-checks h = ap checks (sym (gate-rules h x kind ys gate-at.is_name.named gate-at.all_named))
 
       gate-judged : NameJudged a pin-rules
       gate-judged = j.judged ys gate-at.reads gate-at.count
@@ -248,37 +248,37 @@ module _ (l is gs os : List ℕ) (n : NameCounts) (room : HeldRoom is gs os n) (
           let g : GateLine = record { name = x; kind = kind; pins = ys } in
           let range = ltb n.gates 511 && ltb (n.inputs + n.gates) 512 in
           let p = checks→ pin-rules (record { got = tt; is = z }) in
-          let both = and_left range (pinsFit kind (length ys)) p.1.0 in
+          let both = and_left range (pins_fit kind (length ys)) p.1.0 in
           let few : n.gates < 511 =
           ltb→lt n.gates 511 (and_left (ltb n.gates 511) (ltb (n.inputs + n.gates) 512) both) in
-          let fits : 2 * n.gates + 1 < length gs = omega (arith, few, room.words.gateWords) in
+          let fits : 2 * n.gates + 1 < length gs = omega (arith, few, room.words.gate_words) in
           judged-as (lineAnswer.Taken (counts n.inputs (n.gates + 1) n.outputs)) (gate x kind ys) is gs' os gate-at.is
           (λ c h. record {
             passed = pin-checks h ∙ z;
             held = record {
               inputs = h.inputs;
               gates = subst (NamesHeld gs' (n.gates + 1)) (sym (names-snoc c.gates g))
-                  (held_more h.gates gate-at.isName.named fits put);
+                  (held_more h.gates gate-at.is_name.named fits put);
               outputs = h.outputs;
-              pins = pins-more c.gates g h.pins gate-at.allNamed;
+              pins = pins-more c.gates g h.pins gate-at.all_named;
             };
           })
           (record {
             words = record {
-              inputWords = room.words.inputWords;
-              gateWords = set-two gs gs' _ _ _ _ put ∙ room.words.gateWords;
-              outputWords = room.words.outputWords;
+              input_words = room.words.input_words;
+              gate_words = set-two gs gs' _ _ _ _ put ∙ room.words.gate_words;
+              output_words = room.words.output_words;
             };
-            fewInputs = room.fewInputs;
-            fewGates = omega (arith, few);
-            fewOutputs = room.fewOutputs;
+            few_inputs = room.few_inputs;
+            few_gates = omega (arith, few);
+            few_outputs = room.few_outputs;
           })
 
-      pub line-gate : (r : LineAnswer) → r ≡ countedAs a n.inputs (n.gates + 1) n.outputs
+      pub line-gate : (r : LineAnswer) → r ≡ counted_as a n.inputs (n.gates + 1) n.outputs
           → LineTrue r l n is gs os is gs' os
       line-gate r q = subst (λ (y : LineAnswer). LineTrue y l n is gs os is gs' os) (sym q) (go a refl)
         where
           go : (b : NameAnswer) → a ≡ b
-              → LineTrue (countedAs b n.inputs (n.gates + 1) n.outputs) l n is gs os is gs' os
+              → LineTrue (counted_as b n.inputs (n.gates + 1) n.outputs) l n is gs os is gs' os
           go answer.Added u = line-gate-yes u
           go (answer.Refused w) u = line-gate-no w is gs' os u

@@ -1,13 +1,13 @@
 -- What the judging functions answer: first of the keys in lent words, then of the circuit that they hold.
 use Rattle.std.specs.Prelude.{ℕ, ◌+◌, ◌*◌, ◌≤◌, ◌≡◌, ◌&&◌, not, List, [], ◌∷◌, map, ltb, length, set}
 use Rattle.model.specs.Base.{Rule, all_of, checks, value, refused}
-use Rattle.model.specs.Read.{pinsFit}
-use Rattle.bench_lines.specs.Text.{Statement, gate, tokensOf, statementOf, pinsFrom, lines_of}
+use Rattle.model.specs.Read.{pins_fit}
+use Rattle.bench_lines.specs.Text.{Statement, gate, tokens_of, statement_of, pins_from, lines_of}
 use Rattle.bench_lines.specs.LineReading.{part, rest_at}
-use Rattle.bench_circuit.specs.Circuit.{GateLine, Circuit, emptyCircuit, lineRules, added, lineByLine, badFrom}
-use Rattle.model.specs.Refusals.{refusalNumber}
-use Rattle.bench_lines.specs.Keys.{keyLow, keyHigh, Holds, AllNamed}
-use Rattle.bench_names.specs.NameNets.{namePlace, keyKnown}
+use Rattle.bench_circuit.specs.Circuit.{GateLine, Circuit, empty_circuit, line_rules, added, line_by_line, bad_from}
+use Rattle.model.specs.Refusals.{refusal_number_of}
+use Rattle.bench_lines.specs.Keys.{key_low, key_high, Holds, AllNamed}
+use Rattle.bench_names.specs.NameNets.{name_place, key_known}
 use Rattle.bench_circuit.specs.declared.inner.judging.NameCounts.{NameCounts}
 use Rattle.bench_circuit.specs.declared.inner.judging.NameAnswer.{NameAnswer}
 use Rattle.bench_circuit.specs.declared.inner.judging.NameAnswer.TheVariants as answer
@@ -20,40 +20,40 @@ use Rattle.bench_lines.specs.declared.inner.statements.GateParts.{GateParts}
 -- an answer to a name, by the rules that it passed
 abbrev pub NameJudged : NameAnswer → List Rule → Type 0
 NameJudged answer.Added rules = checks rules ≡ value tt
-NameJudged (answer.Refused w) rules = checks rules ≡ refused (refusalNumber w)
+NameJudged (answer.Refused w) rules = checks rules ≡ refused (refusal_number_of w)
 
 -- the words after an answer: with the key after the others, if it was added
 abbrev pub PutAfter : NameAnswer → List ℕ → List ℕ → ℕ → List ℕ → Type 0
-PutAfter answer.Added ws ws' n x = ws' ≡ set (set ws (2 * n) (keyLow x)) (2 * n + 1) (keyHigh x)
+PutAfter answer.Added ws ws' n x = ws' ≡ set (set ws (2 * n) (key_low x)) (2 * n + 1) (key_high x)
 PutAfter (answer.Refused w) ws ws' n x = Unit {0}
 
-abbrev pub inputRules : List ℕ → ℕ → List ℕ → ℕ → List ℕ → List Rule
-inputRules is i gs g x = (81, not (keyKnown is i gs g x)) ∷ (82, ltb i 64 && ltb (i + g) 512) ∷ []
+abbrev pub input_rules : List ℕ → ℕ → List ℕ → ℕ → List ℕ → List Rule
+input_rules is i gs g x = (81, not (key_known is i gs g x)) ∷ (82, ltb i 64 && ltb (i + g) 512) ∷ []
 
 pub record InputJudged (r : NameAnswer) (x is is' : List ℕ) (i : ℕ) (gs : List ℕ) (g : ℕ) : Type 0 where
-  pub judged : NameJudged r (inputRules is i gs g x)
+  pub judged : NameJudged r (input_rules is i gs g x)
   pub put : PutAfter r is is' i x
 
-abbrev pub outputRules : List ℕ → ℕ → List ℕ → List Rule
-outputRules os o x = (81, not (ltb (namePlace os o x) o)) ∷ (82, ltb o 64) ∷ []
+abbrev pub output_rules : List ℕ → ℕ → List ℕ → List Rule
+output_rules os o x = (81, not (ltb (name_place os o x) o)) ∷ (82, ltb o 64) ∷ []
 
 pub record OutputJudged (r : NameAnswer) (x os os' : List ℕ) (o : ℕ) : Type 0 where
-  pub judged : NameJudged r (outputRules os o x)
+  pub judged : NameJudged r (output_rules os o x)
   pub put : PutAfter r os os' o x
 
-abbrev pub gateRules : List ℕ → ℕ → List ℕ → ℕ → List ℕ → ℕ → List (List ℕ) → List Rule
-gateRules is i gs g x k ys =
-    (81, not (keyKnown is i gs g x) && all_of (keyKnown is i gs g) ys) ∷ (82, (ltb g 511 && ltb (i + g) 512) && pinsFit k (length ys)) ∷ []
+abbrev pub gate_rules : List ℕ → ℕ → List ℕ → ℕ → List ℕ → ℕ → List (List ℕ) → List Rule
+gate_rules is i gs g x k ys =
+    (81, not (key_known is i gs g x) && all_of (key_known is i gs g) ys) ∷ (82, (ltb g 511 && ltb (i + g) 512) && pins_fit k (length ys)) ∷ []
 
 -- the name of a gate on its line
-abbrev pub gateName : GateParts → List ℕ → List ℕ
-gateName p line = part p.from p.to line
+abbrev pub gate_name : GateParts → List ℕ → List ℕ
+gate_name p line = part p.from p.to line
 
 pub record GateJudged (r : NameAnswer) (line : List ℕ) (p : GateParts) (is : List ℕ) (i : ℕ) (gs gs' : List ℕ) (g : ℕ) : Type 0 where
   pub judged : (ys : List (List ℕ))
-      → pinsFrom (gateName p line) p.kind [] (rest_at p.at line) ≡ gate (gateName p line) p.kind ys
-      → length ys ≡ p.pins → NameJudged r (gateRules is i gs g (gateName p line) p.kind ys)
-  pub put : PutAfter r gs gs' g (gateName p line)
+      → pins_from (gate_name p line) p.kind [] (rest_at p.at line) ≡ gate (gate_name p line) p.kind ys
+      → length ys ≡ p.pins → NameJudged r (gate_rules is i gs g (gate_name p line) p.kind ys)
+  pub put : PutAfter r gs gs' g (gate_name p line)
 
 -- words with the keys of names, in their order
 pub record NamesHeld (ws : List ℕ) (n : ℕ) (names : List (List ℕ)) : Type 0 where
@@ -74,49 +74,49 @@ pub record Held (is gs os : List ℕ) (n : NameCounts) (c : Circuit) : Type 0 wh
   pub pins : PinsNamed c.gates
 
 pub record WordsRoom (is gs os : List ℕ) : Type 0 where
-  pub inputWords : length is ≡ 128
-  pub gateWords : length gs ≡ 1024
-  pub outputWords : length os ≡ 128
+  pub input_words : length is ≡ 128
+  pub gate_words : length gs ≡ 1024
+  pub output_words : length os ≡ 128
 
 pub record HeldRoom (is gs os : List ℕ) (n : NameCounts) : Type 0 where
   pub words : WordsRoom is gs os
-  pub fewInputs : n.inputs ≤ 64
-  pub fewGates : n.gates ≤ 511
-  pub fewOutputs : n.outputs ≤ 64
+  pub few_inputs : n.inputs ≤ 64
+  pub few_gates : n.gates ≤ 511
+  pub few_outputs : n.outputs ≤ 64
 
 -- a line's answer by that to its name, and how many there are if it was added
-abbrev pub countedAs : NameAnswer → ℕ → ℕ → ℕ → LineAnswer
-countedAs answer.Added i g o = line.Taken (record { inputs = i; gates = g; outputs = o })
-countedAs (answer.Refused w) i g o = line.Refused w
+abbrev pub counted_as : NameAnswer → ℕ → ℕ → ℕ → LineAnswer
+counted_as answer.Added i g o = line.Taken (record { inputs = i; gates = g; outputs = o })
+counted_as (answer.Refused w) i g o = line.Refused w
 
 -- a line that was taken or refused
 pub record LineTaken (n : NameCounts) (c : Circuit) (s : Statement) (is gs os : List ℕ) : Type 0 where
-  pub passed : checks (lineRules c s) ≡ value tt
+  pub passed : checks (line_rules c s) ≡ value tt
   pub held : Held is gs os n (added c s)
 
 abbrev pub LineJudged : LineAnswer → Circuit → Statement → List ℕ → List ℕ → List ℕ → Type 0
 LineJudged (line.Taken n) c s is gs os = LineTaken n c s is gs os
-LineJudged (line.Refused w) c s is gs os = checks (lineRules c s) ≡ refused (refusalNumber w)
+LineJudged (line.Refused w) c s is gs os = checks (line_rules c s) ≡ refused (refusal_number_of w)
 
 abbrev pub RoomAfter : LineAnswer → List ℕ → List ℕ → List ℕ → Type 0
 RoomAfter (line.Taken n) is gs os = HeldRoom is gs os n
 RoomAfter (line.Refused w) is gs os = Unit {0}
 
 pub record LineTrue (r : LineAnswer) (l : List ℕ) (n : NameCounts) (is gs os is' gs' os' : List ℕ) : Type 0 where
-  pub judged : (c : Circuit) → Held is gs os n c → LineJudged r c (statementOf (tokensOf l)) is' gs' os'
+  pub judged : (c : Circuit) → Held is gs os n c → LineJudged r c (statement_of (tokens_of l)) is' gs' os'
   pub room : RoomAfter r is' gs' os'
 
 -- a text whose lines were all taken, or one refused
 pub record TextTaken (n : NameCounts) (text is gs os : List ℕ) : Type 0 where
   pub circuit : Circuit
-  pub reads : lineByLine emptyCircuit (lines_of text) ≡ value circuit
+  pub reads : line_by_line empty_circuit (lines_of text) ≡ value circuit
   pub held : Held is gs os n circuit
   pub room : HeldRoom is gs os n
 
 pub record LineRefused (number line : ℕ) (text : List ℕ) : Type 0 where
-  pub reads : lineByLine emptyCircuit (lines_of text) ≡ refused number
-  pub place : line ≡ badFrom emptyCircuit 1 (lines_of text)
+  pub reads : line_by_line empty_circuit (lines_of text) ≡ refused number
+  pub place : line ≡ bad_from empty_circuit 1 (lines_of text)
 
 abbrev pub TextTrue : TextAnswer → List ℕ → List ℕ → List ℕ → List ℕ → Type 0
 TextTrue (whole.Taken n) bytes is gs os = TextTaken n bytes is gs os
-TextTrue (whole.Refused w line) bytes is gs os = LineRefused (refusalNumber w) line bytes
+TextTrue (whole.Refused w line) bytes is gs os = LineRefused (refusal_number_of w) line bytes

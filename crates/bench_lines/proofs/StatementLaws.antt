@@ -5,10 +5,10 @@ use mir.Val.{Fits}
 use mir.Syntax.{w64}
 use Rattle.model.specs.Base.{all_of}
 use Rattle.model.proofs.BoolLaws.{T→true, and_left, and_right}
-use Rattle.bench_lines.specs.Text.{nameByte, Token, name, sign, Statement, gate, other, place, kindNames, ioNames, ending, pinsFrom}
-use Rattle.bench_lines.specs.LineReading.{part, Named, NameIn, NameAt, SignAt, TokenIs, rest_at, nameThen}
-use Rattle.bench_lines.specs.Keys.{key_of, keyPlace, keyWords, AllNamed}
-use Rattle.bench_lines.specs.Stating.{atEnd, pinsState, OnePin, NoPin, PinIs, NamedThen, GateAt, LineStated}
+use Rattle.bench_lines.specs.Text.{name_byte, Token, name, sign, Statement, gate, other, place, kind_names, io_names, ending, pins_from}
+use Rattle.bench_lines.specs.LineReading.{part, Named, NameIn, NameAt, SignAt, TokenIs, rest_at, name_then}
+use Rattle.bench_lines.specs.Keys.{key_of, key_place, key_words, AllNamed}
+use Rattle.bench_lines.specs.Stating.{at_end_of, pins_state, OnePin, NoPin, PinIs, NamedThen, GateAt, LineStated}
 use Rattle.bench_lines.specs.declared.inner.keys.NameKey.{NameKey}
 use Rattle.bench_lines.specs.declared.inner.tokens.NextToken.{NextToken}
 use Rattle.bench_lines.specs.declared.inner.tokens.NextToken.TheVariants as token
@@ -34,32 +34,32 @@ module _ (line : List ℕ) (at : ℕ) (t : NextToken) (k : TokenIs t at line) wh
   pub told-name : (from to : ℕ) → t ≡ token.Name from to → NameAt from to at line
   told-name from to e = subst (λ (x : NextToken). TokenIs x at line) e k
 
-  pub end-yes : t ≡ token.End → true ≡ atEnd (rest_at at line)
-  unfolding atEnd
+  pub end-yes : t ≡ token.End → true ≡ at_end_of (rest_at at line)
+  unfolding at_end_of
   end-yes e = rw (told-end e) refl
 
-  pub end-sign : (b next : ℕ) → t ≡ token.Sign b next → false ≡ atEnd (rest_at at line)
-  unfolding atEnd
+  pub end-sign : (b next : ℕ) → t ≡ token.Sign b next → false ≡ at_end_of (rest_at at line)
+  unfolding at_end_of
   end-sign b next e = rw (told-sign b next e).tokens refl
 
-  pub end-name : (from to : ℕ) → t ≡ token.Name from to → false ≡ atEnd (rest_at at line)
-  unfolding atEnd
+  pub end-name : (from to : ℕ) → t ≡ token.Name from to → false ≡ at_end_of (rest_at at line)
+  unfolding at_end_of
   end-name from to e = rw (told-name from to e).tokens refl
 
   pub sign-in : (b next : ℕ) → t ≡ token.Sign b next → next ≤ length line
   sign-in b next e = (told-sign b next e).high
 
   pub name_in : (from to : ℕ) → t ≡ token.Name from to → NameIn from to line
-  name_in from to e = (told-name from to e).isName
+  name_in from to e = (told-name from to e).is_name
 
 -- the line ends, or does not
-pub ending-yes : (s : Statement) (ts : List Token) (e : Bool) → e ≡ atEnd ts → e ≡ true → ending s ts ≡ s
-unfolding ending atEnd
+pub ending-yes : (s : Statement) (ts : List Token) (e : Bool) → e ≡ at_end_of ts → e ≡ true → ending s ts ≡ s
+unfolding ending at_end_of
 ending-yes s [] e q h = refl
 ending-yes s (t ∷ ts) e q h = absurd (true≢false (sym h ∙ q))
 
-pub ending-no : (s : Statement) (ts : List Token) (e : Bool) → e ≡ atEnd ts → e ≡ false → ending s ts ≡ other
-unfolding ending atEnd
+pub ending-no : (s : Statement) (ts : List Token) (e : Bool) → e ≡ at_end_of ts → e ≡ false → ending s ts ≡ other
+unfolding ending at_end_of
 ending-no s [] e q h = absurd (true≢false (sym q ∙ h))
 ending-no s (t ∷ ts) e q h = refl
 
@@ -70,28 +70,28 @@ module _ (x : List ℕ) (k : ℕ) (xs : List (List ℕ)) (y : List ℕ) (s : ℕ
   by-close b = elim b [ true ↦ ending (gate x k (xs ++ (y ∷ []))) ts | false ↦ other ]
 
   by-comma : Bool → Statement
-  by-comma b = elim b [ true ↦ pinsFrom x k (xs ++ (y ∷ [])) ts | false ↦ by-close (eqb s 0x29) ]
+  by-comma b = elim b [ true ↦ pins_from x k (xs ++ (y ∷ [])) ts | false ↦ by-close (eqb s 0x29) ]
 
-  comma-step : s ≡ 0x2C → pinsFrom x k xs (name y ∷ sign s ∷ ts) ≡ pinsFrom x k (xs ++ (y ∷ [])) ts
-  unfolding pinsFrom by-comma by-close
-  comma-step e = ap by-comma (eq-eqb s 0x2C e)
+  comma_step : s ≡ 0x2C → pins_from x k xs (name y ∷ sign s ∷ ts) ≡ pins_from x k (xs ++ (y ∷ [])) ts
+  unfolding pins_from by-comma by-close
+  comma_step e = ap by-comma (eq-eqb s 0x2C e)
 
-  close-step : (s ≡ 0x2C → ⊥) → s ≡ 0x29
-      → pinsFrom x k xs (name y ∷ sign s ∷ ts) ≡ ending (gate x k (xs ++ (y ∷ []))) ts
-  unfolding pinsFrom by-comma by-close
-  close-step d e = ap by-comma (ne_eqb s 0x2C d) ∙ ap by-close (eq-eqb s 0x29 e)
+  close_step : (s ≡ 0x2C → ⊥) → s ≡ 0x29
+      → pins_from x k xs (name y ∷ sign s ∷ ts) ≡ ending (gate x k (xs ++ (y ∷ []))) ts
+  unfolding pins_from by-comma by-close
+  close_step d e = ap by-comma (ne_eqb s 0x2C d) ∙ ap by-close (eq-eqb s 0x29 e)
 
-  bad-step : (s ≡ 0x2C → ⊥) → (s ≡ 0x29 → ⊥) → pinsFrom x k xs (name y ∷ sign s ∷ ts) ≡ other
-  unfolding pinsFrom by-comma by-close
+  bad-step : (s ≡ 0x2C → ⊥) → (s ≡ 0x29 → ⊥) → pins_from x k xs (name y ∷ sign s ∷ ts) ≡ other
+  unfolding pins_from by-comma by-close
   bad-step d e = ap by-comma (ne_eqb s 0x2C d) ∙ ap by-close (ne_eqb s 0x29 e)
 
 module _ (line : List ℕ) (from to : ℕ) (n : NameIn from to line) (t : NextToken) (k : TokenIs t to line) where
-  pub pin-cut : t ≡ token.End → NoPin (nameThen from to line)
-  unfolding pinsFrom
+  pub pin-cut : t ≡ token.End → NoPin (name_then from to line)
+  unfolding pins_from
   pin-cut e = record { stop = λ x k' xs. rw (told-end line to t k e) refl }
 
-  pub pin-names : (f g : ℕ) → t ≡ token.Name f g → NoPin (nameThen from to line)
-  unfolding pinsFrom
+  pub pin-names : (f g : ℕ) → t ≡ token.Name f g → NoPin (name_then from to line)
+  unfolding pins_from
   pin-names f g e = record { stop = λ x k' xs. rw (told-name line to t k f g e).tokens refl }
 
   abbrev y : List ℕ
@@ -101,34 +101,34 @@ module _ (line : List ℕ) (from to : ℕ) (n : NameIn from to line) (t : NextTo
     signed : SignAt b next to line
     signed = told-sign line to t k b next e
 
-    pub pin-comma : b ≡ 0x2C → OnePin (nameThen from to line) from from to next true line
-    unfolding pinsState
+    pub pin-comma : b ≡ 0x2C → OnePin (name_then from to line) from from to next true line
+    unfolding pins_state
     pin-comma q = record {
-      step = λ x k' xs. rw signed.tokens (comma-step x k' xs y b (rest_at next line) q);
-      isName = n;
+      step = λ x k' xs. rw signed.tokens (comma_step x k' xs y b (rest_at next line) q);
+      is_name = n;
       later = omega (arith, n.some, signed.later);
       high = signed.high;
     }
 
     module _ (d : b ≡ 0x2C → ⊥) where
-      pub pin-bad : (b ≡ 0x29 → ⊥) → NoPin (nameThen from to line)
+      pub pin-bad : (b ≡ 0x29 → ⊥) → NoPin (name_then from to line)
       pin-bad q = record { stop = λ x k' xs. rw signed.tokens (bad-step x k' xs y b (rest_at next line) d q) }
 
-      module _ (q : b ≡ 0x29) (end : Bool) (f : end ≡ atEnd (rest_at next line)) where
-        pub pin-goes-on : end ≡ false → NoPin (nameThen from to line)
+      module _ (q : b ≡ 0x29) (end : Bool) (f : end ≡ at_end_of (rest_at next line)) where
+        pub pin-goes-on : end ≡ false → NoPin (name_then from to line)
         pin-goes-on h = record {
           stop = λ x k' xs. rw signed.tokens
-              (close-step x k' xs y b (rest_at next line) d q
+              (close_step x k' xs y b (rest_at next line) d q
               ∙ ending-no (gate x k' (xs ++ (y ∷ []))) (rest_at next line) end f h);
         }
 
-        pub pin-last : end ≡ true → OnePin (nameThen from to line) from from to next false line
-        unfolding pinsState
+        pub pin-last : end ≡ true → OnePin (name_then from to line) from from to next false line
+        unfolding pins_state
         pin-last h = record {
           step = λ x k' xs. rw signed.tokens
-              (close-step x k' xs y b (rest_at next line) d q
+              (close_step x k' xs y b (rest_at next line) d q
               ∙ ending-yes (gate x k' (xs ++ (y ∷ []))) (rest_at next line) end f h);
-          isName = n;
+          is_name = n;
           later = omega (arith, n.some, signed.later);
           high = signed.high;
         }
@@ -136,20 +136,20 @@ module _ (line : List ℕ) (from to : ℕ) (n : NameIn from to line) (t : NextTo
 -- the same, read from a position on
 module _ (line : List ℕ) (at : ℕ) (t : NextToken) (k : TokenIs t at line) where
   pub no-pin-end : t ≡ token.End → NoPin (rest_at at line)
-  unfolding pinsFrom
+  unfolding pins_from
   no-pin-end e = record { stop = λ x k' xs. rw (told-end line at t k e) refl }
 
   pub no-pin-sign : (b next : ℕ) → t ≡ token.Sign b next → NoPin (rest_at at line)
-  unfolding pinsFrom
+  unfolding pins_from
   no-pin-sign b next e = record { stop = λ x k' xs. rw (told-sign line at t k b next e).tokens refl }
 
   pub pin-named : (from to : ℕ) (r : PinRead) → t ≡ token.Name from to → NamedThen r from to line → PinIs r at line
   pin-named from to pin.Other e p = record {
-    stop = λ x k' xs. ap (pinsFrom x k' xs) (told-name line at t k from to e).tokens ∙ p.stop x k' xs;
+    stop = λ x k' xs. ap (pins_from x k' xs) (told-name line at t k from to e).tokens ∙ p.stop x k' xs;
   }
   pin-named from to (pin.Pin f g next more) e p = record {
-    step = λ x k' xs. ap (pinsFrom x k' xs) (told-name line at t k from to e).tokens ∙ p.step x k' xs;
-    isName = p.isName;
+    step = λ x k' xs. ap (pins_from x k' xs) (told-name line at t k from to e).tokens ∙ p.step x k' xs;
+    is_name = p.is_name;
     later = omega (arith, p.later, (told-name line at t k from to e).low);
     high = p.high;
   }
@@ -161,27 +161,27 @@ module _ (line : List ℕ) (from to kind at : ℕ) where
 
   pub record PinsSoFar (place pins : ℕ) (more : Bool) : Type 0 where
     pub names : List (List ℕ)
-    pub is : pinsFrom (part from to line) kind [] (rest_at at line)
-        ≡ pinsState more (part from to line) kind names (rest_at place line)
+    pub is : pins_from (part from to line) kind [] (rest_at at line)
+        ≡ pins_state more (part from to line) kind names (rest_at place line)
     pub count : length names ≡ pins
-    pub allNamed : AllNamed names
+    pub all_named : AllNamed names
     pub few : pins ≤ place
     pub inside : place ≤ length line
 
   pub pins-start : at ≤ length line → PinsSoFar at 0 true
-  unfolding pinsState AllNamed
-  pins-start h = record { names = []; is = refl; count = refl; allNamed = tt; few = omega arith; inside = h }
+  unfolding pins_state AllNamed
+  pins-start h = record { names = []; is = refl; count = refl; all_named = tt; few = omega arith; inside = h }
 
   module _ (place pins : ℕ) (more : Bool) (s : PinsSoFar place pins more) where
     pub pins-inside : place ≤ length line
     pins-inside = s.inside
 
-    going : more ≡ true → pinsFrom x kind [] (rest_at at line) ≡ pinsFrom x kind s.names (rest_at place line)
-    unfolding pinsState
-    going m = s.is ∙ ap (λ (b : Bool). pinsState b x kind s.names (rest_at place line)) m
+    going : more ≡ true → pins_from x kind [] (rest_at at line) ≡ pins_from x kind s.names (rest_at place line)
+    unfolding pins_state
+    going m = s.is ∙ ap (λ (b : Bool). pins_state b x kind s.names (rest_at place line)) m
 
     module _ (p : PinRead) (k : PinIs p place line) (m : more ≡ true) where
-      pub pins-stop : p ≡ pin.Other → pinsFrom x kind [] (rest_at at line) ≡ other
+      pub pins-stop : p ≡ pin.Other → pins_from x kind [] (rest_at at line) ≡ other
       pins-stop e =
           let z : NoPin (rest_at place line) = subst (λ (r : PinRead). PinIs r place line) e k in going m
           ∙ z.stop x kind s.names
@@ -201,39 +201,39 @@ module _ (line : List ℕ) (from to kind at : ℕ) where
           names = s.names ++ (part f g line ∷ []);
           is = going m ∙ one.step x kind s.names;
           count = omega (arith, length-append s.names (part f g line ∷ []), s.count);
-          allNamed = named-snoc s.names (part f g line) s.allNamed one.isName.named;
+          all_named = named-snoc s.names (part f g line) s.all_named one.is_name.named;
           few = omega (arith, s.few, one.later);
           inside = one.high;
         }
 
     pub pins-end : more ≡ false → NameIn from to line → 1 ≤ kind → kind ≤ 8 → at ≤ length line
-        → GateAt from to kind at pins line (pinsFrom x kind [] (rest_at at line))
-    unfolding pinsState
+        → GateAt from to kind at pins line (pins_from x kind [] (rest_at at line))
+    unfolding pins_state
     pins-end m n l h i =
-        let q : pinsFrom x kind [] (rest_at at line) ≡ gate x kind s.names =
-        s.is ∙ ap (λ (b : Bool). pinsState b x kind s.names (rest_at place line)) m in
+        let q : pins_from x kind [] (rest_at at line) ≡ gate x kind s.names =
+        s.is ∙ ap (λ (b : Bool). pins_state b x kind s.names (rest_at place line)) m in
         record {
           names = s.names;
           is = q;
           reads = q;
           count = s.count;
-          allNamed = s.allNamed;
-          isName = n;
-          kindLow = l;
-          kindHigh = h;
+          all_named = s.all_named;
+          is_name = n;
+          kind_low = l;
+          kind_high = h;
           inside = i;
         }
 
 -- ---- kinds, INPUT and OUTPUT
 
 -- a name that is written out
-nameTest : List ℕ → Bool
-nameTest w = all_of nameByte w && (leb 1 (length w) && leb (length w) 16)
+name_test : List ℕ → Bool
+name_test w = all_of name_byte w && (leb 1 (length w) && leb (length w) 16)
 
-tested-name : (w : List ℕ) → T (nameTest w) → Named w
-unfolding nameTest
+tested-name : (w : List ℕ) → T (name_test w) → Named w
+unfolding name_test
 tested-name w t =
-    let named = all_of nameByte w in
+    let named = all_of name_byte w in
     let some = leb 1 (length w) in
     let short = leb (length w) 16 in
     let size = and_right named (some && short) t in
@@ -243,26 +243,26 @@ tested-name w t =
       short = leb→le (length w) 16 (and_right some short size);
     }
 
-all_tested : (ws : List (List ℕ)) → T (all_of nameTest ws) → AllNamed ws
+all_tested : (ws : List (List ℕ)) → T (all_of name_test ws) → AllNamed ws
 unfolding AllNamed
 all_tested [] t = tt
 all_tested (w ∷ ws) t =
-    (tested-name w (and_left (nameTest w) (all_of nameTest ws) t), all_tested ws (and_right (nameTest w) (all_of nameTest ws) t))
+    (tested-name w (and_left (name_test w) (all_of name_test ws) t), all_tested ws (and_right (name_test w) (all_of name_test ws) t))
 
 module _ (line : List ℕ) (from to : ℕ) (n : NameIn from to line) (key : NameKey) (e : key ≡ key_of (part from to line)) (p : ℕ) where
-  place_in : (names : List (List ℕ)) (words : List ℕ) (m : ℕ) → words ≡ keyWords names ++ [] → AllNamed names
-      → m ≡ length names → p ≡ keyPlace key.low key.high m 0 words → p ≡ place (part from to line) names
+  place_in : (names : List (List ℕ)) (words : List ℕ) (m : ℕ) → words ≡ key_words names ++ [] → AllNamed names
+      → m ≡ length names → p ≡ key_place key.low key.high m 0 words → p ≡ place (part from to line) names
   place_in names words m w a l q =
       place_of (record { rest = []; is = w }) a n.named l
-      (q ∙ ap (λ (k : NameKey). keyPlace k.low k.high m 0 words) e)
+      (q ∙ ap (λ (k : NameKey). key_place k.low k.high m 0 words) e)
 
-  pub kind-is : p ≡ keyPlace key.low key.high 8 0 (0x46465542 ∷ 0 ∷ 0x544F4E ∷ 0 ∷ 0x444E41 ∷ 0 ∷ 0x444E414E ∷ 0
+  pub kind-is : p ≡ key_place key.low key.high 8 0 (0x46465542 ∷ 0 ∷ 0x544F4E ∷ 0 ∷ 0x444E41 ∷ 0 ∷ 0x444E414E ∷ 0
       ∷ 0x524F ∷ 0 ∷ 0x524F4E ∷ 0 ∷ 0x524F58 ∷ 0 ∷ 0x524F4E58 ∷ 0 ∷ [])
-      → p ≡ place (part from to line) kindNames
-  unfolding kindNames keyWords nameTest nameByte
-  kind-is q = place_in kindNames _ 8 refl (all_tested kindNames tt) refl q
+      → p ≡ place (part from to line) kind_names
+  unfolding kind_names key_words name_test name_byte
+  kind-is q = place_in kind_names _ 8 refl (all_tested kind_names tt) refl q
 
-  pub io-is : p ≡ keyPlace key.low key.high 2 0 (0x5455504E49 ∷ 0 ∷ 0x54555054554F ∷ 0 ∷ [])
-      → p ≡ place (part from to line) ioNames
-  unfolding ioNames keyWords nameTest nameByte
-  io-is q = place_in ioNames _ 2 refl (all_tested ioNames tt) refl q
+  pub io_is : p ≡ key_place key.low key.high 2 0 (0x5455504E49 ∷ 0 ∷ 0x54555054554F ∷ 0 ∷ [])
+      → p ≡ place (part from to line) io_names
+  unfolding io_names key_words name_test name_byte
+  io_is q = place_in io_names _ 2 refl (all_tested io_names tt) refl q

@@ -5,15 +5,15 @@ use native.Mathlib.Nat.{pow-succ', one-le-pow}
 use lib.Seq.{take-take}
 use mir.Val.{Fits}
 use mir.Syntax.{w8, w64}
-use Rattle.model.specs.Base.{fromLittleEndian}
+use Rattle.model.specs.Base.{from_little_endian}
 use Rattle.model.proofs.ListLaws.{take-bytes, drop-take}
 use Rattle.bench_lines.specs.LineReading.{part}
-use Rattle.bench_lines.specs.Keys.{keyLow, keyHigh, key_of}
+use Rattle.bench_lines.specs.Keys.{key_low, key_high, key_of}
 use Rattle.bench_lines.proofs.BytePartLaws.{drop-next, length_part, part_none}
 
 -- ---- the value of a few bytes
 
-bytes_below : (k : ℕ) (w : List ℕ) → length w ≤ k → ((i : ℕ) → get_or w i 0 < 256) → fromLittleEndian w < 256 ^ k
+bytes_below : (k : ℕ) (w : List ℕ) → length w ≤ k → ((i : ℕ) → get_or w i 0 < 256) → from_little_endian w < 256 ^ k
 bytes_below k [] h b = omega (arith, one-le-pow k 256 (omega arith))
 bytes_below zero (x ∷ xs) h b = absurd (omega arith)
 bytes_below (suc k) (x ∷ xs) h b =
@@ -25,12 +25,12 @@ part_bytes line f n at i = take-bytes n (drop at line) (λ j. rw (get_or-drop at
 
 module _ (line : List ℕ) (from to : ℕ) where
   pub record ValueSoFar (at value : ℕ) : Type 0 where
-    pub is : value ≡ fromLittleEndian (part at to line)
+    pub is : value ≡ from_little_endian (part at to line)
     pub low : from ≤ at
     pub high : at ≤ to
 
   pub value-start : from ≤ to → ValueSoFar to 0
-  value-start h = record { is = sym (ap fromLittleEndian (part_none to line)); low = h; high = omega arith }
+  value-start h = record { is = sym (ap from_little_endian (part_none to line)); low = h; high = omega arith }
 
   module _ (at value : ℕ) (s : ValueSoFar at value) (h : from < at) (inside : to ≤ length line) where
     pub value-more : ValueSoFar (at - 1) (256 * value + get_or line (at - 1) 0)
@@ -40,7 +40,7 @@ module _ (line : List ℕ) (from to : ℕ) where
         let e : part (at - 1) to line ≡ get_or line (at - 1) 0 ∷ part at to line =
         ap (λ (n : ℕ). take n (drop (at - 1) line)) k ∙ ap (take (suc (to - at))) (drop-next (at - 1) line (omega (arith, s.high)))
         ∙ ap (λ (n : ℕ). get_or line (at - 1) 0 ∷ take (to - at) (drop n line)) j in
-        record { is = omega (arith, s.is, ap fromLittleEndian e); low = omega arith; high = omega (arith, s.high) }
+        record { is = omega (arith, s.is, ap from_little_endian e); low = omega arith; high = omega (arith, s.high) }
 
     value-small : ((i : ℕ) → Fits w8 (get_or line i 0)) → to ≤ from + 8 → value < 2 ^ 56
     value-small f k =
@@ -52,27 +52,27 @@ module _ (line : List ℕ) (from to : ℕ) where
     pub value-plus : ((i : ℕ) → Fits w8 (get_or line i 0)) → to ≤ from + 8 → Fits w64 (256 * value + get_or line (at - 1) 0)
     value-plus f k = record { fits = omega (arith, value-small f k, (f (at - 1)).fits) }
 
-  pub value-end : (at value : ℕ) → ValueSoFar at value → at ≤ from → value ≡ fromLittleEndian (part from to line)
+  pub value-end : (at value : ℕ) → ValueSoFar at value → at ≤ from → value ≡ from_little_endian (part from to line)
   value-end at value s h =
       let z : at ≡ from = omega (arith, s.low) in
-      s.is ∙ ap (λ (n : ℕ). fromLittleEndian (part n to line)) z
+      s.is ∙ ap (λ (n : ℕ). from_little_endian (part n to line)) z
 
 -- ---- a key from its two values
 
 module _ (line : List ℕ) (from to : ℕ) (inside : to ≤ length line) where
-  pub key-short : (low : ℕ) → to - from ≤ 8 → low ≡ fromLittleEndian (part from to line)
+  pub key_short : (low : ℕ) → to - from ≤ 8 → low ≡ from_little_endian (part from to line)
       → record { low = low; high = 0 } ≡ key_of (part from to line)
-  key-short low h e =
+  key_short low h e =
       let n : length (part from to line) ≤ 8 = omega (arith, length_part from to line inside) in
-      let a : low ≡ keyLow (part from to line) = e ∙ ap fromLittleEndian (sym (take_all 8 (part from to line) n)) in
-      let b : 0 ≡ keyHigh (part from to line) =
-      ap fromLittleEndian (sym (drop_of_length-le (part from to line) {i = 8} n)) in
+      let a : low ≡ key_low (part from to line) = e ∙ ap from_little_endian (sym (take_all 8 (part from to line) n)) in
+      let b : 0 ≡ key_high (part from to line) =
+      ap from_little_endian (sym (drop_of_length-le (part from to line) {i = 8} n)) in
       λ k. record { low = a k; high = b k }
 
-  pub key-long : (low high : ℕ) → 8 < to - from → low ≡ fromLittleEndian (part from (from + 8) line)
-      → high ≡ fromLittleEndian (part (from + 8) to line)
+  pub key_long : (low high : ℕ) → 8 < to - from → low ≡ from_little_endian (part from (from + 8) line)
+      → high ≡ from_little_endian (part (from + 8) to line)
       → record { low = low; high = high } ≡ key_of (part from to line)
-  key-long low high h e f =
+  key_long low high h e f =
       let m : from + 8 - from ≡ 8 = omega arith in
       let k : to - from ≡ 8 + (to - (from + 8)) = omega arith in
       let a : take (from + 8 - from) (drop from line) ≡ take 8 (part from to line) =
@@ -80,6 +80,6 @@ module _ (line : List ℕ) (from to : ℕ) (inside : to ≤ length line) where
       let b : part (from + 8) to line ≡ drop 8 (part from to line) =
       ap (take (to - (from + 8))) (sym (drop-drop 8 from line)) ∙ sym (drop-take 8 (to - (from + 8)) (drop from line))
       ∙ ap (λ (n : ℕ). drop 8 (take n (drop from line))) (sym k) in
-      let p : low ≡ keyLow (part from to line) = e ∙ ap fromLittleEndian a in
-      let q : high ≡ keyHigh (part from to line) = f ∙ ap fromLittleEndian b in
+      let p : low ≡ key_low (part from to line) = e ∙ ap from_little_endian a in
+      let q : high ≡ key_high (part from to line) = f ∙ ap from_little_endian b in
       λ z. record { low = p z; high = q z }

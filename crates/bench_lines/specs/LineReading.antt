@@ -1,7 +1,7 @@
 -- What the readers of lines and tokens answer.
 use Rattle.std.specs.Prelude.{ℕ, ◌+◌, ◌-◌, ◌≤◌, ◌<◌, ◌≡◌, true, false, List, [], ◌∷◌, length, get_or, take, drop}
 use Rattle.model.specs.Base.{all_of}
-use Rattle.bench_lines.specs.Text.{Token, name, sign, lines_from, tokensFrom, nameByte}
+use Rattle.bench_lines.specs.Text.{Token, name, sign, lines_from, tokens_from, name_byte}
 use Rattle.bench_lines.specs.declared.inner.lines.LineEnds.{LineEnds}
 use Rattle.bench_lines.specs.declared.inner.tokens.NextToken.{NextToken}
 use Rattle.bench_lines.specs.declared.inner.tokens.NextToken.TheVariants as token
@@ -12,11 +12,11 @@ part at to bs = take (to - at) (drop at bs)
 
 -- the tokens from a position on
 abbrev pub rest_at : ℕ → List ℕ → List Token
-rest_at at line = tokensFrom [] (drop at line)
+rest_at at line = tokens_from [] (drop at line)
 
 -- a name, and the tokens after it
-abbrev pub nameThen : ℕ → ℕ → List ℕ → List Token
-nameThen from to line = name (part from to line) ∷ rest_at to line
+abbrev pub name_then : ℕ → ℕ → List ℕ → List Token
+name_then from to line = name (part from to line) ∷ rest_at to line
 
 -- the bytes to the first 0A, or to the end, belong to the line
 pub record EndIs (r at : ℕ) (text : List ℕ) : Type 0 where
@@ -30,27 +30,27 @@ pub record LineIs (r : LineEnds) (at : ℕ) (text : List ℕ) : Type 0 where
   pub lines : lines_from [] (drop at text) ≡ part at r.stop text ∷ lines_from [] (drop r.next text)
   pub low : at ≤ r.stop
   pub later : at < r.next
-  pub stopIn : r.stop ≤ length text
-  pub nextIn : r.next ≤ length text
+  pub stop_in : r.stop ≤ length text
+  pub next_in : r.next ≤ length text
 
 -- spaces are skipped
 pub record SpacesEnd (r at : ℕ) (line : List ℕ) : Type 0 where
   pub tokens : rest_at at line ≡ rest_at r line
   pub low : at ≤ r
   pub high : r ≤ length line
-  pub noSpace : get_or line r 0 ≡ 0x20 → r < length line → ⊥
+  pub no_space : get_or line r 0 ≡ 0x20 → r < length line → ⊥
 
 -- the word goes on to a byte that is in no name, or to the end
 pub record WordEnd (r at : ℕ) (line : List ℕ) : Type 0 where
-  pub tokens : rest_at at line ≡ tokensFrom (part at r line) (drop r line)
-  pub named : all_of nameByte (part at r line) ≡ true
+  pub tokens : rest_at at line ≡ tokens_from (part at r line) (drop r line)
+  pub named : all_of name_byte (part at r line) ≡ true
   pub low : at ≤ r
   pub high : r ≤ length line
-  pub ends : r < length line → nameByte (get_or line r 0) ≡ false
+  pub ends : r < length line → name_byte (get_or line r 0) ≡ false
 
 -- a name of 1 to 16 bytes
 pub record Named (w : List ℕ) : Type 0 where
-  pub bytes : all_of nameByte w ≡ true
+  pub bytes : all_of name_byte w ≡ true
   pub some : 1 ≤ length w
   pub short : length w ≤ 16
 
@@ -63,8 +63,8 @@ pub record NameIn (from to : ℕ) (line : List ℕ) : Type 0 where
 
 -- a name, and the tokens after it
 pub record NameAt (from to at : ℕ) (line : List ℕ) : Type 0 where
-  pub tokens : rest_at at line ≡ nameThen from to line
-  pub isName : NameIn from to line
+  pub tokens : rest_at at line ≡ name_then from to line
+  pub is_name : NameIn from to line
   pub low : at ≤ from
 
 -- a sign, and the tokens after it

@@ -5,46 +5,46 @@ use mir.Val.{Fits}
 use mir.Syntax.{w64}
 use Rattle.model.specs.Base.{all_of}
 use Rattle.bench_lines.specs.LineReading.{part}
-use Rattle.bench_lines.specs.Keys.{key_of, keyPlace}
+use Rattle.bench_lines.specs.Keys.{key_of, key_place}
 use Rattle.bench_lines.specs.Stating.{PinIs}
-use Rattle.bench_names.specs.NameNets.{namePlace, pairNet, keyNet, keyKnown, NamesRoom, PinsJudged}
+use Rattle.bench_names.specs.NameNets.{name_place, pair_net, key_net, key_known, NamesRoom, PinsJudged}
 use Rattle.bench_lines.specs.declared.inner.keys.NameKey.{NameKey}
 use Rattle.bench_lines.specs.declared.inner.statements.PinRead.{PinRead}
 use Rattle.bench_lines.specs.declared.inner.statements.PinRead.TheVariants as pin
 use Rattle.bench_lines.proofs.PinWalkLaws.{PinsBetween, pins-start, pins-all, pins-stop, pins-more}
-use Rattle.bench_lines.proofs.KeyLaws.{key-top}
+use Rattle.bench_lines.proofs.KeyLaws.{key_top}
 
 module _ (is : List ℕ) (i : ℕ) (gs : List ℕ) (g : ℕ) (x : List ℕ) where
-  pub net-first : namePlace is i x < i → keyNet is i gs g x ≡ namePlace is i x
-  unfolding keyNet
-  net-first h = rw (lt-ltb (namePlace is i x) i h, keyNet) refl
+  pub net-first : name_place is i x < i → key_net is i gs g x ≡ name_place is i x
+  unfolding key_net
+  net-first h = rw (lt-ltb (name_place is i x) i h, key_net) refl
 
-  pub net-second : i ≤ namePlace is i x → keyNet is i gs g x ≡ i + namePlace gs g x
-  unfolding keyNet
-  net-second h = rw (le-ltb (namePlace is i x) i h, keyNet) refl
+  pub net-second : i ≤ name_place is i x → key_net is i gs g x ≡ i + name_place gs g x
+  unfolding key_net
+  net-second h = rw (le-ltb (name_place is i x) i h, key_net) refl
 
-  pub net-of : (key : NameKey) (net : ℕ) → key ≡ key_of x → net ≡ pairNet is i gs g key.low key.high
-      → net ≡ keyNet is i gs g x
-  unfolding pairNet keyNet namePlace
-  net-of key net e q = q ∙ ap (λ (k : NameKey). pairNet is i gs g k.low k.high) e
+  pub net-of : (key : NameKey) (net : ℕ) → key ≡ key_of x → net ≡ pair_net is i gs g key.low key.high
+      → net ≡ key_net is i gs g x
+  unfolding pair_net key_net name_place
+  net-of key net e q = q ∙ ap (λ (k : NameKey). pair_net is i gs g k.low k.high) e
 
 -- ---- the net of a key
 
-module _ (is : List ℕ) (i : ℕ) (gs : List ℕ) (g low high p : ℕ) (e : p ≡ keyPlace low high i 0 is) where
-  pub pair-in : p < i → p ≡ pairNet is i gs g low high
-  unfolding pairNet
-  pair-in h = e ∙ sym (rw (lt-ltb (keyPlace low high i 0 is) i (subst (λ (n : ℕ). n < i) e h), pairNet) refl)
+module _ (is : List ℕ) (i : ℕ) (gs : List ℕ) (g low high p : ℕ) (e : p ≡ key_place low high i 0 is) where
+  pub pair-in : p < i → p ≡ pair_net is i gs g low high
+  unfolding pair_net
+  pair-in h = e ∙ sym (rw (lt-ltb (key_place low high i 0 is) i (subst (λ (n : ℕ). n < i) e h), pair_net) refl)
 
-  pub pair-out : (a : ℕ) → a ≡ keyPlace low high g 0 gs → i ≤ p → i + a ≡ pairNet is i gs g low high
-  unfolding pairNet
+  pub pair-out : (a : ℕ) → a ≡ key_place low high g 0 gs → i ≤ p → i + a ≡ pair_net is i gs g low high
+  unfolding pair_net
   pair-out a q h =
       ap (λ (n : ℕ). i + n) q
-      ∙ sym (rw (le-ltb (keyPlace low high i 0 is) i (subst (λ (n : ℕ). i ≤ n) e h), pairNet) refl)
+      ∙ sym (rw (le-ltb (key_place low high i 0 is) i (subst (λ (n : ℕ). i ≤ n) e h), pair_net) refl)
 
 pub net-fits : (is : List ℕ) (i : ℕ) (gs : List ℕ) (g low high a : ℕ) → NamesRoom is i gs g
-    → a ≡ keyPlace low high g 0 gs → Fits w64 (i + a)
+    → a ≡ key_place low high g 0 gs → Fits w64 (i + a)
 net-fits is i gs g low high a room e = record {
-  fits = omega (arith, e, key-top low high g 0 gs, room.fewInputs, room.fewGates);
+  fits = omega (arith, e, key_top low high g 0 gs, room.few_inputs, room.few_gates);
 }
 
 -- ---- the pins of a gate
@@ -58,7 +58,7 @@ module _ (line : List ℕ) (at : ℕ) (is : List ℕ) (i : ℕ) (gs : List ℕ) 
   pub record KnownSoFar (place : ℕ) (more known : Bool) : Type 0 where
     pub names : List (List ℕ)
     pub pins : PinsBetween line at place more names
-    pub all : known ≡ all_of (keyKnown is i gs g) names
+    pub all : known ≡ all_of (key_known is i gs g) names
 
   pub known_start : at ≤ length line → KnownSoFar at true true
   known_start h = record { names = []; pins = pins-start h; all = refl }
@@ -68,17 +68,17 @@ module _ (line : List ℕ) (at : ℕ) (is : List ℕ) (i : ℕ) (gs : List ℕ) 
     known-inside = s.pins.inside
 
     pub known-end : more ≡ false → PinsJudged known at line is i gs g
-    known-end m = record { known = λ x k ys e. s.all ∙ ap (all_of (keyKnown is i gs g)) (pins-all s.pins m x k ys e) }
+    known-end m = record { known = λ x k ys e. s.all ∙ ap (all_of (key_known is i gs g)) (pins-all s.pins m x k ys e) }
 
     module _ (p : PinRead) (t : PinIs p place line) (m : more ≡ true) where
       pub known-stop : (r : Bool) → p ≡ pin.Other → PinsJudged r at line is i gs g
       known-stop r e = record { known = λ x k ys q. pins-stop s.pins m t e x k ys q }
 
       pub known-again : (f u next : ℕ) (again : Bool) → p ≡ pin.Pin f u next again
-          → (net : ℕ) (b : Bool) → net ≡ keyNet is i gs g (part f u line) → b ≡ known && ltb net (i + g) → KnownSoFar next again b
-      unfolding keyKnown
+          → (net : ℕ) (b : Bool) → net ≡ key_net is i gs g (part f u line) → b ≡ known && ltb net (i + g) → KnownSoFar next again b
+      unfolding key_known
       known-again f u next again e net b n q = record {
         names = s.names ++ (part f u line ∷ []);
         pins = pins-more s.pins m t e;
-        all = q ∙ rw (s.all, n) (sym (all_more (keyKnown is i gs g) s.names (part f u line)));
+        all = q ∙ rw (s.all, n) (sym (all_more (key_known is i gs g) s.names (part f u line)));
       }

@@ -1,7 +1,7 @@
 // Names looked up among those that the lines so far define. Each caller proves what a function requires.
 ghost use Rattle.std.specs.Prelude.{◌≡◌, ◌&&◌, ◌≤◌, length};
 ghost use Rattle.bench_lines.specs.LineReading.{part, NameIn};
-ghost use Rattle.bench_names.specs.NameNets.{pairNet, keyNet, NamesRoom, PinsJudged};
+ghost use Rattle.bench_names.specs.NameNets.{pair_net, key_net, NamesRoom, PinsJudged};
 
 use bench_lines::inner::keys::{find_key, key_at};
 use bench_lines::inner::statements::{PinRead, read_pin};
@@ -16,7 +16,7 @@ pub fn net_of_key(
     gate_count: usize,
 ) -> usize
     requires { NamesRoom inputs.now input_count gates.now gate_count }
-    ensures { result ≡ pairNet inputs.now input_count gates.now gate_count low high }
+    ensures { result ≡ pair_net inputs.now input_count gates.now gate_count low high }
 {
     let place = find_key(inputs, input_count, low, high);
     if place < input_count {
@@ -38,7 +38,7 @@ pub fn net_at(
 ) -> usize
     requires name_in { NameIn from to line.now }
     requires names_room { NamesRoom inputs.now input_count gates.now gate_count }
-    ensures { result ≡ keyNet inputs.now input_count gates.now gate_count
+    ensures { result ≡ key_net inputs.now input_count gates.now gate_count
         (part from to line.now) }
 {
     let key = key_at(line, from, to);

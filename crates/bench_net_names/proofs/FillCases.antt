@@ -4,15 +4,15 @@ use Rattle.model.proofs.Prelude.{get_or-drop, length-sets, take_at, sets-eq, ari
 use mir.Val.{Fits}
 use mir.Syntax.{w64}
 use Rattle.model.specs.Base.{Answer, refused, value, ◌into◌, ◌then◌, checks}
-use Rattle.model.specs.Refusals.{refusalNumber}
-use Rattle.record_bytes.proofs.ByteLaws.{sets-append}
+use Rattle.model.specs.Refusals.{refusal_number_of}
+use Rattle.record_bytes.proofs.ByteLaws.{sets_append}
 use Rattle.bench_lines.specs.Text.{lines_of}
-use Rattle.bench_lines.specs.Keys.{keyWords, AllNamed}
+use Rattle.bench_lines.specs.Keys.{key_words, AllNamed}
 use Rattle.bench_lines.proofs.KeyLaws.{length-keys}
-use Rattle.bench_circuit.specs.Circuit.{Circuit, GateLine, emptyCircuit, netNames, endRules, circuitOf}
+use Rattle.bench_circuit.specs.Circuit.{Circuit, GateLine, empty_circuit, net_names, end_rules, circuit_of}
 use Rattle.bench_circuit.specs.Judging.{LineRefused, TextTaken, TextTrue, NamesHeld}
 use Rattle.bench_circuit.specs.Ending.{TextHeld, TextSound, EndSound, RefusedAt, EndTrue}
-use Rattle.bench_circuit.proofs.CircuitLaws.{Legal, legal-empty, lines-leave, gateNames}
+use Rattle.bench_circuit.proofs.CircuitLaws.{Legal, legal-empty, lines-leave, gate_names}
 use Rattle.bench_circuit.proofs.TextEndCases.{at-end}
 use Rattle.bench_circuit.specs.declared.inner.ending.EndAnswer.{EndAnswer}
 use Rattle.bench_circuit.specs.declared.inner.ending.EndAnswer.TheVariants as end
@@ -21,36 +21,36 @@ use Rattle.bench_circuit.specs.declared.inner.judging.TextAnswer.{TextAnswer}
 use Rattle.bench_circuit.specs.declared.inner.judging.TextAnswer.TheVariants as whole
 use Rattle.model.specs.declared.Refusal.{Refusal}
 use Rattle.bench_text.proofs.ConvertCases.{held-text}
-use Rattle.bench_net_names.specs.NetNames.{namesIn, names_of, name_of}
-use Rattle.bench_net_names.specs.Table.{noNames, NamesTold}
+use Rattle.bench_net_names.specs.NetNames.{names_in_of, names_of, name_of}
+use Rattle.bench_net_names.specs.Table.{no_names_of, NamesTold}
 use Rattle.bench_net_names.proofs.TableLaws.{names_in, words_append, no-names-zero, no-names-long}
 
 -- ---- a text that is refused
 
-none_told : (text names : List ℕ) (number : ℕ) → circuitOf text ≡ refused number → names ≡ noNames → NamesTold names text
-unfolding names_of name_of AllNamed keyWords
+none_told : (text names : List ℕ) (number : ℕ) → circuit_of text ≡ refused number → names ≡ no_names_of → NamesTold names text
+unfolding names_of name_of AllNamed key_words
 none_told text names number e n = record {
-  told = λ net. names_in [] noNames names tt no-names-zero n net ∙ sym (ap (λ (x : Answer Circuit). get_or (namesIn x) net []) e);
+  told = λ net. names_in [] no_names_of names tt no-names-zero n net ∙ sym (ap (λ (x : Answer Circuit). get_or (names_in_of x) net []) e);
 }
 
-pub fill-line : (text names is gs os : List ℕ) (r : TextAnswer) (w : Refusal) (line : ℕ) → TextTrue r text is gs os
-    → r ≡ whole.Refused w line → names ≡ noNames → NamesTold names text
-unfolding circuitOf
-fill-line text names is gs os r w line t e n =
-    let z : LineRefused (refusalNumber w) line text = subst (λ (x : TextAnswer). TextTrue x text is gs os) e t in
-    none_told text names (refusalNumber w) (ap (λ (x : Answer Circuit). x into (λ c. checks (endRules c) then value c)) z.reads) n
+pub fill_line : (text names is gs os : List ℕ) (r : TextAnswer) (w : Refusal) (line : ℕ) → TextTrue r text is gs os
+    → r ≡ whole.Refused w line → names ≡ no_names_of → NamesTold names text
+unfolding circuit_of
+fill_line text names is gs os r w line t e n =
+    let z : LineRefused (refusal_number_of w) line text = subst (λ (x : TextAnswer). TextTrue x text is gs os) e t in
+    none_told text names (refusal_number_of w) (ap (λ (x : Answer Circuit). x into (λ c. checks (end_rules c) then value c)) z.reads) n
 
 pub fill_end : (text names is gs os : List ℕ) (n : NameCounts) (r : EndAnswer) (w : Refusal) (line : ℕ) → EndTrue r text is gs os n
-    → r ≡ end.Refused w line → names ≡ noNames → NamesTold names text
+    → r ≡ end.Refused w line → names ≡ no_names_of → NamesTold names text
 fill_end text names is gs os n r w line t e q =
-    let z : RefusedAt (refusalNumber w) line text = subst (λ (x : EndAnswer). EndTrue x text is gs os n) e t in
-    none_told text names (refusalNumber w) z.answer q
+    let z : RefusedAt (refusal_number_of w) line text = subst (λ (x : EndAnswer). EndTrue x text is gs os n) e t in
+    none_told text names (refusal_number_of w) z.answer q
 
 -- ---- a text that is sound
 
-first-words : (ws : List ℕ) (n : ℕ) (names : List (List ℕ)) → NamesHeld ws n names → take (2 * n) ws ≡ keyWords names
+first-words : (ws : List ℕ) (n : ℕ) (names : List (List ℕ)) → NamesHeld ws n names → take (2 * n) ws ≡ key_words names
 first-words ws n names h =
-    ap (take (2 * n)) h.holds.is ∙ take_at (keyWords names) h.holds.rest (2 * n) (omega (arith, length-keys names, h.count))
+    ap (take (2 * n)) h.holds.is ∙ take_at (key_words names) h.holds.rest (2 * n) (omega (arith, length-keys names, h.count))
 
 all-named-append : (us vs : List (List ℕ)) → AllNamed us → AllNamed vs → AllNamed (us ++ vs)
 unfolding AllNamed
@@ -66,34 +66,34 @@ module _ (text is gs os : List ℕ) (n : NameCounts) (t : TextHeld text is gs os
   c = taken.circuit
 
   legal : Legal c
-  legal = (lines-leave (lines_of text) emptyCircuit c legal-empty taken.reads).legal
+  legal = (lines-leave (lines_of text) empty_circuit c legal-empty taken.reads).legal
 
   few : n.inputs + n.gates ≤ 512
   few =
-      omega (arith, legal.fewNets, taken.held.inputs.count, taken.held.gates.count, lib.ListN.length-map c.gates (λ (g : GateLine). g.name))
+      omega (arith, legal.few_nets, taken.held.inputs.count, taken.held.gates.count, lib.ListN.length-map c.gates (λ (g : GateLine). g.name))
 
-  pub fill-inputs-fit : Fits w64 (2 * n.inputs)
-  fill-inputs-fit = record { fits = omega (arith, few) }
+  pub fill_inputs-fit : Fits w64 (2 * n.inputs)
+  fill_inputs-fit = record { fits = omega (arith, few) }
 
-  pub fill-gates-fit : Fits w64 (2 * n.gates)
-  fill-gates-fit = record { fits = omega (arith, few) }
+  pub fill_gates-fit : Fits w64 (2 * n.gates)
+  fill_gates-fit = record { fits = omega (arith, few) }
 
-  pub fill-inputs-there : 2 * n.inputs ≤ length is
-  fill-inputs-there = omega (arith, taken.room.words.inputWords, taken.room.fewInputs)
+  pub fill_inputs-there : 2 * n.inputs ≤ length is
+  fill_inputs-there = omega (arith, taken.room.words.input_words, taken.room.few_inputs)
 
-  pub fill-gates-there : 2 * n.gates ≤ length gs
-  fill-gates-there = omega (arith, taken.room.words.gateWords, taken.room.fewGates)
+  pub fill_gates-there : 2 * n.gates ≤ length gs
+  fill_gates-there = omega (arith, taken.room.words.gate_words, taken.room.few_gates)
 
-  module _ (names : List ℕ) (e : names ≡ noNames) where
+  module _ (names : List ℕ) (e : names ≡ no_names_of) where
     long : length names ≡ 1024
     long = ap (length {A = ℕ}) e ∙ no-names-long
 
-    pub fill-inputs-room : 0 + 2 * n.inputs ≤ length names
-    fill-inputs-room = omega (arith, long, few)
+    pub fill_inputs-room : 0 + 2 * n.inputs ≤ length names
+    fill_inputs-room = omega (arith, long, few)
 
     module _ (first : List ℕ) (f : first ≡ sets names 0 (take (2 * n.inputs) is)) where
-      pub fill-gates-room : 2 * n.inputs + 2 * n.gates ≤ length first
-      fill-gates-room = omega (arith, long, few, ap (length {A = ℕ}) f, length-sets names 0 (take (2 * n.inputs) is))
+      pub fill_gates-room : 2 * n.inputs + 2 * n.gates ≤ length first
+      fill_gates-room = omega (arith, long, few, ap (length {A = ℕ}) f, length-sets names 0 (take (2 * n.inputs) is))
 
       module _ (last : List ℕ) (g : last ≡ sets first (2 * n.inputs) (take (2 * n.gates) gs)) (r : EndAnswer) (en : EndTrue r text is gs os n) (q : r ≡ end.Sound) where
         sound : EndSound text is gs os n
@@ -103,35 +103,35 @@ module _ (text is gs os : List ℕ) (n : NameCounts) (t : TextHeld text is gs os
         abbrev d : Circuit
         d = sound.taken.circuit
 
-        circuit-is : circuitOf text ≡ value d
+        circuit-is : circuit_of text ≡ value d
         circuit-is = at-end text is gs os n sound.taken ∙ ap (λ (x : Answer (Unit {0})). x then value d) sound.sound
 
-        words : last ≡ sets noNames 0 (keyWords (netNames d))
-        unfolding netNames
+        words : last ≡ sets no_names_of 0 (key_words (net_names d))
+        unfolding net_names
         words =
             let i = first-words is n.inputs d.inputs sound.taken.held.inputs in
-            let j = first-words gs n.gates (gateNames d.gates) sound.taken.held.gates in
-            let l : length (keyWords d.inputs) ≡ 2 * n.inputs = omega (arith, length-keys d.inputs, sound.taken.held.inputs.count) in
-            g ∙ ap (λ (x : List ℕ). sets x (2 * n.inputs) (take (2 * n.gates) gs)) (f ∙ ap (λ (x : List ℕ). sets x 0 (take (2 * n.inputs) is)) e ∙ ap (sets noNames 0) i)
-            ∙ ap (sets (sets noNames 0 (keyWords d.inputs)) (2 * n.inputs)) j
-            ∙ sets-append (keyWords d.inputs) (keyWords (gateNames d.gates)) noNames 0 (2 * n.inputs) (omega (arith, l))
-            ∙ ap (sets noNames 0) (sym (words_append d.inputs (gateNames d.gates)))
+            let j = first-words gs n.gates (gate_names d.gates) sound.taken.held.gates in
+            let l : length (key_words d.inputs) ≡ 2 * n.inputs = omega (arith, length-keys d.inputs, sound.taken.held.inputs.count) in
+            g ∙ ap (λ (x : List ℕ). sets x (2 * n.inputs) (take (2 * n.gates) gs)) (f ∙ ap (λ (x : List ℕ). sets x 0 (take (2 * n.inputs) is)) e ∙ ap (sets no_names_of 0) i)
+            ∙ ap (sets (sets no_names_of 0 (key_words d.inputs)) (2 * n.inputs)) j
+            ∙ sets_append (key_words d.inputs) (key_words (gate_names d.gates)) no_names_of 0 (2 * n.inputs) (omega (arith, l))
+            ∙ ap (sets no_names_of 0) (sym (words_append d.inputs (gate_names d.gates)))
 
-        pub fill-told : NamesTold last text
-        unfolding names_of name_of netNames
-        fill-told =
-            let names = d.inputs ++ gateNames d.gates in
-            let k = keyWords names in
-            let few_words : 0 + length k ≤ length noNames =
-            omega (arith, length-keys names, length-append d.inputs (gateNames d.gates), sound.taken.held.inputs.count, sound.taken.held.gates.count, few, no-names-long) in
-            let named = all-named-append d.inputs (gateNames d.gates) sound.taken.held.inputs.named sound.taken.held.gates.named in
+        pub fill_told : NamesTold last text
+        unfolding names_of name_of net_names
+        fill_told =
+            let names = d.inputs ++ gate_names d.gates in
+            let k = key_words names in
+            let few_words : 0 + length k ≤ length no_names_of =
+            omega (arith, length-keys names, length-append d.inputs (gate_names d.gates), sound.taken.held.inputs.count, sound.taken.held.gates.count, few, no-names-long) in
+            let named = all-named-append d.inputs (gate_names d.gates) sound.taken.held.inputs.named sound.taken.held.gates.named in
             record {
               told = λ net.
-                  names_in names (drop (0 + length k) noNames) last named
-                  (λ i. get_or-drop (0 + length k) noNames i 0 ∙ no-names-zero (0 + length k + i))
-                  (words ∙ sets-eq k noNames 0 few_words) net
-                  ∙ sym (ap (λ (x : Answer Circuit). get_or (namesIn x) net []) circuit-is);
+                  names_in names (drop (0 + length k) no_names_of) last named
+                  (λ i. get_or-drop (0 + length k) no_names_of i 0 ∙ no-names-zero (0 + length k + i))
+                  (words ∙ sets-eq k no_names_of 0 few_words) net
+                  ∙ sym (ap (λ (x : Answer Circuit). get_or (names_in_of x) net []) circuit-is);
             }
 
 pub ruleset fill-cases =
-    (fill-line, fill_end, held-text, fill-inputs-fit, fill-gates-fit, fill-inputs-there, fill-gates-there, fill-inputs-room, fill-gates-room, fill-told, needs)
+    (fill_line, fill_end, held-text, fill_inputs-fit, fill_gates-fit, fill_inputs-there, fill_gates-there, fill_inputs-room, fill_gates-room, fill_told, needs)

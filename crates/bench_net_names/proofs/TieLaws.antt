@@ -3,17 +3,17 @@ use Rattle.model.proofs.Prelude.{ℕ, ◌<◌, ◌+◌, ◌-◌, suc, zero, ◌�
 use Rattle.model.proofs.Prelude.{length-map, arith}
 use lib.Seq.{get_or-append-add}
 use Rattle.model.specs.Base.{value, checks, ◌then◌}
-use Rattle.model.specs.Netlist.{Gate, nets, pinNet, noGate}
+use Rattle.model.specs.Netlist.{Gate, nets, pin_net, no_gate}
 use Rattle.model.proofs.AnswerLaws.{steps, then-second, value_inj}
 use Rattle.bench_lines.specs.Text.{place, lines_of}
 use Rattle.bench_lines.proofs.NamePlaceLaws.{NotIn, Distinct, by-same, place-first, place-next}
-use Rattle.bench_circuit.specs.Circuit.{GateLine, Circuit, emptyCircuit, netNames, lineByLine, endRules, circuitOf}
-use Rattle.bench_circuit.proofs.CircuitLaws.{Legal, legal-empty, lines-leave, gateNames}
-use Rattle.bench_text.specs.NetlistFile.{pinNets}
-use Rattle.bench_text.specs.Taken.{gateFor, netlistOf}
+use Rattle.bench_circuit.specs.Circuit.{GateLine, Circuit, empty_circuit, net_names, line_by_line, end_rules, circuit_of}
+use Rattle.bench_circuit.proofs.CircuitLaws.{Legal, legal-empty, lines-leave, gate_names}
+use Rattle.bench_text.specs.NetlistFile.{pin_nets}
+use Rattle.bench_text.specs.Taken.{gate_for, netlist_of}
 use Rattle.bench_text.proofs.ReadBack.{Below, LowerPins, lower-pins}
-use Rattle.bench_net_names.specs.NetNames.{namesIn, names_of, name_of}
-use Rattle.bench_net_names.specs.Tie.{noLine, line_at, NamesTie}
+use Rattle.bench_net_names.specs.NetNames.{names_in_of, names_of, name_of}
+use Rattle.bench_net_names.specs.Tie.{no_line_of, line_at, NamesTie}
 
 -- ---- places
 
@@ -39,12 +39,12 @@ place-back x (y ∷ ys) h = by-same x y
 -- ---- gates of the netlist
 
 gate-at : (names : List (List ℕ)) (gs : List GateLine) (g : ℕ) → g < length gs
-    → get_or (map (gateFor names) gs) g noGate ≡ gateFor names (get_or gs g noLine)
+    → get_or (map (gate_for names) gs) g no_gate ≡ gate_for names (get_or gs g no_line_of)
 gate-at names [] g h = absurd (omega arith)
 gate-at names (x ∷ xs) zero h = refl
 gate-at names (x ∷ xs) (suc g) h = gate-at names xs g (omega arith)
 
-name-at : (gs : List GateLine) (g : ℕ) → g < length gs → get_or (gateNames gs) g [] ≡ (get_or gs g noLine).name
+name-at : (gs : List GateLine) (g : ℕ) → g < length gs → get_or (gate_names gs) g [] ≡ (get_or gs g no_line_of).name
 name-at [] g h = absurd (omega arith)
 name-at (x ∷ xs) zero h = refl
 name-at (x ∷ xs) (suc g) h = name-at xs g (omega arith)
@@ -61,14 +61,14 @@ below_at b (n ∷ ns) zero t h = t.0
 below_at b (n ∷ ns) (suc p) t h = below_at b ns p t.1 (omega arith)
 
 low-at : (names : List (List ℕ)) (net : ℕ) (gs : List GateLine) (g : ℕ) → LowerPins names net gs → g < length gs
-    → Below (net + g) (pinNets names (get_or gs g noLine))
+    → Below (net + g) (pin_nets names (get_or gs g no_line_of))
 unfolding LowerPins
 low-at names net [] g l h = absurd (omega arith)
 low-at names net (x ∷ xs) zero l h =
-    let z : net ≡ net + 0 = omega arith in subst (λ (n : ℕ). Below n (pinNets names x)) z l.0
+    let z : net ≡ net + 0 = omega arith in subst (λ (n : ℕ). Below n (pin_nets names x)) z l.0
 low-at names net (x ∷ xs) (suc g) l h =
     let z : suc net + g ≡ net + suc g = omega arith in
-    subst (λ (n : ℕ). Below n (pinNets names (get_or xs g noLine))) z (low-at names (suc net) xs g l.1 (omega arith))
+    subst (λ (n : ℕ). Below n (pin_nets names (get_or xs g no_line_of))) z (low-at names (suc net) xs g l.1 (omega arith))
 
 first-at : (us vs : List (List ℕ)) (i : ℕ) → i < length us → get_or (us ++ vs) i [] ≡ get_or us i []
 first-at [] vs i h = absurd (omega arith)
@@ -82,25 +82,25 @@ module _ (c : Circuit) (l : Legal c) where
   I = length c.inputs
 
   abbrev names : List (List ℕ)
-  names = c.inputs ++ gateNames c.gates
+  names = c.inputs ++ gate_names c.gates
 
   many : length names ≡ I + length c.gates
-  many = omega (arith, length-append c.inputs (gateNames c.gates), length-map c.gates (λ (g : GateLine). g.name))
+  many = omega (arith, length-append c.inputs (gate_names c.gates), length-map c.gates (λ (g : GateLine). g.name))
 
-  nets-are : nets (netlistOf c) ≡ I + length c.gates
-  unfolding netlistOf netNames
-  nets-are = ap (λ (n : ℕ). I + n) (length-map c.gates (gateFor names))
+  nets-are : nets (netlist_of c) ≡ I + length c.gates
+  unfolding netlist_of net_names
+  nets-are = ap (λ (n : ℕ). I + n) (length-map c.gates (gate_for names))
 
   module _ (g : ℕ) (h : g < length c.gates) where
     driven : get_or names (I + g) [] ≡ (line_at c g).name
-    driven = get_or-append-add c.inputs (gateNames c.gates) g [] ∙ name-at c.gates g h
+    driven = get_or-append-add c.inputs (gate_names c.gates) g [] ∙ name-at c.gates g h
 
     module _ (p : ℕ) (k : p < length (line_at c g).pins) where
-      net-is : pinNet (netlistOf c) (I + g) p ≡ place (get_or (line_at c g).pins p []) names
-      unfolding netlistOf netNames gateFor
+      net-is : pin_net (netlist_of c) (I + g) p ≡ place (get_or (line_at c g).pins p []) names
+      unfolding netlist_of net_names gate_for
       net-is =
           let z : I + g - I ≡ g = omega arith in
-          ap (λ (n : ℕ). get_or (get_or (map (gateFor names) c.gates) n noGate).pins p 0) z
+          ap (λ (n : ℕ). get_or (get_or (map (gate_for names) c.gates) n no_gate).pins p 0) z
           ∙ ap (λ (x : Gate). get_or x.pins p 0) (gate-at names c.gates g h)
           ∙ pin_at names (line_at c g).pins p k
 
@@ -109,45 +109,45 @@ module _ (c : Circuit) (l : Legal c) where
           let z : I + 0 ≡ I = omega arith in
           let low : LowerPins names I c.gates =
           subst (λ (n : ℕ). LowerPins names n c.gates) z (lower-pins c.inputs [] c.gates names refl l.earlier) in
-          let few : p < length (pinNets names (line_at c g)) = omega (arith, length-map (line_at c g).pins (λ y. place y names)) in
+          let few : p < length (pin_nets names (line_at c g)) = omega (arith, length-map (line_at c g).pins (λ y. place y names)) in
           subst (λ (n : ℕ). n < I + g) (pin_at names (line_at c g).pins p k)
-          (below_at (I + g) (pinNets names (line_at c g)) p (low-at names I c.gates g low h) few)
+          (below_at (I + g) (pin_nets names (line_at c g)) p (low-at names I c.gates g low h) few)
 
-      pin-named : get_or names (pinNet (netlistOf c) (I + g) p) [] ≡ get_or (line_at c g).pins p []
+      pin-named : get_or names (pin_net (netlist_of c) (I + g) p) [] ≡ get_or (line_at c g).pins p []
       pin-named = ap (λ (n : ℕ). get_or names n []) net-is ∙ place-back (get_or (line_at c g).pins p []) names (omega (arith, pin-lower, many))
 
-  module _ (text : List ℕ) (e : circuitOf text ≡ value c) where
+  module _ (text : List ℕ) (e : circuit_of text ≡ value c) where
     names-are : names_of text ≡ names
-    unfolding names_of netNames
-    names-are = ap namesIn e
+    unfolding names_of net_names
+    names-are = ap names_in_of e
 
     name-is : (net : ℕ) → name_of text net ≡ get_or names net []
     unfolding name_of
     name-is net = ap (λ (xs : List (List ℕ)). get_or xs net []) names-are
 
     alone : Distinct names
-    unfolding netNames
+    unfolding net_names
     alone = l.distinct
 
-    stands : (net : ℕ) → net < nets (netlistOf c) → place (name_of text net) names ≡ net
+    stands : (net : ℕ) → net < nets (netlist_of c) → place (name_of text net) names ≡ net
     stands net h = ap (λ (x : List ℕ). place x names) (name-is net) ∙ own-place names net alone (omega (arith, nets-are, many))
 
     tie : NamesTie text c
-    unfolding netNames
+    unfolding net_names
     tie = record {
       count = nets-are ∙ sym (ap (length {A = List ℕ}) names-are ∙ many);
       stands = stands;
       differ = λ a b h k q. sym (stands a h) ∙ ap (λ (x : List ℕ). place x names) q ∙ stands b k;
-      inputName = λ i h. name-is i ∙ first-at c.inputs (gateNames c.gates) i h;
-      gateName = λ g h. name-is (I + g) ∙ driven g h;
-      pinName = λ g p h k. name-is (pinNet (netlistOf c) (I + g) p) ∙ pin-named g h p k;
+      input_name = λ i h. name-is i ∙ first-at c.inputs (gate_names c.gates) i h;
+      gate_name = λ g h. name-is (I + g) ∙ driven g h;
+      pin_name = λ g p h k. name-is (pin_net (netlist_of c) (I + g) p) ∙ pin-named g h p k;
     }
 
 -- For every text that has a circuit
-pub names-tie : (text : List ℕ) (c : Circuit) → circuitOf text ≡ value c → NamesTie text c
-unfolding circuitOf
+pub names-tie : (text : List ℕ) (c : Circuit) → circuit_of text ≡ value c → NamesTie text c
+unfolding circuit_of
 names-tie text c e =
-    let s = steps (lineByLine emptyCircuit (lines_of text)) (λ r. checks (endRules r) then value r) e in
-    let q : s.got ≡ c = value_inj (then-second (checks (endRules s.got)) (value s.got) s.second) in
-    let l = lines-leave (lines_of text) emptyCircuit s.got legal-empty s.first in
+    let s = steps (line_by_line empty_circuit (lines_of text)) (λ r. checks (end_rules r) then value r) e in
+    let q : s.got ≡ c = value_inj (then-second (checks (end_rules s.got)) (value s.got) s.second) in
+    let l = lines-leave (lines_of text) empty_circuit s.got legal-empty s.first in
     tie c (subst Legal q l.legal) text e

@@ -2,9 +2,9 @@
 use Rattle.model.proofs.Prelude.{ℕ, ◌≤◌, ◌<◌, ◌+◌, ◌-◌, suc, zero, ◌/◌, ◌%◌, ◌≡◌, ◌∙◌, ap, refl, sym, true, false, List, [], ◌∷◌, ◌++◌, length, get_or}
 use Rattle.model.proofs.Prelude.{take, set, replicate, sets, length-take-le, length-sets, eqb, add-one, sub-one, arith, ne_eqb, eq-eqb}
 use lib.Seq.{take-suc}
-use Rattle.record_bytes.proofs.ByteLaws.{sets-append}
+use Rattle.record_bytes.proofs.ByteLaws.{sets_append}
 use Rattle.text_buffer.specs.Written.{Written}
-use Rattle.bench_net_names.specs.Table.{noNames, word_bytes}
+use Rattle.bench_net_names.specs.Table.{no_names_of, word_bytes}
 
 -- ---- the bytes of a word
 
@@ -85,26 +85,26 @@ module _ (to : List ℕ) (at : ℕ) (words : List ℕ) (n : ℕ) where
   copy_start = record { is = refl; few = omega arith }
 
   module _ (now : List ℕ) (i : ℕ) (w : Copied now i) where
-    pub copy-same : length now ≡ length to
-    copy-same = ap (length {A = ℕ}) w.is ∙ length-sets to at (take i words)
+    pub copy_same : length now ≡ length to
+    copy_same = ap (length {A = ℕ}) w.is ∙ length-sets to at (take i words)
 
-    pub copy-end : n ≤ i → now ≡ sets to at (take n words)
-    copy-end h = let z : i ≡ n = omega (arith, w.few) in w.is ∙ ap (λ (k : ℕ). sets to at (take k words)) z
+    pub copy_end : n ≤ i → now ≡ sets to at (take n words)
+    copy_end h = let z : i ≡ n = omega (arith, w.few) in w.is ∙ ap (λ (k : ℕ). sets to at (take k words)) z
 
-    pub copy-place : (n ≤ length words) × (at + n ≤ length to) → i < n → at + i < length now
-    copy-place f h = omega (arith, f.1, copy-same)
+    pub copy_place : (n ≤ length words) × (at + n ≤ length to) → i < n → at + i < length now
+    copy_place f h = omega (arith, f.1, copy_same)
 
-    pub copy-again : (n ≤ length words) × (at + n ≤ length to) → i < n → Copied (set now (at + i) (get_or words i 0)) (i + 1)
-    copy-again f h =
+    pub copy_again : (n ≤ length words) × (at + n ≤ length to) → i < n → Copied (set now (at + i) (get_or words i 0)) (i + 1)
+    copy_again f h =
         let t : take (i + 1) words ≡ take i words ++ (get_or words i 0 ∷ []) = rw (add-one i) (take-suc words i 0 (omega (arith, f.0))) in
         let l : length (take i words) ≡ i = length-take-le i words (omega (arith, f.0)) in
         record {
           is = ap (λ (l : List ℕ). set l (at + i) (get_or words i 0)) w.is
-              ∙ sets-append (take i words) (get_or words i 0 ∷ []) to at (at + i) (omega arith)
+              ∙ sets_append (take i words) (get_or words i 0 ∷ []) to at (at + i) (omega arith)
               ∙ ap (λ (l : List ℕ). sets to at l) (sym t);
           few = omega arith;
         }
 
-pub no_names : replicate 1024 0 ≡ noNames
-unfolding noNames
+pub no_names : replicate 1024 0 ≡ no_names_of
+unfolding no_names_of
 no_names = refl

@@ -2,7 +2,7 @@
 ghost use Rattle.std.specs.Prelude.{◌≡◌};
 ghost use Rattle.bench_circuit.specs.Judging.{WordsRoom};
 ghost use Rattle.bench_circuit.specs.Ending.{TextHeld, TextSound};
-ghost use Rattle.bench_net_names.specs.Table.{noNames, NamesTold};
+ghost use Rattle.bench_net_names.specs.Table.{no_names_of, NamesTold};
 
 use crate::words::copy_words;
 use bench_circuit::inner::ending::{EndAnswer, check_end};
@@ -16,7 +16,7 @@ pub(crate) fn fill_names(
     gates: &mut [u64],
     outputs: &mut [u64],
 )
-    requires names_value { names.old ≡ noNames }
+    requires names_value { names.old ≡ no_names_of }
     requires words_room { WordsRoom inputs.old gates.old outputs.old }
     ensures { NamesTold names.new text.now }
 {
@@ -36,7 +36,7 @@ fn fill_judged(
     outputs: &[u64],
     counts: NameCounts,
 )
-    requires names_value { names.old ≡ noNames }
+    requires names_value { names.old ≡ no_names_of }
     requires text_held { TextHeld text.now inputs.now gates.now outputs.now counts }
     ensures { NamesTold names.new text.now }
 {

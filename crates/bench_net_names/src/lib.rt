@@ -3,8 +3,8 @@ mod filling;
 mod words;
 
 ghost use Rattle.std.specs.Prelude.{◌≡◌};
-ghost use Rattle.text_buffer.specs.Written.{Written, inRoom};
-ghost use Rattle.bench_net_names.specs.Table.{NamesTold, nameIn};
+ghost use Rattle.text_buffer.specs.Written.{Written, in_room};
+ghost use Rattle.bench_net_names.specs.Table.{NamesTold, name_in_of};
 
 use crate::filling::fill_names;
 use crate::words::{no_names, put_word};
@@ -30,7 +30,7 @@ pub fn net_names(text: &[u8]) -> [u64; NAME_WORDS]
 // Puts the name of a net at the start of a buffer, and returns its length: 0 where the table has no such name. A buffer under 16 bytes is left as it
 // is.
 pub fn put_name(names: &[u64], net: usize, out: &mut [u8]) -> usize
-    ensures { Written out.old out.new 0 (inRoom 16 out.old (nameIn names.now net)) result }
+    ensures { Written out.old out.new 0 (in_room 16 out.old (name_in_of names.now net)) result }
 {
     if out.len() < NAME_BYTES {
         return 0;

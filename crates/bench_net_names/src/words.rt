@@ -2,11 +2,11 @@
 ghost use Rattle.std.specs.Prelude.{◌≡◌, ◌+◌, ◌≤◌, length, take};
 ghost use Rattle.std.proofs.lemmas.List.Edits.{sets};
 ghost use Rattle.text_buffer.specs.Written.{Written};
-ghost use Rattle.bench_net_names.specs.Table.{noNames, word_bytes};
+ghost use Rattle.bench_net_names.specs.Table.{no_names_of, word_bytes};
 
 // A table without a name.
 pub(crate) fn no_names() -> [u64; 1024]
-    ensures { result ≡ noNames }
+    ensures { result ≡ no_names_of }
 {
     [0; 1024]
 }

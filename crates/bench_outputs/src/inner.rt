@@ -1,14 +1,14 @@
 // The records of the outputs, written by the keys of their names. Each caller proves what a function requires.
 ghost use Rattle.std.specs.Prelude.{◌+◌, ◌*◌, ◌≤◌, length};
-ghost use Rattle.bench_outputs.specs.OutputWriting.{RoomFor, BytesPut, oneOutput, keyOutputs};
+ghost use Rattle.bench_outputs.specs.OutputWriting.{RoomFor, BytesPut, one_output, key_outputs};
 
 use bench_lines::inner::keys::find_key;
 use record_bytes::inner::put;
 
 // Writes an output's record, if it is one; the place after it.
 fn put_output(out: &mut [u8], to_place: usize, net: usize, listed: bool) -> usize
-    requires { RoomFor to_place (oneOutput listed net) out.old }
-    ensures { BytesPut result out.old out.new to_place (oneOutput listed net) }
+    requires { RoomFor to_place (one_output listed net) out.old }
+    ensures { BytesPut result out.old out.new to_place (one_output listed net) }
 {
     if listed {
         put(out, to_place, 2, 0x554F);
@@ -29,9 +29,9 @@ pub fn put_outputs(
     output_count: usize,
 ) -> usize
     requires n_in_bounds { (2 * n ≤ length words.now) × (2 * output_count ≤ length outputs.now) × (first + n ≤ 1024) }
-    requires room_for { RoomFor to_place (keyOutputs outputs.now output_count words.now n 0 first) out.old }
+    requires room_for { RoomFor to_place (key_outputs outputs.now output_count words.now n 0 first) out.old }
     ensures { BytesPut result out.old out.new to_place
-        (keyOutputs outputs.now output_count words.now n 0 first) }
+        (key_outputs outputs.now output_count words.now n 0 first) }
 {
     let mut write = to_place;
     let mut left = n;

@@ -1,13 +1,13 @@
 -- The call put together from its parts.
 use Rattle.model.proofs.Prelude.{ℕ, ◌≤◌, ◌<◌, ◌≡◌, ◌∙◌, ap, refl, sym, subst, List, ◌++◌, length, drop, le-leb, lt-leb}
 use Rattle.model.specs.Base.{Answer, refused, value, ◌into◌, ◌then◌, checks, after}
-use Rattle.model.specs.Refusals.{refusalNumber}
+use Rattle.model.specs.Refusals.{refusal_number_of}
 use Rattle.bench_lines.specs.Text.{lines_of}
-use Rattle.bench_circuit.specs.Circuit.{Circuit, endRules, lineIn, refusedLine, circuitOf}
+use Rattle.bench_circuit.specs.Circuit.{Circuit, end_rules, line_in, refused_line_of, circuit_of}
 use Rattle.bench_circuit.specs.Judging.{LineRefused, TextTrue}
 use Rattle.bench_circuit.specs.Ending.{TextHeld, TextSound, RefusedAt, EndTrue}
-use Rattle.bench_text.specs.NetlistFile.{netlistBytes, converted}
-use Rattle.bench_text.specs.Calls.{convertCall, convertAnswer, convertLine, convertBuffer}
+use Rattle.bench_text.specs.NetlistFile.{netlist_bytes, converted}
+use Rattle.bench_text.specs.Calls.{convert_call, convert_answer, convert_line, convert_buffer}
 use Rattle.bench_text.specs.Converting.{ConvertTrue}
 use Rattle.model.specs.declared.Refusal.{Refusal}
 use Rattle.model.specs.declared.Refusal.TheVariants as why
@@ -19,20 +19,20 @@ use Rattle.bench_circuit.specs.declared.inner.judging.TextAnswer.{TextAnswer}
 use Rattle.bench_circuit.specs.declared.inner.judging.TextAnswer.TheVariants as whole
 
 module _ (text out : List ℕ) (big : 10484 ≤ length out) where
-  pub call-is : convertCall text out ≡ converted text
-  unfolding convertCall
+  pub call-is : convert_call text out ≡ converted text
+  unfolding convert_call
   call-is = rw (le-leb 10484 (length out) big) refl
 
-  pub line-is : convertLine text out ≡ refusedLine text
-  unfolding convertLine
-  line-is = rw (le-leb 10484 (length out) big, convertLine) refl
+  pub line-is : convert_line text out ≡ refused_line_of text
+  unfolding convert_line
+  line-is = rw (le-leb 10484 (length out) big, convert_line) refl
 
-  call-refused : (w : Refusal) (line : ℕ) → RefusedAt (refusalNumber w) line text
+  call-refused : (w : Refusal) (line : ℕ) → RefusedAt (refusal_number_of w) line text
       → ConvertTrue (bench.Refused w line) text out out
-  unfolding converted convertAnswer convertBuffer
+  unfolding converted convert_answer convert_buffer
   call-refused w line t =
-      let z : convertCall text out ≡ refused (refusalNumber w) =
-      call-is ∙ ap (λ (x : Answer Circuit). x into λ c. value (netlistBytes c)) t.answer in
+      let z : convert_call text out ≡ refused (refusal_number_of w) =
+      call-is ∙ ap (λ (x : Answer Circuit). x into λ c. value (netlist_bytes c)) t.answer in
       record {
         answer = sym (ap (λ (x : Answer (List ℕ)). x into λ bs. value (length bs)) z);
         line = t.place ∙ sym line-is;
@@ -45,20 +45,20 @@ module _ (text out : List ℕ) (big : 10484 ≤ length out) where
 
   pub text-refused : (r : TextAnswer) (w : Refusal) (line : ℕ) (is gs os : List ℕ) → TextTrue r text is gs os
       → r ≡ whole.Refused w line → ConvertTrue (bench.Refused w line) text out out
-  unfolding circuitOf refusedLine lineIn
+  unfolding circuit_of refused_line_of line_in
   text-refused r w line is gs os t e =
-      let z : LineRefused (refusalNumber w) line text = subst (λ (x : TextAnswer). TextTrue x text is gs os) e t in
+      let z : LineRefused (refusal_number_of w) line text = subst (λ (x : TextAnswer). TextTrue x text is gs os) e t in
       call-refused w line (record {
-        answer = ap (λ (x : Answer Circuit). x into (λ c. checks (endRules c) then value c)) z.reads;
-        place = z.place ∙ sym (ap (λ (x : Answer Circuit). lineIn x (lines_of text)) z.reads);
+        answer = ap (λ (x : Answer Circuit). x into (λ c. checks (end_rules c) then value c)) z.reads;
+        place = z.place ∙ sym (ap (λ (x : Answer Circuit). line_in x (lines_of text)) z.reads);
       })
 
 pub buffer-short : (text out : List ℕ) → length out < 10484
     → ConvertTrue (bench.Refused why.NetlistBufferLength 0) text out out
-unfolding convertAnswer convertBuffer convertCall convertLine
+unfolding convert_answer convert_buffer convert_call convert_line
 buffer-short text out h =
     let z = lt-leb 10484 (length out) h in
-    record { answer = rw z refl; line = rw (z, convertLine) refl; buffer = rw z refl }
+    record { answer = rw z refl; line = rw (z, convert_line) refl; buffer = rw z refl }
 
 pub held-text : (r : TextAnswer) (n : NameCounts) (text is gs os : List ℕ) → TextTrue r text is gs os
     → r ≡ whole.Taken n → TextHeld text is gs os n

@@ -1,23 +1,23 @@
 -- The file that a call wrote lies in its buffer.
 use Rattle.model.proofs.Prelude.{ℕ, ◌≤◌, ◌≡◌, ap, sym, subst, List, ◌++◌, length, drop, take, length-append, length-take-le, arith}
 use Rattle.model.specs.Base.{Answer, refused, value, ◌into◌, after}
-use Rattle.model.proofs.AnswerLaws.{value_inj, not-refused}
-use Rattle.bench_text.specs.Calls.{convertCall, convertAnswer, convertBuffer}
+use Rattle.model.proofs.AnswerLaws.{value_inj, not_refused}
+use Rattle.bench_text.specs.Calls.{convert_call, convert_answer, convert_buffer}
 use Rattle.bench_text.specs.Converting.{ConvertTrue}
 use Rattle.bench_text.specs.declared.BenchAnswer.{BenchAnswer}
 use Rattle.bench_text.specs.declared.BenchAnswer.TheVariants as bench
 
 module _ (r : BenchAnswer) (text out out' : List ℕ) (n : ℕ) (t : ConvertTrue r text out out') (e : r ≡ bench.Written n) where
   pub written-fits : n ≤ length out'
-  unfolding convertAnswer convertBuffer
+  unfolding convert_answer convert_buffer
   written-fits =
       let z : ConvertTrue (bench.Written n) text out out' =
       subst (λ (x : BenchAnswer). ConvertTrue x text out out') e t in
-      go (convertCall text out) z.answer z.buffer
+      go (convert_call text out) z.answer z.buffer
     where
       go : (x : Answer (List ℕ)) → value n ≡ (x into λ bs. value (length bs))
           → out' ≡ after x out (λ bs. bs ++ drop (length bs) out) → n ≤ length out'
-      go (refused m) p q = absurd (not-refused (sym p))
+      go (refused m) p q = absurd (not_refused (sym p))
       go (value bs) p q =
           let k : n ≡ length bs = value_inj p in omega (arith, k, ap length q, length-append bs (drop (length bs) out))
 

@@ -1,14 +1,14 @@
 -- What the converter answers.
 use Rattle.std.specs.Prelude.{ℕ, ◌≡◌, List}
-use Rattle.bench_text.specs.Calls.{benchOf, line_of, convertAnswer, convertLine, convertBuffer}
+use Rattle.bench_text.specs.Calls.{bench_of, line_of, convert_answer, convert_line, convert_buffer}
 use Rattle.bench_text.specs.declared.BenchAnswer.{BenchAnswer}
 use Rattle.bench_text.specs.declared.BenchAnswer.TheVariants as bench
 
 -- the call's answer, the line that is refused, and the buffer afterwards
 pub record ConvertTrue (r : BenchAnswer) (text out out' : List ℕ) : Type 0 where
-  pub answer : benchOf r ≡ convertAnswer text out
-  pub line : line_of r ≡ convertLine text out
-  pub buffer : out' ≡ convertBuffer text out
+  pub answer : bench_of r ≡ convert_answer text out
+  pub line : line_of r ≡ convert_line text out
+  pub buffer : out' ≡ convert_buffer text out
 
 -- the file is written, and has this length
 abbrev pub FileWritten : ℕ → List ℕ → List ℕ → List ℕ → Type 0

@@ -1,13 +1,13 @@
 // The netlist file of a circuit, written from the text and from the keys of its names.
 ghost use Rattle.std.specs.Prelude.{◌≡◌, true, ◌+◌, ◌*◌, ◌≤◌, length};
 ghost use Rattle.std.proofs.lemmas.List.Edits.{sets};
-ghost use Rattle.model.specs.Encode.{headerBytes};
-ghost use Rattle.bench_lines.specs.Text.{tokensOf, statementOf, lines_of};
+ghost use Rattle.model.specs.Encode.{header_bytes};
+ghost use Rattle.bench_lines.specs.Text.{tokens_of, statement_of, lines_of};
 ghost use Rattle.bench_names.specs.NameNets.{NamesRoom};
 ghost use Rattle.bench_circuit.specs.Ending.{TextSound};
 ghost use Rattle.bench_text.specs.Converting.{FileWritten};
-ghost use Rattle.bench_text.specs.FileWriting.{PinsThere, PinsPut, GatePut, FewPins, AllFewPins, bytesOfLine};
-ghost use Rattle.bench_text.specs.FileWriting.{bytesOfText};
+ghost use Rattle.bench_text.specs.FileWriting.{PinsThere, PinsPut, GatePut, FewPins, AllFewPins, bytes_of_line};
+ghost use Rattle.bench_text.specs.FileWriting.{bytes_of_text};
 ghost use Rattle.bench_outputs.specs.OutputWriting.{RoomFor, BytesPut};
 
 use bench_circuit::inner::judging::NameCounts;
@@ -102,11 +102,11 @@ fn put_line(
     gate_count: usize,
 ) -> usize
     requires names_room { NamesRoom inputs.now input_count gates.now gate_count }
-    requires few_pins { FewPins (statementOf (tokensOf line.now)) }
+    requires few_pins { FewPins (statement_of (tokens_of line.now)) }
     requires room_for { RoomFor to_place
-        (bytesOfLine inputs.now input_count gates.now gate_count line.now) out.old }
+        (bytes_of_line inputs.now input_count gates.now gate_count line.now) out.old }
     ensures { BytesPut result out.old out.new to_place
-        (bytesOfLine inputs.now input_count gates.now gate_count line.now) }
+        (bytes_of_line inputs.now input_count gates.now gate_count line.now) }
 {
     let statement = read_statement(line);
     match statement {
@@ -143,9 +143,9 @@ pub(crate) fn put_lines(
     requires names_room { NamesRoom inputs.now input_count gates.now gate_count }
     requires all_few_pins { AllFewPins (lines_of text.now) }
     requires room_for { RoomFor to_place
-        (bytesOfText inputs.now input_count gates.now gate_count text.now) out.old }
+        (bytes_of_text inputs.now input_count gates.now gate_count text.now) out.old }
     ensures { BytesPut result out.old out.new to_place
-        (bytesOfText inputs.now input_count gates.now gate_count text.now) }
+        (bytes_of_text inputs.now input_count gates.now gate_count text.now) }
 {
     let mut write = to_place;
     let mut at = 0;
@@ -163,7 +163,7 @@ pub(crate) fn put_lines(
 pub(crate) fn put_header(out: &mut [u8], counts: NameCounts)
     requires { 8 ≤ length out.old }
     ensures { out.new ≡ sets out.old 0
-        (headerBytes counts.inputs counts.gates counts.outputs) }
+        (header_bytes counts.inputs counts.gates counts.outputs) }
 {
     put(out, 0, 2, 0x4C4E);
     put(out, 2, 2, counts.inputs as u64);

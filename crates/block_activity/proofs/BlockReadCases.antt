@@ -5,21 +5,21 @@ use native.Mathlib.Nat.{mul-add, mul-zero, mul-one}
 use Rattle.model.specs.Base.{value, checks, bit}
 use Rattle.model.specs.Netlist.{Netlist}
 use Rattle.model.specs.Detect.{Class}
-use Rattle.model.specs.Read.{testRules, test_of, vectorBytes, recordLength}
+use Rattle.model.specs.Read.{test_rules, test_of, vector_bytes_of, record_length}
 use Rattle.model.specs.declared.Refusal.{Refusal}
-use Rattle.record_test.specs.Records.{recordOf, RecordTrue, VectorsTrue}
+use Rattle.record_test.specs.Records.{record_of, RecordTrue, VectorsTrue}
 use Rattle.record_test.specs.declared.inner.RecordAnswer.{RecordAnswer}
 use Rattle.record_test.specs.declared.inner.RecordAnswer.TheVariants as record-answer
 use Rattle.record_test.specs.declared.inner.Vectors.{Vectors}
 use Rattle.record_test.proofs.VectorWordLaws.{both-room, new-first, new-second, old-first, old-second}
-use Rattle.block_activity.specs.Marks.{VectorsOf, recordAt, testAt, BlockRead}
+use Rattle.block_activity.specs.Marks.{VectorsOf, record_at, test_at, BlockRead}
 use Rattle.block_activity.proofs.OneMoreLaws.{one_more}
 
 -- the first n records of a netlist's file, which end at byte `at`
 pub record ReadFor (N : Netlist) (tests vectors : List ℕ) (at n : ℕ) : Type 0 where
-  pub ends : at ≡ recordLength N * n
-  pub legal : (t : ℕ) → t < n → checks (testRules N (recordAt N tests t)) ≡ value tt
-  pub vectorsAre : (c : Class) → VectorsOf N (testAt N c tests) n vectors
+  pub ends : at ≡ record_length N * n
+  pub legal : (t : ℕ) → t < n → checks (test_rules N (record_at N tests t)) ≡ value tt
+  pub vectors_are : (c : Class) → VectorsOf N (test_at N c tests) n vectors
 
 pub record ReadSoFar (inputs : ℕ) (tests vectors : List ℕ) (at n : ℕ) : Type 0 where
   pub few : n ≤ 64
@@ -33,30 +33,30 @@ read_none inputs tests vectors room = record {
   within = omega arith;
   room = room;
   read = λ N e. record {
-    ends = sym (mul-zero (recordLength N));
+    ends = sym (mul-zero (record_length N));
     legal = λ t h. absurd (omega arith);
-    vectorsAre = λ c. record { first = λ t j h l. absurd (omega arith); second = λ t j h l. absurd (omega arith) };
+    vectors_are = λ c. record { first = λ t j h l. absurd (omega arith); second = λ t j h l. absurd (omega arith) };
   };
 }
 
 module _ {inputs : ℕ} {tests vectors : List ℕ} {at n : ℕ} (s : ReadSoFar inputs tests vectors at n)
-    (bytes : ℕ) (eb : bytes ≡ 2 + 2 * vectorBytes inputs) where
-  bytes-is : (N : Netlist) → N.inputs ≡ inputs → bytes ≡ recordLength N
-  bytes-is N e = eb ∙ ap (λ i. 2 + 2 * vectorBytes i) (sym e)
+    (bytes : ℕ) (eb : bytes ≡ 2 + 2 * vector_bytes_of inputs) where
+  bytes-is : (N : Netlist) → N.inputs ≡ inputs → bytes ≡ record_length N
+  bytes-is N e = eb ∙ ap (λ i. 2 + 2 * vector_bytes_of i) (sym e)
 
   -- where one record more ends
-  next-end : (N : Netlist) → N.inputs ≡ inputs → at + bytes ≡ recordLength N * (n + 1)
-  next-end N e = omega (arith, (s.read N e).ends, bytes-is N e, mul-add (recordLength N) n 1, mul-one (recordLength N))
+  next-end : (N : Netlist) → N.inputs ≡ inputs → at + bytes ≡ record_length N * (n + 1)
+  next-end N e = omega (arith, (s.read N e).ends, bytes-is N e, mul-add (record_length N) n 1, mul-one (record_length N))
 
-  whole-so-far : (N : Netlist) → N.inputs ≡ inputs → recordLength N * n ≤ length tests
-  whole-so-far N e = omega (arith, (s.read N e).ends, s.within)
+  whole-so_far : (N : Netlist) → N.inputs ≡ inputs → record_length N * n ≤ length tests
+  whole-so_far N e = omega (arith, (s.read N e).ends, s.within)
 
   pub read_all : 64 ≤ n → (N : Netlist) → N.inputs ≡ inputs → BlockRead N tests vectors n record-answer.Legal
   read_all l N e = record {
     few = s.few;
-    whole = whole-so-far N e;
+    whole = whole-so_far N e;
     legal = (s.read N e).legal;
-    vectorsAre = (s.read N e).vectorsAre;
+    vectors_are = (s.read N e).vectors_are;
     ended = λ q. inl (omega (arith, s.few));
     refuses = λ w q. (let z : ◌≡◌ {A = ℕ} 0 1 = cc in absurd (omega arith));
   }
@@ -64,9 +64,9 @@ module _ {inputs : ℕ} {tests vectors : List ℕ} {at n : ℕ} (s : ReadSoFar i
   pub read_short : length tests - at < bytes → (N : Netlist) → N.inputs ≡ inputs → BlockRead N tests vectors n record-answer.Legal
   read_short l N e = record {
     few = s.few;
-    whole = whole-so-far N e;
+    whole = whole-so_far N e;
     legal = (s.read N e).legal;
-    vectorsAre = (s.read N e).vectorsAre;
+    vectors_are = (s.read N e).vectors_are;
     ended = λ q. inr (omega (arith, s.within, next-end N e));
     refuses = λ w q. (let z : ◌≡◌ {A = ℕ} 0 1 = cc in absurd (omega arith));
   }
@@ -75,25 +75,25 @@ module _ {inputs : ℕ} {tests vectors : List ℕ} {at n : ℕ} (s : ReadSoFar i
     abbrev rec : List ℕ
     rec = take (at + bytes - at) (drop at tests)
 
-    rec-is : (N : Netlist) → N.inputs ≡ inputs → rec ≡ recordAt N tests n
+    rec-is : (N : Netlist) → N.inputs ≡ inputs → rec ≡ record_at N tests n
     rec-is N e =
-        let z : at + bytes - at ≡ recordLength N = omega (arith, bytes-is N e) in
+        let z : at + bytes - at ≡ record_length N = omega (arith, bytes-is N e) in
         ap₂ (λ k i. take k (drop i tests)) z (s.read N e).ends
 
-    answers : {r : RecordAnswer} → RecordTrue r inputs rec → (N : Netlist) → N.inputs ≡ inputs → recordOf r ≡ checks (testRules N (recordAt N tests n))
-    answers t N e = t.answer N e ∙ ap (λ (x : List ℕ). checks (testRules N x)) (rec-is N e)
+    answers : {r : RecordAnswer} → RecordTrue r inputs rec → (N : Netlist) → N.inputs ≡ inputs → record_of r ≡ checks (test_rules N (record_at N tests n))
+    answers t N e = t.answer N e ∙ ap (λ (x : List ℕ). checks (test_rules N x)) (rec-is N e)
 
     pub read-refused : {r : RecordAnswer} → RecordTrue r inputs rec → (w : Refusal) → r ≡ record-answer.Refused w
         → (N : Netlist) → N.inputs ≡ inputs → BlockRead N tests vectors n (record-answer.Refused w)
     read-refused {r} t w q N e = record {
       few = s.few;
-      whole = whole-so-far N e;
+      whole = whole-so_far N e;
       legal = (s.read N e).legal;
-      vectorsAre = (s.read N e).vectorsAre;
+      vectors_are = (s.read N e).vectors_are;
       ended = λ z. (let y : ◌≡◌ {A = ℕ} 0 1 = cc in absurd (omega arith));
       refuses = λ v z. (
         omega (arith, s.within, next-end N e),
-        sym (answers t N e) ∙ ap recordOf (q ∙ z),
+        sym (answers t N e) ∙ ap record_of (q ∙ z),
       );
     }
 
@@ -105,15 +105,15 @@ module _ {inputs : ℕ} {tests vectors : List ℕ} {at n : ℕ} (s : ReadSoFar i
         room = both-room vectors n v.v1 v.v2 s.room l;
         read = λ N e. record {
           ends = next-end N e;
-          legal = one_more (λ i. checks (testRules N (recordAt N tests i)) ≡ value tt) n (s.read N e).legal (sym (answers t N e) ∙ ap recordOf q);
-          vectorsAre = λ c. record {
-            first = λ i j a b. one_more (λ m. bit (get_or all m 0) j ≡ get_or (testAt N c tests m).v1 j false) n
-                (λ m o. ap (λ k. bit k j) (old-first vectors n v.v1 v.v2 s.room l m o) ∙ ((s.read N e).vectorsAre c).first m j o b)
+          legal = one_more (λ i. checks (test_rules N (record_at N tests i)) ≡ value tt) n (s.read N e).legal (sym (answers t N e) ∙ ap record_of q);
+          vectors_are = λ c. record {
+            first = λ i j a b. one_more (λ m. bit (get_or all m 0) j ≡ get_or (test_at N c tests m).v1 j false) n
+                (λ m o. ap (λ k. bit k j) (old-first vectors n v.v1 v.v2 s.room l m o) ∙ ((s.read N e).vectors_are c).first m j o b)
                 (ap (λ k. bit k j) (new-first vectors n v.v1 v.v2 s.room l)
                 ∙ x.first N c e j (omega (arith, e)) ∙ ap (λ (y : List ℕ). get_or (test_of N c y).v1 j false) (rec-is N e))
                 i a;
-            second = λ i j a b. one_more (λ m. bit (get_or all (64 + m) 0) j ≡ get_or (testAt N c tests m).v2 j false) n
-                (λ m o. ap (λ k. bit k j) (old-second vectors n v.v1 v.v2 s.room l m o) ∙ ((s.read N e).vectorsAre c).second m j o b)
+            second = λ i j a b. one_more (λ m. bit (get_or all (64 + m) 0) j ≡ get_or (test_at N c tests m).v2 j false) n
+                (λ m o. ap (λ k. bit k j) (old-second vectors n v.v1 v.v2 s.room l m o) ∙ ((s.read N e).vectors_are c).second m j o b)
                 (ap (λ k. bit k j) (new-second vectors n v.v1 v.v2 s.room l)
                 ∙ x.second N c e j (omega (arith, e)) ∙ ap (λ (y : List ℕ). get_or (test_of N c y).v2 j false) (rec-is N e))
                 i a;

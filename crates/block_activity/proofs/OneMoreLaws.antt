@@ -13,11 +13,11 @@ one_more P n old new t h = ⊎_elim (λ (e : t ≡ n). subst P (sym e) new) (λ 
 module _ {first n : ℕ} {P : ℕ → ℕ → Type 0} {before after : List ℕ} (x : Filled first n P before after) where
   pub fill_more : first + n < length before → (c : ℕ) → P n c → Filled first (n + 1) P before (set after (first + n) c)
   fill_more room c h = record {
-    sameLength = length-set after (first + n) c ∙ x.sameLength;
+    same_length_of = length-set after (first + n) c ∙ x.same_length_of;
     same = λ i o. get_or-set_other after (first + n) i c 0 (away i o) ∙ x.same i (outside i o);
     each = one_more (λ p. P p (get_or (set after (first + n) c) (first + p) 0)) n
         (λ p l. subst (P p) (sym (get_or-set_other after (first + n) (first + p) c 0 (λ e. omega arith))) (x.each p l))
-        (subst (P n) (sym (get_or-set_same after (first + n) c 0 (omega (arith, x.sameLength)))) h);
+        (subst (P n) (sym (get_or-set_same after (first + n) c 0 (omega (arith, x.same_length_of)))) h);
   }
     where
       away : (i : ℕ) → (i < first) ⊎ (first + (n + 1) ≤ i) → i ≡ first + n → ⊥

@@ -3,7 +3,7 @@ use Rattle.model.proofs.Prelude.{ℕ, ◌≤◌, ◌<◌, ◌+◌, ◌*◌, suc,
 use Rattle.model.proofs.Prelude.{and-true, List, length, get_or, replicate, leb, eqb, ltb, eqb→eq, pow-suc, arith}
 use lib.Dec.{eqb-suc-suc, eqb-suc-zero, eqb-zero-suc}
 use Rattle.model.specs.Base.{bit}
-use Rattle.model.proofs.BoolLaws.{T→true, not→false, eq→eqb, le-true, lt-false, le-or-lt, equal_or_not}
+use Rattle.model.proofs.BoolLaws.{T→true, not→false, eq→eqb, le-true, lt-false, le_or_lt, equal_or_not}
 use Rattle.model.proofs.ListLaws.{zeros-at}
 use Rattle.record_bytes.proofs.BitLaws.{zero_bit, one_shifted}
 use Rattle.block_words.specs.Words.{unequal}
@@ -16,20 +16,20 @@ use Rattle.block_words.proofs.PlaneLaws.{plane-at}
 use Rattle.block_activity.specs.Layout.{out_at}
 
 -- a power of two has one bit
-power-bit : (o s : ℕ) → bit (2 ^ o) s ≡ eqb s o
-power-bit zero zero = refl
-power-bit zero (suc s) = half-bit 1 s ∙ zero_bit s ∙ sym (eqb-suc-zero s)
-power-bit (suc o) zero = first_bit (2 ^ suc o) ∙ ap (λ x. eqb x 1) (even (2 ^ suc o) (2 ^ o) (pow-suc 2 o)) ∙ sym (eqb-zero-suc o)
+power_bit : (o s : ℕ) → bit (2 ^ o) s ≡ eqb s o
+power_bit zero zero = refl
+power_bit zero (suc s) = half-bit 1 s ∙ zero_bit s ∙ sym (eqb-suc-zero s)
+power_bit (suc o) zero = first_bit (2 ^ suc o) ∙ ap (λ x. eqb x 1) (even (2 ^ suc o) (2 ^ o) (pow-suc 2 o)) ∙ sym (eqb-zero-suc o)
   where
     even : (w v : ℕ) → w ≡ v * 2 → w % 2 ≡ 0
     even w v e = omega arith
-power-bit (suc o) (suc s) = half-bit (2 ^ suc o) s ∙ ap (λ x. bit x s) (half (2 ^ suc o) (2 ^ o) (pow-suc 2 o)) ∙ power-bit o s ∙ sym (eqb-suc-suc s o)
+power_bit (suc o) (suc s) = half-bit (2 ^ suc o) s ∙ ap (λ x. bit x s) (half (2 ^ suc o) (2 ^ o) (pow-suc 2 o)) ∙ power_bit o s ∙ sym (eqb-suc-suc s o)
   where
     half : (w v : ℕ) → w ≡ v * 2 → w / 2 ≡ v
     half w v e = omega arith
 
-mask-bit : (o s : ℕ) → o < 64 → bit ((1 * 2 ^ o) % 2 ^ 64) s ≡ eqb s o
-mask-bit o s h = ap (λ w. bit w s) (one_shifted o h) ∙ power-bit o s
+mask_bit : (o s : ℕ) → o < 64 → bit ((1 * 2 ^ o) % 2 ^ 64) s ≡ eqb s o
+mask_bit o s h = ap (λ w. bit w s) (one_shifted o h) ∙ power_bit o s
 
 -- the word of a gate's net, and of an input
 module _ (words : List ℕ) (inputs net edge : ℕ) where
@@ -42,7 +42,7 @@ module _ (words : List ℕ) (inputs net edge : ℕ) where
 
 -- the outputs before o are done
 pub record Outputting (offsets : List ℕ) (inputs outputs : ℕ) (live outs : List ℕ) (o : ℕ) : Type 0 where
-  pub toEnd : o ≤ outputs
+  pub to_end : o ≤ outputs
   pub room : length outs ≡ 64
   pub done : OutsAre offsets inputs o live outs
 
@@ -52,7 +52,7 @@ module _ (offsets : List ℕ) (inputs outputs : ℕ) (live : List ℕ) where
 
   pub outputs-start : Outputting offsets inputs outputs live (replicate 64 0) 0
   outputs-start = record {
-    toEnd = omega arith;
+    to_end = omega arith;
     room = refl;
     done = record {
       bits = λ t p h l.
@@ -66,7 +66,7 @@ module _ (offsets : List ℕ) (inputs outputs : ℕ) (live : List ℕ) where
       (f : Flipped outs outs' word ((1 * 2 ^ o) % 2 ^ 64)) where
     flipped-bit : (t p : ℕ) → t < 64 → p < 64 → bit (get_or outs' t 0) p ≡ unequal (ltb p o && shown t p) (shown t o && eqb p o)
     unfolding shown
-    flipped-bit t p h m = f.bits t h p ∙ ap₂ unequal (x.done.bits t p h m) (ap₂ (λ a b. a && b) (w t) (mask-bit o p (omega arith)))
+    flipped-bit t p h m = f.bits t h p ∙ ap₂ unequal (x.done.bits t p h m) (ap₂ (λ a b. a && b) (w t) (mask_bit o p (omega arith)))
 
     turned : (t p : ℕ) → unequal (ltb p o && shown t p) (shown t o && eqb p o) ≡ (ltb p (o + 1) && shown t p)
     turned t p =
@@ -81,18 +81,18 @@ module _ (offsets : List ℕ) (inputs outputs : ℕ) (live : List ℕ) where
         ∙ ap (λ b. b && shown t p)
         (⊎_elim (λ (a : suc p ≤ o). le-true (suc p) o a ∙ sym (le-true (suc p) (o + 1) (omega arith)))
         (λ (a : o < suc p). lt-false (suc p) o a ∙ sym (lt-false (suc p) (o + 1) (omega (arith, d))))
-        (le-or-lt (suc p) o)))
+        (le_or_lt (suc p) o)))
         (equal_or_not p o)
 
     pub outputs-step : Outputting offsets inputs outputs live outs' (o + 1)
     unfolding shown
     outputs-step = record {
-      toEnd = omega arith;
-      room = f.sameLength ∙ x.room;
+      to_end = omega arith;
+      room = f.same_length_of ∙ x.room;
       done = record { bits = λ t p h m. flipped-bit t p h m ∙ turned t p };
     }
 
   pub outputs-end : {outs : List ℕ} {o : ℕ} → outputs ≤ o → Outputting offsets inputs outputs live outs o → OutsAre offsets inputs outputs live outs
   outputs-end {outs} {o} h x =
-      let e : o ≡ outputs = omega (arith, x.toEnd) in
+      let e : o ≡ outputs = omega (arith, x.to_end) in
       record { bits = λ t p k l. x.done.bits t p k l ∙ ap (λ m. ltb p m && (leb inputs (out_at offsets p) && bit (get_or live (out_at offsets p) 0) t)) e }

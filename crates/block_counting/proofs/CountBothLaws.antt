@@ -2,21 +2,21 @@
 use Rattle.model.proofs.Prelude.{ℕ, ◌≤◌, ◌-◌, ◌^◌, ◌≡◌, ◌∙◌, ap, refl, sym, subst, ap₂, true, true≢false, List, needs}
 use native.Mathlib.Nat.{sub_self}
 use Rattle.model.specs.Base.{Answer, refused, value, passes, after}
-use Rattle.model.specs.Netlist.{Netlist, pathTotal}
+use Rattle.model.specs.Netlist.{Netlist, path_total}
 use Rattle.model.specs.Path.{Edge, rising, falling}
 use Rattle.model.specs.Detect.{Test}
-use Rattle.model.specs.Runs.{size, howMany}
-use Rattle.model.specs.Store.{storeRuns, runsByEdge}
-use Rattle.model.specs.Calls.{FaultCounts, Tested, storeLeft, tested, runsThen, heldThen}
+use Rattle.model.specs.Runs.{size, how_many}
+use Rattle.model.specs.Store.{store_runs, runs_by_edge}
+use Rattle.model.specs.Calls.{FaultCounts, Tested, store_left, tested, runs_then_of, held_then_of}
 use Rattle.model.specs.declared.Refusal.{Refusal}
-use Rattle.model.proofs.AnswerLaws.{not-refused, value_inj}
+use Rattle.model.proofs.AnswerLaws.{not_refused, value_inj}
 use Rattle.model.proofs.RefusalLaws.{refused-inj}
-use Rattle.store_words.specs.WordAnswers.{totalsIn, totalsBoth}
+use Rattle.store_words.specs.WordAnswers.{totals_in, totals_both}
 use Rattle.store_words.specs.declared.inner.StoreTotals.{StoreTotals}
 use Rattle.store_words.proofs.SoundLaws.{edge-sound}
 use Rattle.store_writing.specs.declared.inner.Change.TheVariants as change
-use Rattle.store_coverage.specs.Stage.{MemoryReady, BothMade, SomeBothMade, storeAfter, workStage, StageIs}
-use Rattle.store_coverage.specs.TestCall.{tested_of, returnedBy, TestedIs, Counting, SomeCounting}
+use Rattle.store_coverage.specs.Stage.{MemoryReady, BothMade, SomeBothMade, store_after, work_stage, StageIs}
+use Rattle.store_coverage.specs.TestCall.{tested_of, returned_by, TestedIs, Counting, SomeCounting}
 use Rattle.store_coverage.specs.declared.TestAnswer.{TestAnswer}
 use Rattle.store_coverage.specs.declared.TestAnswer.TheVariants as test
 use Rattle.store_coverage.specs.declared.inner.edges.BothAnswer.{BothAnswer}
@@ -26,10 +26,10 @@ use Rattle.store_coverage.specs.declared.inner.StageAnswer.TheVariants as stage
 use Rattle.store_coverage.proofs.EdgesLaws.{memory-sound}
 use Rattle.store_coverage.proofs.WorkMemory.{work-result}
 use Rattle.store_coverage.proofs.TestCallLaws.{taken-by, then-size, size-after, count-refused, count-taken}
-use Rattle.block_counting.specs.Counts.{keepsBoth, countsKept, BothCounted, SomeBothCounted, totalsAfter, words_of, Says}
+use Rattle.block_counting.specs.Counts.{keeps_both_of, counts_kept, BothCounted, SomeBothCounted, totals_after_of, words_of, Says}
 
 -- both edges keep their runs
-kept-both : (b : BothAnswer) → true ≡ keepsBoth b → b ≡ both.Fits change.Kept change.Kept
+kept-both : (b : BothAnswer) → true ≡ keeps_both_of b → b ≡ both.Fits change.Kept change.Kept
 kept-both (both.Fits change.Kept change.Kept) e = refl
 kept-both (both.Fits change.Kept (change.Made from to n)) e = absurd (true≢false e)
 kept-both (both.Fits (change.Made from to n) f) e = absurd (true≢false e)
@@ -38,11 +38,11 @@ kept-both both.StoreOver e = absurd (true≢false e)
 
 -- a stage that keeps the store's runs, case by case
 module _ (before : StoreTotals) (a : StageAnswer) where
-  pub kept-refused : (w : Refusal) → a ≡ stage.Refused w → test.Refused w ≡ countsKept before a
-  kept-refused w e = sym (ap (countsKept before) e)
+  pub kept-refused : (w : Refusal) → a ≡ stage.Refused w → test.Refused w ≡ counts_kept before a
+  kept-refused w e = sym (ap (counts_kept before) e)
 
-  pub kept-taken : a ≡ stage.Taken → test.Taken 0 0 before.rising before.falling ≡ countsKept before a
-  kept-taken e = sym (ap (countsKept before) e)
+  pub kept-taken : a ≡ stage.Taken → test.Taken 0 0 before.rising before.falling ≡ counts_kept before a
+  kept-taken e = sym (ap (counts_kept before) e)
 
 pub ruleset kept-cases = (kept-refused, kept-taken, needs)
 
@@ -51,46 +51,46 @@ pub some-made : {before : StoreTotals} {b : BothAnswer} {ws work : List ℕ} →
 some-made h = record { circuit = h.circuit; test = h.test; found = h.found; made = h.counted.made }
 
 module _ {before : StoreTotals} {b : BothAnswer} {ws ws' work : List ℕ} {r : StageAnswer}
-    (writes : (N : Netlist) (t : Test) (found : List ℕ) → BothMade N t ws found work b → StageIs (workStage N t ws) ws ws' found work r) where
+    (writes : (N : Netlist) (t : Test) (found : List ℕ) → BothMade N t ws found work b → StageIs (work_stage N t ws) ws ws' found work r) where
   module _ {N : Netlist} {t : Test} {found : List ℕ} (k : BothCounted N t ws found work b before) where
-    counting-both : Counting N t (workStage N t ws) ws ws' found work before r
+    counting-both : Counting N t (work_stage N t ws) ws ws' found work before r
     counting-both = record {
       memory = k.made.memory;
-      fewPaths = k.fewPaths;
+      few_paths = k.few_paths;
       totals = k.totals;
       stage = writes N t found k.made;
-      isWork = λ d e. e;
+      is_work = λ d e. e;
     }
 
-    module _ (keeps : true ≡ keepsBoth b) where
+    module _ (keeps : true ≡ keeps_both_of b) where
       fits : b ≡ both.Fits change.Kept change.Kept
       fits = kept-both b keeps
 
-      same_size : r ≡ stage.Taken → (e : Edge) → storeRuns ws e ≡ runsThen N (runsByEdge ws) t e → size (storeRuns ws e) ≡ size (storeRuns ws' e)
+      same_size : r ≡ stage.Taken → (e : Edge) → store_runs ws e ≡ runs_then_of N (runs_by_edge ws) t e → size (store_runs ws e) ≡ size (store_runs ws' e)
       same_size took e same = ap size same ∙ sym (size-after counting-both took e)
 
-      same-totals : r ≡ stage.Taken → totalsIn before ≡ totalsBoth ws'
+      same-totals : r ≡ stage.Taken → totals_in before ≡ totals_both ws'
       same-totals took =
           k.totals
-          ∙ ap₂ (λ (x y : ℕ). record { onRising = x; onFalling = y })
-          (same_size took rising (k.made.covers.risingRuns change.Kept change.Kept fits))
-          (same_size took falling (k.made.covers.fallingRuns change.Kept change.Kept fits))
+          ∙ ap₂ (λ (x y : ℕ). record { on_rising = x; on_falling = y })
+          (same_size took rising (k.made.covers.rising_runs_of change.Kept change.Kept fits))
+          (same_size took falling (k.made.covers.falling_runs_of change.Kept change.Kept fits))
 
-      pub counted-kept : {a : TestAnswer} → a ≡ countsKept before r → TestedIs (workStage N t ws) ws ws' found work a
-      counted-kept e = subst (λ (y : TestAnswer). TestedIs (workStage N t ws) ws ws' found work y) (sym e) (by r refl)
+      pub counted-kept : {a : TestAnswer} → a ≡ counts_kept before r → TestedIs (work_stage N t ws) ws ws' found work a
+      counted-kept e = subst (λ (y : TestAnswer). TestedIs (work_stage N t ws) ws ws' found work y) (sym e) (by r refl)
         where
-          by : (s : StageAnswer) → r ≡ s → TestedIs (workStage N t ws) ws ws' found work (countsKept before s)
+          by : (s : StageAnswer) → r ≡ s → TestedIs (work_stage N t ws) ws ws' found work (counts_kept before s)
           by (stage.Refused w) q = count-refused counting-both q
           by stage.Taken q =
-              subst (λ (n : ℕ). TestedIs (workStage N t ws) ws ws' found work (test.Taken 0 n before.rising before.falling)) (sub_self before.falling)
-              (subst (λ (n : ℕ). TestedIs (workStage N t ws) ws ws' found work (test.Taken n (before.falling - before.falling) before.rising before.falling))
+              subst (λ (n : ℕ). TestedIs (work_stage N t ws) ws ws' found work (test.Taken 0 n before.rising before.falling)) (sub_self before.falling)
+              (subst (λ (n : ℕ). TestedIs (work_stage N t ws) ws ws' found work (test.Taken n (before.falling - before.falling) before.rising before.falling))
               (sub_self before.rising) (count-taken counting-both q (same-totals q)))
 
   pub counted-some : SomeBothCounted before b ws work → SomeCounting before r ws'
   counted-some h = record {
     circuit = h.circuit;
     test = h.test;
-    made = workStage h.circuit h.test ws;
+    made = work_stage h.circuit h.test ws;
     held = ws;
     work = h.found;
     work' = work;
@@ -99,47 +99,47 @@ module _ {before : StoreTotals} {b : BothAnswer} {ws ws' work : List ℕ} {r : S
 
   pub counted-again : {a : TestAnswer}
       → ((N : Netlist) (t : Test) (x : Answer Tested) (held old new : List ℕ) → Counting N t x held ws' old new before r → TestedIs x held ws' old new a)
-      → (N : Netlist) (t : Test) (found : List ℕ) → BothCounted N t ws found work b before → TestedIs (workStage N t ws) ws ws' found work a
-  counted-again counts N t found k = counts N t (workStage N t ws) ws found work (counting-both k)
+      → (N : Netlist) (t : Test) (found : List ℕ) → BothCounted N t ws found work b before → TestedIs (work_stage N t ws) ws ws' found work a
+  counted-again counts N t found k = counts N t (work_stage N t ws) ws found work (counting-both k)
 
 -- the totals after a record, and its answer as words
-refused-again : (x : Answer Tested) {n : ℕ} → refused n ≡ returnedBy x → x ≡ refused n
-unfolding returnedBy
+refused-again : (x : Answer Tested) {n : ℕ} → refused n ≡ returned_by x → x ≡ refused n
+unfolding returned_by
 refused-again (refused k) e = ap (λ j. refused j) (sym (refused-inj e))
-refused-again (value d) e = absurd (not-refused e)
+refused-again (value d) e = absurd (not_refused e)
 
-passed-by : (x : Answer Tested) {f : FaultCounts} → value f ≡ returnedBy x → value tt ≡ passes x
-unfolding returnedBy
-passed-by (refused n) e = absurd (not-refused (sym e))
+passed-by : (x : Answer Tested) {f : FaultCounts} → value f ≡ returned_by x → value tt ≡ passes x
+unfolding returned_by
+passed-by (refused n) e = absurd (not_refused (sym e))
 passed-by (value d) e = refl
 
-module _ {N : Netlist} (t : Test) {ws ws' work work' : List ℕ} {before : StoreTotals} (m : MemoryReady N ws work) (few : pathTotal N ≤ 2 ^ 62)
-    (eb : totalsIn before ≡ totalsBoth ws) where
-  held-totals : {newR newF heldR held_f : ℕ} → TestedIs (workStage N t ws) ws ws' work work' (test.Taken newR newF heldR held_f)
-      → totalsIn (record { rising = heldR; falling = held_f }) ≡ totalsBoth ws'
-  unfolding returnedBy tested
+module _ {N : Netlist} (t : Test) {ws ws' work work' : List ℕ} {before : StoreTotals} (m : MemoryReady N ws work) (few : path_total N ≤ 2 ^ 62)
+    (eb : totals_in before ≡ totals_both ws) where
+  held-totals : {newR newF heldR held_f : ℕ} → TestedIs (work_stage N t ws) ws ws' work work' (test.Taken newR newF heldR held_f)
+      → totals_in (record { rising = heldR; falling = held_f }) ≡ totals_both ws'
+  unfolding returned_by tested
   held-totals s =
-      let p : value tt ≡ passes (workStage N t ws) = passed-by (workStage N t ws) s.answer in
-      let d = taken-by (workStage N t ws) p in
-      let k : Counting N t (workStage N t ws) ws ws' work work' before stage.Taken =
+      let p : value tt ≡ passes (work_stage N t ws) = passed-by (work_stage N t ws) s.answer in
+      let d = taken-by (work_stage N t ws) p in
+      let k : Counting N t (work_stage N t ws) ws ws' work work' before stage.Taken =
       record {
         memory = m;
-        fewPaths = few;
+        few_paths = few;
         totals = eb;
-        stage = record { answer = p; store = s.store; sameLength = s.sameLength; pastWork = s.pastWork };
-        isWork = λ d e. e;
+        stage = record { answer = p; store = s.store; same_length_of = s.same_length_of; past_work = s.past_work };
+        is_work = λ d e. e;
       } in
-      let held : (e : Edge) → size (storeRuns ws' e) ≡ howMany (heldThen N (runsByEdge ws) t e) (pathTotal N) =
+      let held : (e : Edge) → size (store_runs ws' e) ≡ how_many (held_then_of N (runs_by_edge ws) t e) (path_total N) =
       λ e. size-after k refl e ∙ then-size N t ws e (edge-sound (memory-sound m) e) in
-      let is = value_inj (s.answer ∙ ap returnedBy (d.is ∙ ap (λ (y : Tested). value y) (sym (work-result N t ws d.is)))) in
-      ap (λ (f : FaultCounts). f.heldFaults) is ∙ sym (ap₂ (λ (x y : ℕ). record { onRising = x; onFalling = y }) (held rising) (held falling))
+      let is = value_inj (s.answer ∙ ap returned_by (d.is ∙ ap (λ (y : Tested). value y) (sym (work-result N t ws d.is)))) in
+      ap (λ (f : FaultCounts). f.held_faults) is ∙ sym (ap₂ (λ (x y : ℕ). record { on_rising = x; on_falling = y }) (held rising) (held falling))
 
-  pub totals-next : (a : TestAnswer) → TestedIs (workStage N t ws) ws ws' work work' a → totalsIn (totalsAfter before a) ≡ totalsBoth ws'
-  unfolding storeAfter
+  pub totals-next : (a : TestAnswer) → TestedIs (work_stage N t ws) ws ws' work work' a → totals_in (totals_after_of before a) ≡ totals_both ws'
+  unfolding store_after
   totals-next (test.Taken newR newF heldR held_f) s = held-totals s
   totals-next (test.Refused why) s =
-      let same : ws' ≡ ws = s.store ∙ ap (λ (x : Answer Tested). after x ws storeLeft) (refused-again (workStage N t ws) s.answer) in
-      eb ∙ ap totalsBoth (sym same)
+      let same : ws' ≡ ws = s.store ∙ ap (λ (x : Answer Tested). after x ws store_left) (refused-again (work_stage N t ws) s.answer) in
+      eb ∙ ap totals_both (sym same)
 
 pub says_of : (a : TestAnswer) {x : Answer FaultCounts} → tested_of a ≡ x → Says (words_of a).rising (words_of a).falling (words_of a).refusal x
 says_of a e = subst (λ (y : Answer FaultCounts). Says (words_of a).rising (words_of a).falling (words_of a).refusal y) e (own a)

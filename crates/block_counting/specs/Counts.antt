@@ -1,16 +1,16 @@
 -- The records of a block in order on a sound store, with the faults counted that each adds: a refused one leaves the store, and the next goes on.
 use Rattle.std.specs.Prelude.{◌≡◌, Bool, true, false, List, ℕ, zero, suc, ◌+◌, ◌<◌, ◌≤◌, ◌^◌, length, get_or, set}
 use Rattle.model.specs.Base.{Answer, refused, value}
-use Rattle.model.specs.Netlist.{Netlist, pathTotal}
+use Rattle.model.specs.Netlist.{Netlist, path_total}
 use Rattle.model.specs.Detect.{Test}
-use Rattle.model.specs.Refusals.{refusalNumber}
+use Rattle.model.specs.Refusals.{refusal_number_of}
 use Rattle.model.specs.Calls.{FaultCounts}
-use Rattle.store_words.specs.WordAnswers.{totalsIn, totalsBoth}
+use Rattle.store_words.specs.WordAnswers.{totals_in, totals_both}
 use Rattle.store_words.specs.declared.inner.StoreTotals.{StoreTotals}
 use Rattle.store_writing.specs.declared.inner.Change.{Change}
 use Rattle.store_writing.specs.declared.inner.Change.TheVariants as change
-use Rattle.store_coverage.specs.Stage.{BothMade, workStage, storeAfter}
-use Rattle.store_coverage.specs.TestCall.{returnedBy}
+use Rattle.store_coverage.specs.Stage.{BothMade, work_stage, store_after}
+use Rattle.store_coverage.specs.TestCall.{returned_by}
 use Rattle.store_coverage.specs.declared.TestAnswer.{TestAnswer}
 use Rattle.store_coverage.specs.declared.TestAnswer.TheVariants as test
 use Rattle.store_coverage.specs.declared.inner.edges.BothAnswer.{BothAnswer}
@@ -20,26 +20,26 @@ use Rattle.store_coverage.specs.declared.inner.StageAnswer.TheVariants as stage
 use Rattle.block_counting.specs.declared.inner.AnswerWords.{AnswerWords}
 
 -- whether an edge's runs are kept, and those of both edges
-abbrev pub keepsEdge : Change → Bool
-keepsEdge change.Kept = true
-keepsEdge (change.Made from to n) = false
+abbrev pub keeps_edge : Change → Bool
+keeps_edge change.Kept = true
+keeps_edge (change.Made from to n) = false
 
-abbrev pub keepsBoth : BothAnswer → Bool
-keepsBoth (both.Fits change.Kept f) = keepsEdge f
-keepsBoth (both.Fits (change.Made from to n) f) = false
-keepsBoth both.WorkOver = false
-keepsBoth both.StoreOver = false
+abbrev pub keeps_both_of : BothAnswer → Bool
+keeps_both_of (both.Fits change.Kept f) = keeps_edge f
+keeps_both_of (both.Fits (change.Made from to n) f) = false
+keeps_both_of both.WorkOver = false
+keeps_both_of both.StoreOver = false
 
 -- what a stage that keeps the store's runs answers
-abbrev pub countsKept : StoreTotals → StageAnswer → TestAnswer
-countsKept before (stage.Refused why) = test.Refused why
-countsKept before stage.Taken = test.Taken 0 0 before.rising before.falling
+abbrev pub counts_kept : StoreTotals → StageAnswer → TestAnswer
+counts_kept before (stage.Refused why) = test.Refused why
+counts_kept before stage.Taken = test.Taken 0 0 before.rising before.falling
 
 -- what was made of both edges of a sound store, and the faults that the store held before
 pub record BothCounted (N : Netlist) (t : Test) (ws found work : List ℕ) (b : BothAnswer) (before : StoreTotals) : Type 0 where
   pub made : BothMade N t ws found work b
-  pub fewPaths : pathTotal N ≤ 2 ^ 62
-  pub totals : totalsIn before ≡ totalsBoth ws
+  pub few_paths : path_total N ≤ 2 ^ 62
+  pub totals : totals_in before ≡ totals_both ws
 
 -- the same of some test
 pub record SomeBothCounted (before : StoreTotals) (b : BothAnswer) (ws work : List ℕ) : Type 0 where
@@ -49,34 +49,34 @@ pub record SomeBothCounted (before : StoreTotals) (b : BothAnswer) (ws work : Li
   pub counted : BothCounted circuit test ws found work b before
 
 -- the faults that a store holds after a test, from those before it
-abbrev pub totalsAfter : StoreTotals → TestAnswer → StoreTotals
-totalsAfter before (test.Taken newR newF heldR held_f) = record { rising = heldR; falling = held_f }
-totalsAfter before (test.Refused why) = before
+abbrev pub totals_after_of : StoreTotals → TestAnswer → StoreTotals
+totals_after_of before (test.Taken newR newF heldR held_f) = record { rising = heldR; falling = held_f }
+totals_after_of before (test.Refused why) = before
 
 -- an answer as words: the new faults of each edge and 0, or 0 twice and the number of the refusal
 abbrev pub words_of : TestAnswer → AnswerWords
 words_of (test.Taken newR newF heldR held_f) = record { rising = newR; falling = newF; refusal = 0 }
-words_of (test.Refused why) = record { rising = 0; falling = 0; refusal = refusalNumber why }
+words_of (test.Refused why) = record { rising = 0; falling = 0; refusal = refusal_number_of why }
 
 -- the answer of record t in the words of all: its rising faults at t, its falling ones at 64 + t, its refusal at 128 + t
-abbrev pub withAnswer : List ℕ → ℕ → AnswerWords → List ℕ
-withAnswer answers t a = set (set (set answers t a.rising) (64 + t) a.falling) (128 + t) a.refusal
+abbrev pub with_answer : List ℕ → ℕ → AnswerWords → List ℕ
+with_answer answers t a = set (set (set answers t a.rising) (64 + t) a.falling) (128 + t) a.refusal
 
 -- what the words at t say of an answer
 abbrev pub Says : ℕ → ℕ → ℕ → Answer FaultCounts → Type 0
 Says r f n (refused m) = n ≡ m
-Says r f n (value d) = (n ≡ 0) × (r ≡ d.newFaults.onRising) × (f ≡ d.newFaults.onFalling)
+Says r f n (value d) = (n ≡ 0) × (r ≡ d.new_faults.on_rising) × (f ≡ d.new_faults.on_falling)
 
 abbrev pub SaysAt : List ℕ → ℕ → Answer FaultCounts → Type 0
 SaysAt answers t x = Says (get_or answers t 0) (get_or answers (64 + t) 0) (get_or answers (128 + t) 0) x
 
 -- the store after the first t tests
-unfoldable pub storeAt : Netlist → (ℕ → Test) → ℕ → List ℕ → List ℕ
-storeAt N tests zero ws = ws
-storeAt N tests (suc t) ws = storeAfter (workStage N (tests t) (storeAt N tests t ws)) (storeAt N tests t ws)
+unfoldable pub store_at : Netlist → (ℕ → Test) → ℕ → List ℕ → List ℕ
+store_at N tests zero ws = ws
+store_at N tests (suc t) ws = store_after (work_stage N (tests t) (store_at N tests t ws)) (store_at N tests t ws)
 
 -- the store that n tests leave, and the answer of each
 pub record BlockCounted (N : Netlist) (tests : ℕ → Test) (n : ℕ) (ws ws' answers : List ℕ) : Type 0 where
   pub room : length answers ≡ 192
-  pub store : ws' ≡ storeAt N tests n ws
-  pub each : (t : ℕ) → t < n → SaysAt answers t (returnedBy (workStage N (tests t) (storeAt N tests t ws)))
+  pub store : ws' ≡ store_at N tests n ws
+  pub each : (t : ℕ) → t < n → SaysAt answers t (returned_by (work_stage N (tests t) (store_at N tests t ws)))

@@ -2,9 +2,9 @@
 ghost use Rattle.std.specs.Prelude.{◌≡◌, List, ℕ, ◌<◌, length};
 ghost use Rattle.model.specs.Netlist.{Netlist};
 ghost use Rattle.model.specs.Detect.{Test};
-ghost use Rattle.store_coverage.specs.Stage.{MemoryReady, workStage};
+ghost use Rattle.store_coverage.specs.Stage.{MemoryReady, work_stage};
 ghost use Rattle.store_coverage.specs.TestCall.{TestedIs};
-ghost use Rattle.block_counting.specs.Counts.{keepsBoth, countsKept, BothCounted, SomeBothCounted, totalsAfter, words_of, withAnswer, BlockCounted};
+ghost use Rattle.block_counting.specs.Counts.{keeps_both_of, counts_kept, BothCounted, SomeBothCounted, totals_after_of, words_of, with_answer, BlockCounted};
 ghost use Rattle.block_stage.specs.BlockStage.{BlockAt, BlockReady, MemoryKept};
 
 use block_activity::inner::Batch;
@@ -32,7 +32,7 @@ pub struct AnswerWords {
 
 // Whether both edges keep the runs that the store holds.
 fn keeps_both(answer: BothAnswer) -> bool
-    ensures { result ≡ keepsBoth answer }
+    ensures { result ≡ keeps_both_of answer }
 {
     match answer {
         BothAnswer::Fits(rising, falling) => match rising {
@@ -49,7 +49,7 @@ fn keeps_both(answer: BothAnswer) -> bool
 
 // What a stage that keeps the store's runs answers: nothing is new.
 fn count_kept(before: StoreTotals, answer: StageAnswer) -> TestAnswer
-    ensures { result ≡ countsKept before answer }
+    ensures { result ≡ counts_kept before answer }
 {
     match answer {
         StageAnswer::Refused(why) => TestAnswer::Refused(why),
@@ -71,7 +71,7 @@ fn count_both(
 ) -> TestAnswer
     requires { SomeBothCounted before answer store.old work.now }
     ensures { (N : Netlist) (t : Test) (found : List ℕ) → BothCounted N t store.old found work.now answer before
-        → TestedIs (workStage N t store.old) store.old store.new found work.now result }
+        → TestedIs (work_stage N t store.old) store.old store.new found work.now result }
 {
     let stage = write_both(answer, store, work);
     if keeps_both(answer) {
@@ -82,7 +82,7 @@ fn count_both(
 
 // The faults that a store holds after a record.
 fn totals_after(before: StoreTotals, answer: TestAnswer) -> StoreTotals
-    ensures { result ≡ totalsAfter before answer }
+    ensures { result ≡ totals_after_of before answer }
 {
     match answer {
         TestAnswer::Taken {
@@ -122,7 +122,7 @@ fn answer_words(answer: TestAnswer) -> AnswerWords
 // Puts the words of record t where the block's answers are.
 fn put_answer(answers: &mut [u64; 192], t: usize, words: AnswerWords)
     requires { (t < 64) × (length answers.old ≡ 192) }
-    ensures { answers.new ≡ withAnswer answers.old t words }
+    ensures { answers.new ≡ with_answer answers.old t words }
 {
     answers[t] = words.rising;
     answers[64 + t] = words.falling;

@@ -14,10 +14,10 @@ use Rattle.block_detection.specs.PathWords.{FaultReady, FaultWord, GatesStated, 
 
 module _ {file ps cs : List ℕ} {shape : Shape} {table work : List ℕ} {k : ℕ} (r : FaultReady file ps cs shape table work k) where
   pub block-inputs : shape.inputs ≤ 64
-  block-inputs = omega (arith, r.wanted.tables.inputsAre, (limits file r.wanted.circuit r.wanted.tables.legal).fewInputs)
+  block-inputs = omega (arith, r.wanted.tables.inputs_are, (limits file r.wanted.circuit r.wanted.tables.legal).few_inputs)
 
   pub block-table : SomeTable table shape.inputs shape.nets
-  block-table = record { circuit = r.wanted.circuit; isIn = r.gates }
+  block-table = record { circuit = r.wanted.circuit; is_in = r.gates }
 
   -- the same of other memory that is as long
   pub block-ready : {words : List ℕ} → length words ≡ length work → FaultReady file ps cs shape table words k
@@ -32,5 +32,5 @@ module _ {file ps cs : List ℕ} {shape : Shape} {table work : List ℕ} {k : �
           let same : r.wanted.circuit ≡ N = value_inj (sym r.wanted.tables.legal ∙ u.legal) in
           let c : CircuitTable N table shape.inputs shape.nets =
           subst (λ (M : Netlist). CircuitTable M table shape.inputs shape.nets) same r.gates in
-          f.right N tests n u b (g.right N tests n c b (inputs-stated few c (input-bits u.inputsAre v s₁ s₂) i));
+          f.right N tests n u b (g.right N tests n c b (inputs-stated few c (input-bits u.inputs_are v s₁ s₂) i));
     }

@@ -1,9 +1,9 @@
 // One path in a block of records: the active words of its pins, taken together. Each caller proves what a function requires.
 ghost use Rattle.std.specs.Prelude.{◌≡◌, ◌+◌, ◌*◌, ◌≤◌, ◌<◌, length, get_or};
-ghost use Rattle.path_faults.specs.Answers.{modelEdge};
-ghost use Rattle.block_words.specs.Layout.{netsSize};
+ghost use Rattle.path_faults.specs.Answers.{model_edge};
+ghost use Rattle.block_words.specs.Layout.{nets_size};
 ghost use Rattle.block_words.specs.Table.{SomeTable};
-ghost use Rattle.block_detection.specs.PathWords.{liveAt, PinThere, ActiveWord, WalkReady, PathWord, FaultReady, FaultWord, GatesStated, BlockWord};
+ghost use Rattle.block_detection.specs.PathWords.{live_at, PinThere, ActiveWord, WalkReady, PathWord, FaultReady, FaultWord, GatesStated, BlockWord};
 
 use block_transpose::inner::transpose;
 use block_words::inner::gates::{gate_at, scan_pins};
@@ -44,7 +44,7 @@ fn active_word(
     pin: usize,
 ) -> u64
     requires { PinThere table.now words.now shape net pin }
-    ensures { ActiveWord table.now words.now shape class (modelEdge edge) net pin result }
+    ensures { ActiveWord table.now words.now shape class (model_edge edge) net pin result }
 {
     let gate = gate_at(table, net);
     let scan = scan_pins(table, gate, words);
@@ -67,7 +67,7 @@ fn active_word(
 
 // The words of every net, from those of the inputs: one pass over the gates, as `gate_lists` makes it, without the lists.
 pub fn gate_words(table: &[u16; GATE_TABLE_SIZE], shape: Shape, class: u32, words: &mut [u64])
-    requires { SomeTable table.now shape.inputs shape.nets × (netsSize ≤ length words.old) }
+    requires { SomeTable table.now shape.inputs shape.nets × (nets_size ≤ length words.old) }
     ensures { GatesStated table.now shape class words.old words.new }
 {
     let mut rising_rows = [0u64; 8];
@@ -92,8 +92,8 @@ pub fn gate_words(table: &[u16; GATE_TABLE_SIZE], shape: Shape, class: u32, word
 
 // The live word of a net for an edge.
 fn live_word(words: &[u64], edge: Edge, net: usize) -> u64
-    requires { (net < 512) × (netsSize ≤ length words.now) }
-    ensures { result ≡ get_or words.now (8 * net + liveAt (modelEdge edge)) 0 }
+    requires { (net < 512) × (nets_size ≤ length words.now) }
+    ensures { result ≡ get_or words.now (8 * net + live_at (model_edge edge)) 0 }
 {
     match edge {
         Edge::Rising => words[8 * net + RISES],
@@ -113,7 +113,7 @@ pub fn path_word(
 ) -> u64
     requires { WalkReady netlist.now positions.now counts.now shape table.now words.now walk.net walk.number }
     ensures { PathWord netlist.now positions.now counts.now shape words.now walk.class
-        (modelEdge walk.edge) walk.net walk.number result }
+        (model_edge walk.edge) walk.net walk.number result }
 {
     let edge = walk.edge;
     let class = walk.class;
@@ -144,7 +144,7 @@ pub fn fault_word(
 ) -> u64
     requires { FaultReady netlist.now positions.now counts.now shape table.now words.now sought.path }
     ensures { FaultWord netlist.now positions.now counts.now shape words.now sought.class
-        (modelEdge sought.edge) sought.path result }
+        (model_edge sought.edge) sought.path result }
 {
     let number = sought.path;
     let edge = sought.edge;
@@ -173,7 +173,7 @@ pub fn block_word(
 ) -> u64
     requires { FaultReady netlist.now positions.now counts.now shape table.now work.old sought.path × (sought.records ≤ 64) }
     ensures { BlockWord netlist.now positions.now counts.now shape vectors.now sought.class
-        sought.records (modelEdge sought.edge) sought.path result }
+        sought.records (model_edge sought.edge) sought.path result }
 {
     let inputs = shape.inputs;
     let records = sought.records;

@@ -7,13 +7,13 @@ use lib.Pow.{pow_mono}
 use Rattle.model.specs.Base.{bit}
 use Rattle.model.specs.Runs.{Run, run}
 use Rattle.model.proofs.BoolLaws.{and_left, T→true, true→T, cases, equal_or_not}
-use Rattle.run_lists.specs.RunLists.{Sound, only_if, addRuns, shiftRuns}
-use Rattle.run_lists.proofs.MemberLaws.{member, run-path, runsOf-unique}
-use Rattle.run_union.proofs.AddRunLaws.{Asc, sound-asc, addRuns-sound, addRuns-member}
-use Rattle.record_bytes.proofs.BitLaws.{zero_bit, and-bit}
+use Rattle.run_lists.specs.RunLists.{Sound, only_if, add_runs, shift_runs}
+use Rattle.run_lists.proofs.MemberLaws.{member, run-path, runs_of-unique}
+use Rattle.run_union.proofs.AddRunLaws.{Asc, sound-asc, add_runs-sound, add_runs-member}
+use Rattle.record_bytes.proofs.BitLaws.{zero_bit, and_bit}
 use Rattle.record_bytes.proofs.BitLaws.{half-bit, first_bit}
 use Rattle.block_words.proofs.LowBitLaws.{low-there, others-stay, low-gone}
-use Rattle.block_intervals.specs.PinSpans.{bitRuns}
+use Rattle.block_intervals.specs.PinSpans.{bit_runs}
 
 -- ---- bits
 
@@ -36,68 +36,68 @@ pub set-within : (d n p : ℕ) → n < 2 ^ d → bit n p ≡ true → p < d
 set-within d n p h e = cases d p (λ l. absurd (mathlib.Core.Bool.false≢true (sym (past_word d n p h l) ∙ e))) (λ l. l)
 
 -- a bit of `and` is one of its first word
-pub and-within : (a b p : ℕ) → bit (bit_and a b) p ≡ true → bit a p ≡ true
-and-within a b p e = T→true (bit a p) (and_left (bit a p) (bit b p) (true→T (bit a p && bit b p) (sym (and-bit a b p) ∙ e)))
+pub and_within : (a b p : ℕ) → bit (bit_and a b) p ≡ true → bit a p ≡ true
+and_within a b p e = T→true (bit a p) (and_left (bit a p) (bit b p) (true→T (bit a p && bit b p) (sym (and_bit a b p) ∙ e)))
 
 -- ---- what they add
 
 module _ (f : ℕ → List Run) where
-  bits_none : (w n : ℕ) → ((p : ℕ) → p < n → bit w p ≡ false) → bitRuns f w n ≡ []
-  unfolding bitRuns
+  bits_none : (w n : ℕ) → ((p : ℕ) → p < n → bit w p ≡ false) → bit_runs f w n ≡ []
+  unfolding bit_runs
   bits_none w zero h = refl
   bits_none w (suc n) h =
-      ap (λ b. bitRuns f w n ++ only_if b (f n)) (h n (omega arith)) ∙ append-nil (bitRuns f w n) ∙ bits_none w n (λ p l. h p (omega arith))
+      ap (λ b. bit_runs f w n ++ only_if b (f n)) (h n (omega arith)) ∙ append-nil (bit_runs f w n) ∙ bits_none w n (λ p l. h p (omega arith))
 
-  pub no_bits : (n : ℕ) → bitRuns f 0 n ≡ []
+  pub no_bits : (n : ℕ) → bit_runs f 0 n ≡ []
   no_bits n = bits_none 0 n (λ p l. zero_bit p)
 
   -- places past the last set bit add nothing
-  pub bits-past : (w n m : ℕ) → n ≤ m → ((p : ℕ) → n ≤ p → bit w p ≡ false) → bitRuns f w m ≡ bitRuns f w n
-  unfolding bitRuns
-  bits-past w n zero l h = let e : 0 ≡ n = omega arith in ap (bitRuns f w) e
+  pub bits-past : (w n m : ℕ) → n ≤ m → ((p : ℕ) → n ≤ p → bit w p ≡ false) → bit_runs f w m ≡ bit_runs f w n
+  unfolding bit_runs
+  bits-past w n zero l h = let e : 0 ≡ n = omega arith in ap (bit_runs f w) e
   bits-past w n (suc m) l h = cases n m
-      (λ k. ap (λ b. bitRuns f w m ++ only_if b (f m)) (h m k) ∙ append-nil (bitRuns f w m) ∙ bits-past w n m k h)
-      (λ k. let e : suc m ≡ n = omega arith in ap (bitRuns f w) e)
+      (λ k. ap (λ b. bit_runs f w m ++ only_if b (f m)) (h m k) ∙ append-nil (bit_runs f w m) ∙ bits-past w n m k h)
+      (λ k. let e : suc m ≡ n = omega arith in ap (bit_runs f w) e)
 
   module _ (w w' low : ℕ) (below : (p : ℕ) → p < low → bit w p ≡ false) (there : bit w low ≡ true) (gone : bit w' low ≡ false)
       (stay : (p : ℕ) → (p ≡ low → ⊥) → bit w' p ≡ bit w p) where
-    bits-first : (n : ℕ) → low < n → bitRuns f w n ≡ f low ++ bitRuns f w' n
-    unfolding bitRuns
+    bits-first : (n : ℕ) → low < n → bit_runs f w n ≡ f low ++ bit_runs f w' n
+    unfolding bit_runs
     bits-first zero l = absurd (omega arith)
     bits-first (suc n) l =
         ⊎_elim
         (λ (e : n ≡ low). rw e (here))
         (λ (d : n ≡ low → ⊥).
-        (λ j. bits-first n (omega arith) j ++ only_if (sym (stay n d) j) (f n)) ∙ append_assoc (f low) (bitRuns f w' n) (only_if (bit w' n) (f n)))
+        (λ j. bits-first n (omega arith) j ++ only_if (sym (stay n d) j) (f n)) ∙ append_assoc (f low) (bit_runs f w' n) (only_if (bit w' n) (f n)))
         (equal_or_not n low)
       where
-        here : bitRuns f w low ++ only_if (bit w low) (f low) ≡ f low ++ (bitRuns f w' low ++ only_if (bit w' low) (f low))
+        here : bit_runs f w low ++ only_if (bit w low) (f low) ≡ f low ++ (bit_runs f w' low ++ only_if (bit w' low) (f low))
         here =
             (λ j. bits_none w low below j ++ only_if (there j) (f low)) ∙ sym (append-nil (f low))
             ∙ (λ j. f low ++ (sym (bits_none w' low (λ p k. stay p (omega arith) ∙ below p k)) j ++ only_if (sym gone j) (f low)))
 
   -- the lowest set bit of a word, then the others
   pub bits-low : {w : ℕ} (small : w < 2 ^ 64) (ne : w ≡ 0 → ⊥) {n : ℕ} → count_trailing_zeros 64 w < n
-      → bitRuns f w n ≡ f (count_trailing_zeros 64 w) ++ bitRuns f (bit_and w (w - 1)) n
+      → bit_runs f w n ≡ f (count_trailing_zeros 64 w) ++ bit_runs f (bit_and w (w - 1)) n
   bits-low {w} small ne {n} l =
       bits-first w (bit_and w (w - 1)) (count_trailing_zeros 64 w) (λ p k. below-low 64 w p k) (low-there small ne) (low-gone small ne) (others-stay small ne) n l
 
 -- ---- runs
 
 -- runs that are apart, added to none
-pub adds-alone : (n : ℕ) (s : List Run) → Sound n s → addRuns [] s ≡ s
+pub adds-alone : (n : ℕ) (s : List Run) → Sound n s → add_runs [] s ≡ s
 adds-alone n s u =
     let asc : Asc 1 n s = sound-asc 1 1 n s (omega arith) u in
-    runsOf-unique (λ x. member x s) n (addRuns [] s) (addRuns-sound 1 1 n [] s tt tt (omega arith) asc) (λ x h k. addRuns-member x 1 n [] s tt asc)
-    ∙ sym (runsOf-unique (λ x. member x s) n s u (λ x h k. refl))
+    runs_of-unique (λ x. member x s) n (add_runs [] s) (add_runs-sound 1 1 n [] s tt tt (omega arith) asc) (λ x h k. add_runs-member x 1 n [] s tt asc)
+    ∙ sym (runs_of-unique (λ x. member x s) n s u (λ x h k. refl))
 
-pub shift-shift : (a b : ℕ) (s : List Run) → shiftRuns a (shiftRuns b s) ≡ shiftRuns (b + a) s
+pub shift-shift : (a b : ℕ) (s : List Run) → shift_runs a (shift_runs b s) ≡ shift_runs (b + a) s
 shift-shift a b [] = refl
 shift-shift a b (r ∷ s) =
     let e : (k : ℕ) → k + b + a ≡ k + (b + a) = λ k. omega arith in
     (λ j. run (e r.low j) (e r.high j) ∷ shift-shift a b s j)
 
-pub shift_none : (s : List Run) → shiftRuns 0 s ≡ s
+pub shift_none : (s : List Run) → shift_runs 0 s ≡ s
 shift_none [] = refl
 shift_none (r ∷ s) =
     let e : (k : ℕ) → k + 0 ≡ k = λ k. omega arith in

@@ -2,18 +2,18 @@
 use Rattle.model.proofs.Prelude.{ℕ, ◌≤◌, ◌<◌, ◌+◌, ◌≡◌, ◌∙◌, subst, List, length, arith, needs}
 use Rattle.block_activity.proofs.OneMoreLaws.{one_more}
 use Rattle.block_intervals.specs.Spans.{first_of, end_of, shift_of, Ascending, InputSpans}
-use Rattle.block_intervals.specs.PinSpans.{withSpan, SameSpan}
+use Rattle.block_intervals.specs.PinSpans.{with_span, SameSpan}
 use Rattle.block_intervals.proofs.SectionLaws.{ascending-same}
 use Rattle.block_intervals.proofs.SpanCases.{span-length, span-others, span-past, span-first, span-end, span-shift}
-use Rattle.block_intervals.specs.Layout.{spansSize, ends_at, shifts_at, risingSections, fallingSections}
+use Rattle.block_intervals.specs.Layout.{spans_size, ends_at, shifts_at, rising_sections, falling_sections}
 
 pub record InputsSpanned (inputs : ℕ) (spans : List ℕ) (input : ℕ) : Type 0 where
   pub few : inputs ≤ 64
   pub within : input ≤ inputs
   pub spanned : InputSpans spans input
 
-pub spans-start : {inputs : ℕ} {spans : List ℕ} → inputs ≤ 64 → length spans ≡ spansSize → Ascending spans risingSections
-    → Ascending spans fallingSections → InputsSpanned inputs spans 0
+pub spans-start : {inputs : ℕ} {spans : List ℕ} → inputs ≤ 64 → length spans ≡ spans_size → Ascending spans rising_sections
+    → Ascending spans falling_sections → InputsSpanned inputs spans 0
 spans-start h room up down = record {
   few = h;
   within = omega arith;
@@ -25,17 +25,17 @@ module _ {inputs : ℕ} {spans : List ℕ} {input : ℕ} (x : InputsSpanned inpu
   spans-end h = let e : input ≡ inputs = omega (arith, x.within) in subst (λ n. InputSpans spans n) e x.spanned
 
   module _ (l : input < inputs) where
-    pub input-place : input < spansSize
+    pub input-place : input < spans_size
     input-place = omega (arith, x.few)
 
-    pub input-end-place : ends_at + input < spansSize
+    pub input-end-place : ends_at + input < spans_size
     input-end-place = omega (arith, x.few)
 
-    pub input-shift-place : shifts_at + input < spansSize
+    pub input-shift-place : shifts_at + input < spans_size
     input-shift-place = omega (arith, x.few)
 
     abbrev now : List ℕ
-    now = withSpan spans input 0 1 0
+    now = with_span spans input 0 1 0
 
     few : input < 512
     few = omega (arith, x.few)
@@ -43,7 +43,7 @@ module _ {inputs : ℕ} {spans : List ℕ} {input : ℕ} (x : InputsSpanned inpu
     others : (j : ℕ) → j < input → SameSpan spans now j
     others j h = span-others spans input 0 1 0 few j (omega arith) (λ e. omega arith)
 
-    pub spans-more : InputsSpanned inputs (withSpan spans input 0 1 0) (input + 1)
+    pub spans-more : InputsSpanned inputs (with_span spans input 0 1 0) (input + 1)
     spans-more =
         let room = x.spanned.room in
         record {

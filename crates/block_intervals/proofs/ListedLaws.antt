@@ -3,7 +3,7 @@ use Rattle.model.proofs.Prelude.{ℕ, ◌≤◌, ◌<◌, ◌+◌, suc, zero, �
 use Rattle.model.proofs.Prelude.{length-set, get_or-set_same, get_or-set_other, drop-set-lt, leb, arith, needs, le-leb, lt-leb, leb-true, leb-false}
 use Rattle.model.specs.Base.{bit}
 use Rattle.model.specs.Runs.{Run, run}
-use Rattle.model.specs.Store.{maxRuns}
+use Rattle.model.specs.Store.{max_runs}
 use Rattle.model.proofs.ReadLaws.{legal, Limits, limits}
 use Rattle.model.proofs.WellFormed.{WellFormed}
 use Rattle.run_lists.specs.RunLists.{only_if, run_at}
@@ -12,28 +12,28 @@ use Rattle.run_lists.specs.declared.inner.Added.{Added}
 use Rattle.run_lists.specs.declared.inner.Added.TheVariants.{Count, Full}
 use Rattle.run_lists.proofs.MemberLaws.{run-path}
 use Rattle.run_union.proofs.Adding.{answer-fits, adds-count}
-use Rattle.detection.specs.Cases.{Case, setRuns, detected, working}
-use Rattle.detection.specs.Walks.{inputRuns, runsBefore, Kept, Detects}
-use Rattle.detection.proofs.AddedLaws.{as-adds, adds-kept, full-count}
+use Rattle.detection.specs.Cases.{Case, set_runs_of, detected, working}
+use Rattle.detection.specs.Walks.{input_runs_of, runs_before, Kept, Detects}
+use Rattle.detection.proofs.AddedLaws.{as_adds, adds-kept, full-count}
 use Rattle.detection.proofs.KeptLaws.{kept_then}
-use Rattle.detection.proofs.DetectedLaws.{unmade-edge, input-set, few-detected}
+use Rattle.detection.proofs.DetectedLaws.{unmade_edge, input-set, few-detected}
 use Rattle.block_intervals.specs.Spans.{InputSpans, ListedAt, SomeListedAt, SpansMade}
 use Rattle.block_intervals.specs.PinSpans.{NetsListed, SomeNetsListed}
-use Rattle.block_intervals.specs.LiveOutputs.{runsOfOutputs, SpansListed}
+use Rattle.block_intervals.specs.LiveOutputs.{runs_of_outputs, SpansListed}
 use Rattle.block_intervals.proofs.LiveOutputLaws.{outputs-detect, outputs-ready}
 
-over-true : {b : Bool} {n : ℕ} → b ≡ true → b ≡ not (leb n maxRuns) → maxRuns < n
-over-true {b} {n} t e = go (leb n maxRuns) refl (sym t ∙ e)
+over-true : {b : Bool} {n : ℕ} → b ≡ true → b ≡ not (leb n max_runs) → max_runs < n
+over-true {b} {n} t e = go (leb n max_runs) refl (sym t ∙ e)
   where
-    go : (x : Bool) → leb n maxRuns ≡ x → true ≡ not x → maxRuns < n
+    go : (x : Bool) → leb n max_runs ≡ x → true ≡ not x → max_runs < n
     go true q d = absurd (mathlib.Core.Bool.true≢false d)
-    go false q d = leb-false n maxRuns q
+    go false q d = leb-false n max_runs q
 
-over_false : {b : Bool} {n : ℕ} → b ≡ false → b ≡ not (leb n maxRuns) → n ≤ maxRuns
-over_false {b} {n} t e = go (leb n maxRuns) refl (sym t ∙ e)
+over_false : {b : Bool} {n : ℕ} → b ≡ false → b ≡ not (leb n max_runs) → n ≤ max_runs
+over_false {b} {n} t e = go (leb n max_runs) refl (sym t ∙ e)
   where
-    go : (x : Bool) → leb n maxRuns ≡ x → false ≡ not x → n ≤ maxRuns
-    go true q d = leb-true n maxRuns q
+    go : (x : Bool) → leb n max_runs ≡ x → false ≡ not x → n ≤ max_runs
+    go true q d = leb-true n max_runs q
     go false q d = absurd (mathlib.Core.Bool.false≢true d)
 
 -- the words with the run 1 to 1 at run place 0
@@ -64,10 +64,10 @@ module _ {table offsets entries : List ℕ} {edges inputs : ℕ} {spans ws : Lis
     lim = limits a.circuit.file K.netlist a.circuit.legal
 
     pub listed-inputs : inputs ≤ 64
-    listed-inputs = omega (arith, a.circuit.inputsAre, lim.fewInputs)
+    listed-inputs = omega (arith, a.circuit.inputs_are, lim.few_inputs)
 
     pub listed-none : edges ≡ 0 → Detects K ws ws (Count 0)
-    listed-none z = unmade-edge K well z a.listed.makesEdge ws
+    listed-none z = unmade_edge K well z a.listed.makes_edge ws
 
     begun-listed : NetsListed K inputs table offsets entries spans (set (set ws 0 1) 1 1)
     begun-listed = record {
@@ -77,19 +77,19 @@ module _ {table offsets entries : List ℕ} {edges inputs : ℕ} {spans ws : Lis
         circuit = a.circuit;
         placed = a.placed;
         listed = a.listed;
-        inputSpans = a.inputSpans;
+        input_spans = a.input_spans;
         room = omega (arith, a.room, (begun_kept ws).same);
       };
-      firstRun = begun-run ws (omega (arith, a.room));
+      first_run_of = begun-run ws (omega (arith, a.room));
     }
 
     -- the runs of the inputs, by their bits
-    inputs-before : (n : ℕ) → n ≤ inputs → runsBefore (inputRuns edges) n ≡ runsBefore (setRuns K) n
-    unfolding inputRuns
+    inputs-before : (n : ℕ) → n ≤ inputs → runs_before (input_runs_of edges) n ≡ runs_before (set_runs_of K) n
+    unfolding input_runs_of
     inputs-before zero h = refl
     inputs-before (suc n) h =
-        let i : n < K.netlist.inputs = omega (arith, a.circuit.inputsAre) in
-        let e : only_if (bit edges n) (run 1 1 ∷ []) ≡ setRuns K n = ap (λ b. only_if b (run 1 1 ∷ [])) (a.listed.makesEdge n i) ∙ input-set K well n i in
+        let i : n < K.netlist.inputs = omega (arith, a.circuit.inputs_are) in
+        let e : only_if (bit edges n) (run 1 1 ∷ []) ≡ set_runs_of K n = ap (λ b. only_if b (run 1 1 ∷ [])) (a.listed.makes_edge n i) ∙ input-set K well n i in
         omega (arith, inputs-before n (omega arith), ap (length {A = Run}) e)
 
   pub listed-nets : SomeListedAt table offsets entries edges inputs spans ws → SomeNetsListed table offsets entries spans (set (set ws 0 1) 1 1)
@@ -99,7 +99,7 @@ module _ {table offsets entries : List ℕ} {edges inputs : ℕ} {spans ws : Lis
   module _ {ws₁ spans₁ : List ℕ} {q : Added}
       (made : (K : Case) (inputs : ℕ) → NetsListed K inputs table offsets entries spans (set (set ws 0 1) 1 1) → SpansMade K inputs (set (set ws 0 1) 1 1) ws₁ spans₁ q) where
     pub listed-spans : SomeListedAt table offsets entries edges inputs spans ws → InputSpans spans₁ inputs
-    listed-spans k = (made k.case inputs (begun-listed k.at-list)).inputSpans
+    listed-spans k = (made k.case inputs (begun-listed k.at-list)).input_spans
 
     module _ {K : Case} {outs : ℕ} (a : ListedAt K table offsets entries edges outs inputs spans ws) where
       m : SpansMade K inputs (set (set ws 0 1) 1 1) ws₁ spans₁ q
@@ -108,7 +108,7 @@ module _ {table offsets entries : List ℕ} {edges inputs : ℕ} {spans ws : Lis
       kept : Kept ws ws₁
       kept = kept_then (begun_kept ws) m.kept
 
-      over : maxRuns < working K → SpansListed K offsets outs spans₁ ws ws₁ Full
+      over : max_runs < working K → SpansListed K offsets outs spans₁ ws ws₁ Full
       over l = record {
         kept = kept;
         over = λ e. l;
@@ -120,18 +120,18 @@ module _ {table offsets entries : List ℕ} {edges inputs : ℕ} {spans ws : Lis
       pub listed-full : q ≡ Full → SpansListed K offsets outs spans₁ ws ws₁ Full
       listed-full t = over (m.full t)
 
-      module _ {n : ℕ} (t : q ≡ Count n) {b : Bool} (e : b ≡ not (leb (runsBefore (inputRuns edges) inputs + n) maxRuns)) where
-        working-is : runsBefore (inputRuns edges) inputs + n ≡ working K
+      module _ {n : ℕ} (t : q ≡ Count n) {b : Bool} (e : b ≡ not (leb (runs_before (input_runs_of edges) inputs + n) max_runs)) where
+        working-is : runs_before (input_runs_of edges) inputs + n ≡ working K
         working-is = ap (λ k. k + n) (inputs-before a inputs (omega arith)) ∙ m.total n t
 
         pub listed-over : b ≡ true → SpansListed K offsets outs spans₁ ws ws₁ Full
-        listed-over o = over (omega (arith, over-true {n = runsBefore (inputRuns edges) inputs + n} o e, working-is))
+        listed-over o = over (omega (arith, over-true {n = runs_before (input_runs_of edges) inputs + n} o e, working-is))
 
         pub listed-fits : b ≡ false → SpansListed K offsets outs spans₁ ws ws₁ (Count n)
         listed-fits f = record {
           kept = kept;
           over = λ p. absurd (full-count (sym p));
-          fits = λ k p. omega (arith, over_false {n = runsBefore (inputRuns edges) inputs + n} f e, working-is);
+          fits = λ k p. omega (arith, over_false {n = runs_before (input_runs_of edges) inputs + n} f e, working-is);
           ready = λ k p. outputs-ready K (well a) (lim a) a.placed a.listed (m.spans n t) (omega (arith, a.room, kept.same));
           detects = λ k p. outputs-detect K (well a) (lim a) a.placed a.listed (m.spans n t);
         }
@@ -141,20 +141,20 @@ module _ {table offsets entries : List ℕ} {edges inputs : ℕ} {spans ws : Lis
       (s : SpansListed K offsets outs spans₁ ws ws₁ q) where
     pub spans-over : q ≡ Full → Detects K ws ws₁ Full
     spans-over t = record {
-      answers = ap (λ x. cond x (Count (length (detected K))) Full) (sym (lt-leb (working K) maxRuns (s.over t)));
-      runsAre = λ n p. absurd (full-count p);
+      answers = ap (λ x. cond x (Count (length (detected K))) Full) (sym (lt-leb (working K) max_runs (s.over t)));
+      runs_are = λ n p. absurd (full-count p);
       kept = λ k h. s.kept.above k (omega arith);
     }
 
-    pub spans-detect : {n : ℕ} → q ≡ Count n → {ws₂ : List ℕ} {r : Added} → Adds ws₁ ws₂ maxRuns maxRuns (runsOfOutputs offsets outs spans₁ ws₁) r → Detects K ws ws₂ r
+    pub spans-detect : {n : ℕ} → q ≡ Count n → {ws₂ : List ℕ} {r : Added} → Adds ws₁ ws₂ max_runs max_runs (runs_of_outputs offsets outs spans₁ ws₁) r → Detects K ws ws₂ r
     spans-detect {n} t {ws₂} {r} x =
-        let y : Adds ws₁ ws₂ maxRuns maxRuns (detected K) r = as-adds (s.detects n t) refl x in
-        let fit : working K ≤ maxRuns = s.fits n t in
+        let y : Adds ws₁ ws₂ max_runs max_runs (detected K) r = as_adds (s.detects n t) refl x in
+        let fit : working K ≤ max_runs = s.fits n t in
         record {
           answers =
-              y.answers ∙ answer-fits maxRuns (detected K) (length (detected K)) refl (omega (arith, few-detected K (well a)))
-              ∙ ap (λ z. cond z (Count (length (detected K))) Full) (sym (le-leb (working K) maxRuns fit));
-          runsAre = λ k p. (adds-count ws₁ ws₂ maxRuns maxRuns k (detected K) r (omega (arith, a.room, s.kept.same)) p y).2;
+              y.answers ∙ answer-fits max_runs (detected K) (length (detected K)) refl (omega (arith, few-detected K (well a)))
+              ∙ ap (λ z. cond z (Count (length (detected K))) Full) (sym (le-leb (working K) max_runs fit));
+          runs_are = λ k p. (adds-count ws₁ ws₂ max_runs max_runs k (detected K) r (omega (arith, a.room, s.kept.same)) p y).2;
           kept = λ k h. adds-kept k (omega arith) y ∙ s.kept.above k (omega arith);
         }
 

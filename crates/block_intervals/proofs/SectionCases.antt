@@ -6,10 +6,10 @@ use lib.Count.{count_trailing_zeros}
 use mir.Val.{Fits}
 use mir.Syntax.{w64}
 use Rattle.model.specs.Base.{bit}
-use Rattle.model.specs.Store.{maxRuns}
+use Rattle.model.specs.Store.{max_runs}
 use Rattle.model.proofs.BoolLaws.{equal_or_not}
 use Rattle.model.specs.Runs.{run}
-use Rattle.run_lists.specs.RunLists.{Sound, RunWithin, shiftRun, run_at, runsInWords}
+use Rattle.run_lists.specs.RunLists.{Sound, RunWithin, shift_run, run_at, runs_in_words}
 use Rattle.run_lists.specs.Answers.{RunInside}
 use Rattle.run_lists.proofs.RunWordLaws.{sound-at}
 use Rattle.record_bytes.proofs.BitLaws.{zero_bit}
@@ -17,9 +17,9 @@ use Rattle.block_words.proofs.LowBitLaws.{low-in, low-there, less-left, others-s
 use Rattle.block_intervals.specs.Spans.{Ascending}
 use Rattle.block_intervals.specs.LiveOutputs.{OutputReady, OutputsReady}
 use Rattle.block_intervals.specs.Sections.{SectionIn, SpanHeld, OutputHeld, OutputsHeld, Asked}
-use Rattle.block_intervals.proofs.BitRunLaws.{and-within}
+use Rattle.block_intervals.proofs.BitRunLaws.{and_within}
 use Rattle.block_intervals.proofs.WholeOutputLaws.{no_answer, whole-held}
-use Rattle.block_intervals.specs.Layout.{fallingSections}
+use Rattle.block_intervals.specs.Layout.{falling_sections}
 
 -- ---- one run, at the place that was found
 
@@ -28,7 +28,7 @@ module _ {held : List ℕ} {low high : ℕ} where
   run-not = no_answer
 
   pub run-there : (at : ℕ) → at < length held / 2 → get_or held (2 * at) 0 ≤ low → leb high (get_or held (2 * at + 1) 0) ≡ true → RunInside held 0 (length held / 2) (run low high)
-  run-there at h l e = record { place = at; begun = omega arith; ended = h; notBelow = l; notAbove = leb-true high (get_or held (2 * at + 1) 0) e }
+  run-there at h l e = record { place = at; begun = omega arith; ended = h; not_below = l; not_above = leb-true high (get_or held (2 * at + 1) 0) e }
 
 pub ruleset run-cases = (run-not, run-there, needs)
 
@@ -39,11 +39,11 @@ pub record SpanWalk (ws : List ℕ) (from to shift : ℕ) (held : List ℕ) (i :
   pub within : i ≤ to
   pub room : 2 * to ≤ length ws
   pub small : shift ≤ 2 ^ 62
-  pub sound : Sound (2 ^ 62) (runsInWords ws from (to - from))
-  pub done : (j : ℕ) → from ≤ j → j < i → RunInside held 0 (length held / 2) (shiftRun shift (run_at ws j))
+  pub sound : Sound (2 ^ 62) (runs_in_words ws from (to - from))
+  pub done : (j : ℕ) → from ≤ j → j < i → RunInside held 0 (length held / 2) (shift_run shift (run_at ws j))
 
 module _ {ws : List ℕ} {from to shift : ℕ} {held : List ℕ} where
-  pub span-begin : from ≤ to → 2 * to ≤ length ws → shift ≤ 2 ^ 62 → Sound (2 ^ 62) (runsInWords ws from (to - from)) → SpanWalk ws from to shift held from
+  pub span-begin : from ≤ to → 2 * to ≤ length ws → shift ≤ 2 ^ 62 → Sound (2 ^ 62) (runs_in_words ws from (to - from)) → SpanWalk ws from to shift held from
   span-begin h r l s = record { begun = omega arith; within = h; room = r; small = l; sound = s; done = λ j p q. absurd (omega arith) }
 
   pub span-not : false ≡ true → SpanHeld ws from to shift held
@@ -76,7 +76,7 @@ module _ {ws : List ℕ} {from to shift : ℕ} {held : List ℕ} where
         sound = x.sound;
         done = λ j p q.
             ⊎_elim
-            (λ (d : j ≡ i). subst⁻¹ (λ n. RunInside held 0 (length held / 2) (shiftRun shift (run_at ws n))) d (f (sym (Bool·not-not b) ∙ ap not e)))
+            (λ (d : j ≡ i). subst⁻¹ (λ n. RunInside held 0 (length held / 2) (shift_run shift (run_at ws n))) d (f (sym (Bool·not-not b) ∙ ap not e)))
             (λ (d : j ≡ i → ⊥). x.done j p (omega (arith, d)))
             (equal_or_not j i);
       }
@@ -89,7 +89,7 @@ pub held-not : {offsets : List ℕ} {outs : ℕ} {spans ws held : List ℕ} → 
 held-not = no_answer
 
 pub record HeldSoFar (offsets : List ℕ) (outs : ℕ) (spans : List ℕ) (base : ℕ) (ws held : List ℕ) (left : ℕ) : Type 0 where
-  pub few : base ≤ fallingSections
+  pub few : base ≤ falling_sections
   pub ready : OutputsReady offsets outs spans ws
   pub ascending : Ascending spans base
   pub last : get_or spans (base + 64) 0 ≤ length held / 2
@@ -98,7 +98,7 @@ pub record HeldSoFar (offsets : List ℕ) (outs : ℕ) (spans : List ℕ) (base 
   pub done : (o : ℕ) → o < 64 → bit outs o ≡ true → bit left o ≡ false → OutputHeld offsets spans ws held o
 
 module _ {offsets : List ℕ} {outs : ℕ} {spans : List ℕ} {base : ℕ} {ws held : List ℕ} where
-  pub held-begin : base ≤ fallingSections → OutputsReady offsets outs spans ws → Ascending spans base → get_or spans (base + 64) 0 ≤ length held / 2
+  pub held-begin : base ≤ falling_sections → OutputsReady offsets outs spans ws → Ascending spans base → get_or spans (base + 64) 0 ≤ length held / 2
       → {left : ℕ} → Asked offsets outs held left → HeldSoFar offsets outs spans base ws held left
   held-begin b r a l q = record {
     few = b;
@@ -121,10 +121,10 @@ module _ {offsets : List ℕ} {outs : ℕ} {spans : List ℕ} {base : ℕ} {ws h
       pub held_fits : Fits w64 (count_trailing_zeros 64 left)
       held_fits = record { fits = omega (arith, held_in) }
 
-      pub held-few : base ≤ fallingSections
+      pub held-few : base ≤ falling_sections
       held-few = x.few
 
-      pub held-room : 4 * maxRuns ≤ length ws
+      pub held-room : 4 * max_runs ≤ length ws
       held-room = x.ready.room
 
       pub held-ready : OutputReady offsets spans ws (count_trailing_zeros 64 left)
@@ -148,7 +148,7 @@ module _ {offsets : List ℕ} {outs : ℕ} {spans : List ℕ} {base : ℕ} {ws h
         ascending = x.ascending;
         last = x.last;
         small = omega (arith, held-less, x.small);
-        within = λ o t. x.within o (and-within left (left - 1) o t);
+        within = λ o t. x.within o (and_within left (left - 1) o t);
         done = λ o h t u.
             ⊎_elim
             (λ (d : o ≡ count_trailing_zeros 64 left). subst⁻¹ (λ n. OutputHeld offsets spans ws held n) d (f (sym (Bool·not-not b) ∙ ap not e)))

@@ -7,16 +7,16 @@ use lib.Count.{count_trailing_zeros}
 use lib.Pow.{shr_le}
 use Rattle.model.specs.Base.{bit}
 use Rattle.model.proofs.BoolLaws.{cases}
-use Rattle.record_bytes.proofs.BitLaws.{and-bit, zero_bit}
+use Rattle.record_bytes.proofs.BitLaws.{and_bit, zero_bit}
 use Rattle.run_lists.proofs.RunWordLaws.{sound-at}
 use Rattle.block_words.proofs.LowBitLaws.{low-there}
-use Rattle.block_words.proofs.WordBitLaws.{not-bit}
+use Rattle.block_words.proofs.WordBitLaws.{not_bit}
 use Rattle.block_transpose.proofs.WordShiftLaws.{right-bit}
 use Rattle.block_intervals.specs.Spans.{first_of, end_of}
 use Rattle.block_intervals.specs.LiveOutputs.{OutputsReady}
 use Rattle.block_intervals.specs.Sections.{OutputHeld, FirstHolds, Asked}
-use Rattle.block_intervals.proofs.BitRunLaws.{set-within, and-within}
-use Rattle.block_activity.specs.Layout.{outputOffsetsAt, out_at}
+use Rattle.block_intervals.proofs.BitRunLaws.{set-within, and_within}
+use Rattle.block_activity.specs.Layout.{output_offsets_at, out_at}
 
 pub no_answer : {A : Type 0} → false ≡ true → A
 no_answer e = absurd (mathlib.Core.Bool.false≢true e)
@@ -43,12 +43,12 @@ pub asked-all : {offsets : List ℕ} {outs : ℕ} {held : List ℕ} → outs < 2
 asked-all s = record { small = s; within = λ o e. e; others = λ o h t f. no_answer (sym f ∙ t) }
 
 pub asked-rest : {offsets : List ℕ} {outs : ℕ} {held : List ℕ} (whole first : ℕ) → outs < 2 ^ 64 → whole < 2 ^ 64 → whole / 2 ^ first ≡ 0 → (outs / 2 ^ first ≡ 0 → ⊥)
-    → 2 ≤ length held → get_or held 0 0 ≤ 1 → get_or offsets (outputOffsetsAt + first) 0 ≤ get_or held 1 0 → Asked offsets outs held (bit_and outs ((2 ^ 64 - 1) - whole))
+    → 2 ≤ length held → get_or held 0 0 ≤ 1 → get_or offsets (output_offsets_at + first) 0 ≤ get_or held 1 0 → Asked offsets outs held (bit_and outs ((2 ^ 64 - 1) - whole))
 asked-rest {outs = outs} whole first s u below ne some low high = record {
   small = lt_of_le_of_lt (and_le_l outs ((2 ^ 64 - 1) - whole)) s;
-  within = λ o e. and-within outs ((2 ^ 64 - 1) - whole) o e;
+  within = λ o e. and_within outs ((2 ^ 64 - 1) - whole) o e;
   others = λ o h t f.
-      let gone = taken-away (bit outs o) (bit whole o) t (sym (and-bit outs ((2 ^ 64 - 1) - whole) o ∙ ap (λ b. bit outs o && b) (not-bit whole o u h)) ∙ f) in
+      let gone = taken-away (bit outs o) (bit whole o) t (sym (and_bit outs ((2 ^ 64 - 1) - whole) o ∙ ap (λ b. bit outs o && b) (not_bit whole o u h)) ∙ f) in
       record {
         next = first;
         last = first + count_trailing_zeros 64 (outs / 2 ^ first);
@@ -70,6 +70,6 @@ pub whole-held : {offsets : List ℕ} {outs : ℕ} {spans ws held : List ℕ} �
 whole-held {offsets} {spans = spans} {ws = ws} {held = held} r {o} h t f = record {
   each = λ i a b.
       let within = sound-at _ ws (first_of spans (out_at offsets o)) (end_of spans (out_at offsets o)) i (r.each o h t).sound a b in
-      let ends = (r.inOrder o f.next f.last f.after f.up_to f.few t f.live).each i a b in
-      record { place = 0; begun = omega arith; ended = f.some; notBelow = omega (arith, f.low, within.least); notAbove = omega (arith, ends, f.high) };
+      let ends = (r.in_order o f.next f.last f.after f.up_to f.few t f.live).each i a b in
+      record { place = 0; begun = omega arith; ended = f.some; not_below = omega (arith, f.low, within.least); not_above = omega (arith, ends, f.high) };
 }

@@ -5,43 +5,43 @@ use lib.Bits.{bit_and}
 use mir.Val.{Fits}
 use mir.Syntax.{w64}
 use Rattle.model.specs.Base.{bit}
-use Rattle.model.specs.Store.{maxRuns}
+use Rattle.model.specs.Store.{max_runs}
 use Rattle.model.proofs.BoolLaws.{cases}
 use Rattle.model.specs.Runs.{run}
-use Rattle.gate_packed_pins.specs.Packed.{oneWhere}
+use Rattle.gate_packed_pins.specs.Packed.{one_where_of}
 use Rattle.run_lists.specs.RunLists.{only_if}
-use Rattle.detection.specs.Walks.{inputRuns, runsBefore}
+use Rattle.detection.specs.Walks.{input_runs_of, runs_before}
 use Rattle.detection.proofs.KeptLaws.{runs-next}
 use Rattle.block_words.proofs.PackCases.{bit-number, bit-small}
 
-many-only : (b : Bool) → length (only_if b (run 1 1 ∷ [])) ≡ oneWhere b
+many-only : (b : Bool) → length (only_if b (run 1 1 ∷ [])) ≡ one_where_of b
 many-only true = refl
 many-only false = refl
 
 -- an input's digit is how many runs it has
-digit-runs : (edges input : ℕ) → bit_and (edges / 2 ^ input) 1 ≡ length (inputRuns edges input)
-unfolding inputRuns
-digit-runs edges input = bit-number edges input ∙ add-zero (oneWhere (bit edges input)) ∙ sym (many-only (bit edges input))
+digit-runs : (edges input : ℕ) → bit_and (edges / 2 ^ input) 1 ≡ length (input_runs_of edges input)
+unfolding input_runs_of
+digit-runs edges input = bit-number edges input ∙ add-zero (one_where_of (bit edges input)) ∙ sym (many-only (bit edges input))
 
-few-runs : (edges n : ℕ) → runsBefore (inputRuns edges) n ≤ n
+few-runs : (edges n : ℕ) → runs_before (input_runs_of edges) n ≤ n
 few-runs edges zero = omega arith
 few-runs edges (suc n) = omega (arith, few-runs edges n, digit-runs edges n, bit-small edges n)
 
 module _ (total edges inputs : ℕ) where
-  pub few-working : inputs ≤ 64 → total ≤ maxRuns - 64 → false ≡ not (leb (runsBefore (inputRuns edges) inputs + total) maxRuns)
-  few-working h l = sym (ap not (le-leb (runsBefore (inputRuns edges) inputs + total) maxRuns (omega (arith, few-runs edges inputs))))
+  pub few-working : inputs ≤ 64 → total ≤ max_runs - 64 → false ≡ not (leb (runs_before (input_runs_of edges) inputs + total) max_runs)
+  few-working h l = sym (ap not (le-leb (runs_before (input_runs_of edges) inputs + total) max_runs (omega (arith, few-runs edges inputs))))
 
-  pub many-working : maxRuns < total → true ≡ not (leb (runsBefore (inputRuns edges) inputs + total) maxRuns)
-  many-working l = sym (ap not (lt-leb (runsBefore (inputRuns edges) inputs + total) maxRuns (omega arith)))
+  pub many-working : max_runs < total → true ≡ not (leb (runs_before (input_runs_of edges) inputs + total) max_runs)
+  many-working l = sym (ap not (lt-leb (runs_before (input_runs_of edges) inputs + total) max_runs (omega arith)))
 
 -- the sum is `total` and the runs of the inputs so far
 pub record InputsSummed (total edges inputs input sum : ℕ) : Type 0 where
   pub few : inputs ≤ 64
-  pub used : total ≤ maxRuns
+  pub used : total ≤ max_runs
   pub within : input ≤ inputs
-  pub summed : sum ≡ runsBefore (inputRuns edges) input + total
+  pub summed : sum ≡ runs_before (input_runs_of edges) input + total
 
-pub sum-start : (total edges inputs : ℕ) → inputs ≤ 64 → total ≤ maxRuns → InputsSummed total edges inputs 0 total
+pub sum-start : (total edges inputs : ℕ) → inputs ≤ 64 → total ≤ max_runs → InputsSummed total edges inputs 0 total
 sum-start total edges inputs h l = record { few = h; used = l; within = omega arith; summed = omega arith }
 
 module _ {total edges inputs input sum : ℕ} (x : InputsSummed total edges inputs input sum) where
@@ -56,15 +56,15 @@ module _ {total edges inputs input sum : ℕ} (x : InputsSummed total edges inpu
     few = x.few;
     used = x.used;
     within = omega arith;
-    summed = omega (arith, x.summed, runs-next (inputRuns edges) input, digit-runs edges input);
+    summed = omega (arith, x.summed, runs-next (input_runs_of edges) input, digit-runs edges input);
   }
 
-  pub sum-end : inputs ≤ input → ltb 1024 sum ≡ not (leb (runsBefore (inputRuns edges) inputs + total) maxRuns)
+  pub sum-end : inputs ≤ input → ltb 1024 sum ≡ not (leb (runs_before (input_runs_of edges) inputs + total) max_runs)
   sum-end h =
       let e : input ≡ inputs = omega (arith, x.within) in
-      let s : sum ≡ runsBefore (inputRuns edges) inputs + total = x.summed ∙ ap (λ n. runsBefore (inputRuns edges) n + total) e in
-      cases (runsBefore (inputRuns edges) inputs + total) maxRuns
-      (λ l. le-ltb 1024 sum (omega arith) ∙ sym (ap not (le-leb (runsBefore (inputRuns edges) inputs + total) maxRuns l)))
-      (λ l. lt-ltb 1024 sum (omega arith) ∙ sym (ap not (lt-leb (runsBefore (inputRuns edges) inputs + total) maxRuns l)))
+      let s : sum ≡ runs_before (input_runs_of edges) inputs + total = x.summed ∙ ap (λ n. runs_before (input_runs_of edges) n + total) e in
+      cases (runs_before (input_runs_of edges) inputs + total) max_runs
+      (λ l. le-ltb 1024 sum (omega arith) ∙ sym (ap not (le-leb (runs_before (input_runs_of edges) inputs + total) max_runs l)))
+      (λ l. lt-ltb 1024 sum (omega arith) ∙ sym (ap not (lt-leb (runs_before (input_runs_of edges) inputs + total) max_runs l)))
 
 pub ruleset working-cases = (few-working, many-working, sum-start, sum-place, sum_fits, sum_more, sum-end, needs)

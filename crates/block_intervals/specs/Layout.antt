@@ -9,15 +9,15 @@ abbrev pub shifts_at : ℕ
 shifts_at = 1024
 
 -- then the sections of each edge: 64 begins and the end of the last, then a bit for each of the first outputs whose path numbers all lie in the first held run
-abbrev pub risingSections : ℕ
-risingSections = 1536
+abbrev pub rising_sections : ℕ
+rising_sections = 1536
 
-abbrev pub fallingSections : ℕ
-fallingSections = 1602
+abbrev pub falling_sections : ℕ
+falling_sections = 1602
 
 -- the places of the sections of both edges, and all places
-abbrev pub sectionsSize : ℕ
-sectionsSize = 132
+abbrev pub sections_size : ℕ
+sections_size = 132
 
-abbrev pub spansSize : ℕ
-spansSize = 1668
+abbrev pub spans_size : ℕ
+spans_size = 1668

@@ -6,7 +6,7 @@ ghost use Rattle.std.specs.Prelude.{◌≡◌, ℕ, ◌≤◌, length};
 ghost use Rattle.detection.specs.Cases.{Case};
 ghost use Rattle.block_intervals.specs.Spans.{InputSpans, ListedAt, SomeListedAt};
 ghost use Rattle.block_intervals.specs.LiveOutputs.{SpansListed};
-ghost use Rattle.block_intervals.specs.Layout.{spansSize};
+ghost use Rattle.block_intervals.specs.Layout.{spans_size};
 
 use crate::inner::sections::clear_sections;
 use crate::layout::{ENDS_AT, SHIFTS_AT, SPANS_SIZE};
@@ -17,7 +17,7 @@ use run_lists::inner::Added;
 
 // The spans of the inputs, the same for every record and edge: each has the run at run place 0. The sections of both edges are empty until they are found.
 pub fn input_spans(spans: &mut [u64; SPANS_SIZE], inputs: usize)
-    requires { (inputs ≤ 64) × (length spans.old ≡ spansSize) }
+    requires { (inputs ≤ 64) × (length spans.old ≡ spans_size) }
     ensures { InputSpans spans.new inputs }
 {
     clear_sections(spans);

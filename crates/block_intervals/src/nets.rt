@@ -1,13 +1,13 @@
 // The runs of the listed nets of one record, in list order.
 ghost use Rattle.std.specs.Prelude.{◌≡◌, not, ℕ, ◌+◌, ◌-◌, ◌*◌, ◌/◌, ◌<◌, ◌≤◌, ◌^◌, leb};
-ghost use Rattle.model.specs.Store.{maxRuns};
-ghost use Rattle.run_lists.specs.RunLists.{addRuns, runsInWords};
+ghost use Rattle.model.specs.Store.{max_runs};
+ghost use Rattle.run_lists.specs.RunLists.{add_runs, runs_in_words};
 ghost use Rattle.run_lists.specs.Answers.{Room, Adds};
 ghost use Rattle.detection.specs.Cases.{Case};
-ghost use Rattle.detection.specs.Walks.{inputRuns, runsBefore};
+ghost use Rattle.detection.specs.Walks.{input_runs_of, runs_before};
 ghost use Rattle.block_intervals.specs.Spans.{first_of, end_of, SpansMade};
-ghost use Rattle.block_intervals.specs.PinSpans.{sourceAt, shiftAt, pinRuns, byteRuns, entryRuns, withSpan, PinReady, ByteReady, EntryReady, NetSpanned, NetsListed, SomeNetsListed};
-ghost use Rattle.block_words.specs.Layout.{kindsAt};
+ghost use Rattle.block_intervals.specs.PinSpans.{source_at, shift_at, pin_runs_of, byte_runs, entry_runs_of, with_span, PinReady, ByteReady, EntryReady, NetSpanned, NetsListed, SomeNetsListed};
+ghost use Rattle.block_words.specs.Layout.{kinds_at};
 
 use crate::layout::{ENDS_AT, SHIFTS_AT, SPANS_SIZE};
 use block_activity::inner::layout::OFFSET_TABLE_SIZE;
@@ -26,7 +26,7 @@ pub(crate) enum Grown {
 // Writes where the runs of a net stand.
 fn put_span(spans: &mut [u64; SPANS_SIZE], net: usize, first: usize, end: usize, shift: u64)
     requires { net < 512 }
-    ensures { spans.new ≡ withSpan spans.old net first end shift }
+    ensures { spans.new ≡ with_span spans.old net first end shift }
 {
     spans[net] = first as u64;
     spans[ENDS_AT + net] = end as u64;
@@ -41,11 +41,11 @@ fn one_pin(
     net: usize,
     spans: &mut [u64; SPANS_SIZE],
 ) -> usize
-    requires net_bound { (net < 512) × (at < kindsAt) × (sourceAt table.now at < 512) × (shiftAt table.now offsets.now spans.old at ≤ 2 ^ 62) }
-    requires at_bound { (first_of spans.old (sourceAt table.now at) ≤ end_of spans.old (sourceAt table.now at)) × (end_of spans.old (sourceAt table.now at) ≤ maxRuns) }
-    ensures { (spans.new ≡ withSpan spans.old net (first_of spans.old (sourceAt table.now at))
-        (end_of spans.old (sourceAt table.now at)) (shiftAt table.now offsets.now spans.old at))
-        × (result ≡ end_of spans.old (sourceAt table.now at) - first_of spans.old (sourceAt table.now at)) }
+    requires net_bound { (net < 512) × (at < kinds_at) × (source_at table.now at < 512) × (shift_at table.now offsets.now spans.old at ≤ 2 ^ 62) }
+    requires at_bound { (first_of spans.old (source_at table.now at) ≤ end_of spans.old (source_at table.now at)) × (end_of spans.old (source_at table.now at) ≤ max_runs) }
+    ensures { (spans.new ≡ with_span spans.old net (first_of spans.old (source_at table.now at))
+        (end_of spans.old (source_at table.now at)) (shift_at table.now offsets.now spans.old at))
+        × (result ≡ end_of spans.old (source_at table.now at) - first_of spans.old (source_at table.now at)) }
 {
     let source = table[at] as usize;
     let first = spans[source] as usize;
@@ -65,11 +65,11 @@ fn add_pin(
     made: usize,
     count: usize,
 ) -> Added
-    requires at_lt_kinds_at { (at < kindsAt) × (made ≤ maxRuns) }
-    requires room { Room words.old made count (maxRuns - made) }
+    requires at_lt_kinds_at { (at < kinds_at) × (made ≤ max_runs) }
+    requires room { Room words.old made count (max_runs - made) }
     requires pin_ready { PinReady table.now offsets.now spans.now words.old made at }
-    ensures { Adds words.old words.new made (maxRuns - made)
-        (addRuns (runsInWords words.old made count) (pinRuns table.now offsets.now spans.now words.old at)) result }
+    ensures { Adds words.old words.new made (max_runs - made)
+        (add_runs (runs_in_words words.old made count) (pin_runs_of table.now offsets.now spans.now words.old at)) result }
 {
     let source = table[at] as usize;
     append_shifted(
@@ -94,8 +94,8 @@ fn more_pins(
     made: usize,
 ) -> Added
     requires { ByteReady table.now offsets.now spans.now words.old made first byte }
-    ensures { Adds words.old words.new made (maxRuns - made)
-        (byteRuns table.now offsets.now first byte spans.now words.old) result }
+    ensures { Adds words.old words.new made (max_runs - made)
+        (byte_runs table.now offsets.now first byte spans.now words.old) result }
 {
     let mut left = byte;
     let mut count = 0;
@@ -124,7 +124,7 @@ fn net_span(
     made: usize,
 ) -> Grown
     requires { EntryReady table.now offsets.now entry spans.old words.old made }
-    ensures { NetSpanned made (entry / 256) (entryRuns table.now offsets.now entry spans.old words.old)
+    ensures { NetSpanned made (entry / 256) (entry_runs_of table.now offsets.now entry spans.old words.old)
         spans.old words.old spans.new words.new result }
 {
     let net = (entry / 256) as usize;
@@ -180,7 +180,7 @@ pub(crate) fn net_spans(
 // hardly ever counted.
 pub(crate) fn over_working(total: usize, edges: u64, inputs: usize) -> bool
     requires { inputs ≤ 64 }
-    ensures { result ≡ not (leb (runsBefore (inputRuns edges) inputs + total) maxRuns) }
+    ensures { result ≡ not (leb (runs_before (input_runs_of edges) inputs + total) max_runs) }
 {
     if total <= MAX_RUNS - 64 {
         return false;

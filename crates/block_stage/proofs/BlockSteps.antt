@@ -4,11 +4,11 @@ use Rattle.model.proofs.Prelude.{needs}
 use Rattle.model.specs.Base.{Answer, refused, ◌into◌, after}
 use Rattle.model.specs.Netlist.{Netlist, nets}
 use Rattle.model.specs.Detect.{Test}
-use Rattle.model.specs.Refusals.{refusalNumber}
-use Rattle.model.specs.Calls.{Tested, storeLeft, workWords}
+use Rattle.model.specs.Refusals.{refusal_number_of}
+use Rattle.model.specs.Calls.{Tested, store_left, work_words_count}
 use Rattle.model.specs.declared.Refusal.{Refusal}
 use Rattle.model.proofs.ReadLaws.{limits}
-use Rattle.store_coverage.specs.Stage.{MemoryReady, workStage, storeAfter, stageOf, StageIs}
+use Rattle.store_coverage.specs.Stage.{MemoryReady, work_stage, store_after, stage_of, StageIs}
 use Rattle.store_coverage.specs.declared.inner.StageAnswer.{StageAnswer}
 use Rattle.store_coverage.specs.declared.inner.StageAnswer.TheVariants as stage
 use Rattle.store_words.specs.Sound.{FewRuns}
@@ -16,14 +16,14 @@ use Rattle.store_coverage.proofs.EdgesLaws.{memory-few}
 use Rattle.store_coverage.proofs.TestCallLaws.{refused-by, taken-by}
 use Rattle.store_coverage.proofs.WorkMemory.{work-memory}
 use Rattle.block_words.specs.Table.{CircuitTable}
-use Rattle.block_activity.specs.Marks.{OffsetTable, MarksTrue, entriesOf}
+use Rattle.block_activity.specs.Marks.{OffsetTable, MarksTrue, entries_of}
 use Rattle.block_activity.specs.declared.inner.Batch.{Batch}
 use Rattle.block_intervals.specs.Spans.{InputSpans}
 use Rattle.block_stage.specs.Listed.{edges_at, ListedBoth, SomeListedBoth}
-use Rattle.block_stage.specs.BlockStage.{workAll, oneMoreTest, workTaken, BlockAt, BlockReady, BlockTaken, MemoryKept}
+use Rattle.block_stage.specs.BlockStage.{work_all, one_more_test, work_taken, BlockAt, BlockReady, BlockTaken, MemoryKept}
 use Rattle.block_stage.specs.declared.inner.listed.RecordEdges.{RecordEdges}
-use Rattle.block_words.specs.Layout.{listSize}
-use Rattle.block_activity.specs.Layout.{upLengthsAt, downLengthsAt}
+use Rattle.block_words.specs.Layout.{list_size}
+use Rattle.block_activity.specs.Layout.{up_lengths_at, down_lengths_at}
 
 -- a block by the numbers that the loop holds, and the store and the words that it is handed
 pub record BlockIn (N : Netlist) (tests : ℕ → Test) (table offsets risingLists fallingLists marks : List ℕ) (inputs records : ℕ) (ws work : List ℕ) : Type 0 where
@@ -40,8 +40,8 @@ block_in b m = record {
   circuit = record {
     file = b.circuit.file;
     legal = b.circuit.legal;
-    inputsAre = b.circuit.inputsAre;
-    netsAre = refl;
+    inputs_are = b.circuit.inputs_are;
+    nets_are = refl;
     rows = b.circuit.rows;
   };
   placed = b.placed;
@@ -51,40 +51,40 @@ block_in b m = record {
 
 -- one record of a block: its lists lie in the block's, and with spans and memory at hand they are what its place Work is handed
 abbrev pub list_of : List ℕ → List ℕ → ℕ → ℕ → List ℕ
-list_of entries marks lengths t = take (listSize * t + get_or marks (lengths + t) 0 - listSize * t) (drop (listSize * t) entries)
+list_of entries marks lengths t = take (list_size * t + get_or marks (lengths + t) 0 - list_size * t) (drop (list_size * t) entries)
 
 module _ {N : Netlist} {tests : ℕ → Test} {table offsets risingLists fallingLists marks : List ℕ} {inputs records : ℕ} {ws₀ work₀ : List ℕ}
     (b : BlockIn N tests table offsets risingLists fallingLists marks inputs records ws₀ work₀) where
   pub block-inputs : inputs ≤ 64
-  block-inputs = omega (arith, b.circuit.inputsAre, (limits b.circuit.file N b.circuit.legal).fewInputs)
+  block-inputs = omega (arith, b.circuit.inputs_are, (limits b.circuit.file N b.circuit.legal).few_inputs)
 
   module _ {t : ℕ} (h : t < records) where
-    pub up-inside : listSize * t + get_or marks (upLengthsAt + t) 0 ≤ length risingLists
-    up-inside = (b.marked.each t h).upRoom
+    pub up-inside : list_size * t + get_or marks (up_lengths_at + t) 0 ≤ length risingLists
+    up-inside = (b.marked.each t h).up_room_of
 
-    pub down-inside : listSize * t + get_or marks (downLengthsAt + t) 0 ≤ length fallingLists
-    down-inside = (b.marked.each t h).downRoom
+    pub down-inside : list_size * t + get_or marks (down_lengths_at + t) 0 ≤ length fallingLists
+    down-inside = (b.marked.each t h).down_room
 
     pub listed_here : {edges : RecordEdges} {outputs : ℕ} → edges ≡ edges_at marks t inputs outputs → {ws spans work : List ℕ} → InputSpans spans inputs → MemoryReady N ws work
-        → ListedBoth N (tests t) table offsets (list_of risingLists marks upLengthsAt t) (list_of fallingLists marks downLengthsAt t) edges ws spans work
+        → ListedBoth N (tests t) table offsets (list_of risingLists marks up_lengths_at t) (list_of fallingLists marks down_lengths_at t) edges ws spans work
     listed_here {outputs = outputs} ee {ws = ws} {spans = spans} {work = work} i m =
         let r = b.marked.each t h in
-        let part : (n : ℕ) → n ≡ listSize * t + n - listSize * t = λ n. omega arith in
-        let up = get_or marks (upLengthsAt + t) 0 in
-        let down = get_or marks (downLengthsAt + t) 0 in
-        let both : ListedBoth N (tests t) table offsets (entriesOf risingLists up t) (entriesOf fallingLists down t) (edges_at marks t inputs outputs) ws spans work =
+        let part : (n : ℕ) → n ≡ list_size * t + n - list_size * t = λ n. omega arith in
+        let up = get_or marks (up_lengths_at + t) 0 in
+        let down = get_or marks (down_lengths_at + t) 0 in
+        let both : ListedBoth N (tests t) table offsets (entries_of risingLists up t) (entries_of fallingLists down t) (edges_at marks t inputs outputs) ws spans work =
         record {
           circuit = b.circuit;
           placed = b.placed;
           rises = r.rises;
           falls = r.falls;
-          inputSpans = i;
+          input_spans = i;
           memory = m;
         } in
-        subst (λ (e : RecordEdges). ListedBoth N (tests t) table offsets (list_of risingLists marks upLengthsAt t) (list_of fallingLists marks downLengthsAt t) e ws spans work) (sym ee)
-        (subst (λ (n : ℕ). ListedBoth N (tests t) table offsets (list_of risingLists marks upLengthsAt t) (take n (drop (listSize * t) fallingLists)) (edges_at marks t inputs outputs) ws spans work)
+        subst (λ (e : RecordEdges). ListedBoth N (tests t) table offsets (list_of risingLists marks up_lengths_at t) (list_of fallingLists marks down_lengths_at t) e ws spans work) (sym ee)
+        (subst (λ (n : ℕ). ListedBoth N (tests t) table offsets (list_of risingLists marks up_lengths_at t) (take n (drop (list_size * t) fallingLists)) (edges_at marks t inputs outputs) ws spans work)
         (part down)
-        (subst (λ (n : ℕ). ListedBoth N (tests t) table offsets (take n (drop (listSize * t) risingLists)) (entriesOf fallingLists down t) (edges_at marks t inputs outputs) ws spans work)
+        (subst (λ (n : ℕ). ListedBoth N (tests t) table offsets (take n (drop (list_size * t) risingLists)) (entries_of fallingLists down t) (edges_at marks t inputs outputs) ws spans work)
         (part up) both))
 
 -- one test more of those that are left
@@ -92,24 +92,24 @@ module _ (N : Netlist) (tests : ℕ → Test) (t records : ℕ) (h : t < records
   one_less : records - t ≡ suc (records - (t + 1))
   one_less = let e : records - t ≡ records - (t + 1) + 1 = omega arith in e ∙ add-one (records - (t + 1))
 
-  all-next : workAll N tests t (records - t) ws ≡ (workStage N (tests t) ws into λ d. workAll N tests (t + 1) (records - (t + 1)) (storeLeft d))
-  unfolding workAll
+  all-next : work_all N tests t (records - t) ws ≡ (work_stage N (tests t) ws into λ d. work_all N tests (t + 1) (records - (t + 1)) (store_left d))
+  unfolding work_all
   all-next =
-      ap (λ (n : ℕ). workAll N tests t n ws) one_less
-      ∙ ap (λ (s : ℕ). workStage N (tests t) ws into λ d. workAll N tests s (records - (t + 1)) (storeLeft d)) (sym (add-one t))
+      ap (λ (n : ℕ). work_all N tests t n ws) one_less
+      ∙ ap (λ (s : ℕ). work_stage N (tests t) ws into λ d. work_all N tests s (records - (t + 1)) (store_left d)) (sym (add-one t))
 
-  taken_next : workTaken N tests t (records - t) ws ≡ oneMoreTest (workStage N (tests t) ws) (λ d. workTaken N tests (t + 1) (records - (t + 1)) (storeLeft d))
-  unfolding workTaken
+  taken_next : work_taken N tests t (records - t) ws ≡ one_more_test (work_stage N (tests t) ws) (λ d. work_taken N tests (t + 1) (records - (t + 1)) (store_left d))
+  unfolding work_taken
   taken_next =
-      ap (λ (n : ℕ). workTaken N tests t n ws) one_less
-      ∙ ap (λ (s : ℕ). oneMoreTest (workStage N (tests t) ws) (λ d. workTaken N tests s (records - (t + 1)) (storeLeft d))) (sym (add-one t))
+      ap (λ (n : ℕ). work_taken N tests t n ws) one_less
+      ∙ ap (λ (s : ℕ). one_more_test (work_stage N (tests t) ws) (λ d. work_taken N tests s (records - (t + 1)) (store_left d))) (sym (add-one t))
 
 module _ (table offsets risingLists fallingLists marks ws₀ work₀ : List ℕ) (inputs records : ℕ) where
   -- the tests before test t are taken: those that are left, from the store so far, give the whole
   pub record SoFar (N : Netlist) (tests : ℕ → Test) (ws work : List ℕ) (t : ℕ) : Type 0 where
     pub memory : MemoryReady N ws work
-    pub rest : workAll N tests t (records - t) ws ≡ workAll N tests 0 records ws₀
-    pub counted : t + workTaken N tests t (records - t) ws ≡ workTaken N tests 0 records ws₀
+    pub rest : work_all N tests t (records - t) ws ≡ work_all N tests 0 records ws₀
+    pub counted : t + work_taken N tests t (records - t) ws ≡ work_taken N tests 0 records ws₀
 
   pub record Applying (ws work spans : List ℕ) (t : ℕ) : Type 0 where
     pub within : t ≤ records
@@ -117,11 +117,11 @@ module _ (table offsets risingLists fallingLists marks ws₀ work₀ : List ℕ)
     pub circuit : Netlist
     pub tests : ℕ → Test
     pub block : BlockIn circuit tests table offsets risingLists fallingLists marks inputs records ws₀ work₀
-    pub inputSpans : InputSpans spans inputs
+    pub input_spans : InputSpans spans inputs
     pub so_far : (N : Netlist) (tests : ℕ → Test) → BlockIn N tests table offsets risingLists fallingLists marks inputs records ws₀ work₀ → SoFar N tests ws work t
     pub same_store : length ws ≡ length ws₀
-    pub sameLength : length work ≡ length work₀
-    pub pastWork : drop workWords work ≡ drop workWords work₀
+    pub same_length_of : length work ≡ length work₀
+    pub past_work : drop work_words_count work ≡ drop work_words_count work₀
 
 module _ {table offsets risingLists fallingLists marks ws₀ work₀ : List ℕ} {inputs records : ℕ} where
   module _ {ws work spans : List ℕ} {t : ℕ} (g : Applying table offsets risingLists fallingLists marks ws₀ work₀ inputs records ws work spans t) where
@@ -129,45 +129,45 @@ module _ {table offsets risingLists fallingLists marks ws₀ work₀ : List ℕ}
     here = g.so_far g.circuit g.tests g.block
 
     pub ended-kept : MemoryKept ws work₀ work
-    ended-kept = record { storeLength = here.memory.storeLength; sameLength = g.sameLength; pastWork = g.pastWork }
+    ended-kept = record { store_length = here.memory.store_length; same_length_of = g.same_length_of; past_work = g.past_work }
 
     pub ended : records ≤ t → (N : Netlist) (tests : ℕ → Test) → BlockIn N tests table offsets risingLists fallingLists marks inputs records ws₀ work₀
         → BlockTaken (record { taken = t; answer = stage.Taken }) N tests records ws₀ ws
-    unfolding workAll workTaken
+    unfolding work_all work_taken
     ended h N tests b =
         let s = g.so_far N tests b in
         let z : records - t ≡ 0 = omega arith in
-        let none : t + 0 ≡ workTaken N tests 0 records ws₀ = ap (λ (n : ℕ). t + workTaken N tests t n ws) (sym z) ∙ s.counted in
-        record { answer = ap (λ (n : ℕ). workAll N tests t n ws) (sym z) ∙ s.rest; taken = omega (arith, none) }
+        let none : t + 0 ≡ work_taken N tests 0 records ws₀ = ap (λ (n : ℕ). t + work_taken N tests t n ws) (sym z) ∙ s.counted in
+        record { answer = ap (λ (n : ℕ). work_all N tests t n ws) (sym z) ∙ s.rest; taken = omega (arith, none) }
 
     module _ (h : t < records) where
       module _ {edges : RecordEdges} {outputs : ℕ} (ee : edges ≡ edges_at marks t inputs outputs) where
-        pub some-listed : SomeListedBoth table offsets (list_of risingLists marks upLengthsAt t) (list_of fallingLists marks downLengthsAt t) edges ws spans work
-        some-listed = record { circuit = g.circuit; test = g.tests t; listed = listed_here g.block h ee g.inputSpans here.memory }
+        pub some-listed : SomeListedBoth table offsets (list_of risingLists marks up_lengths_at t) (list_of fallingLists marks down_lengths_at t) edges ws spans work
+        some-listed = record { circuit = g.circuit; test = g.tests t; listed = listed_here g.block h ee g.input_spans here.memory }
 
         module _ {ws' work' : List ℕ} {r : StageAnswer}
-            (a : (N : Netlist) (test : Test) → ListedBoth N test table offsets (list_of risingLists marks upLengthsAt t) (list_of fallingLists marks downLengthsAt t) edges ws spans work
-            → StageIs (workStage N test ws) ws ws' work work' r) where
+            (a : (N : Netlist) (test : Test) → ListedBoth N test table offsets (list_of risingLists marks up_lengths_at t) (list_of fallingLists marks down_lengths_at t) edges ws spans work
+            → StageIs (work_stage N test ws) ws ws' work work' r) where
           now-is : (N : Netlist) (tests : ℕ → Test) → BlockIn N tests table offsets risingLists fallingLists marks inputs records ws₀ work₀
-              → StageIs (workStage N (tests t) ws) ws ws' work work' r
-          now-is N tests b = a N (tests t) (listed_here b h ee g.inputSpans (g.so_far N tests b).memory)
+              → StageIs (work_stage N (tests t) ws) ws ws' work work' r
+          now-is N tests b = a N (tests t) (listed_here b h ee g.input_spans (g.so_far N tests b).memory)
 
-          this : StageIs (workStage g.circuit (g.tests t) ws) ws ws' work work' r
+          this : StageIs (work_stage g.circuit (g.tests t) ws) ws ws' work work' r
           this = now-is g.circuit g.tests g.block
 
           module _ {w : Refusal} (q : r ≡ stage.Refused w) where
             refuses : (N : Netlist) (tests : ℕ → Test) → BlockIn N tests table offsets risingLists fallingLists marks inputs records ws₀ work₀
-                → workStage N (tests t) ws ≡ refused (refusalNumber w)
-            refuses N tests b = refused-by (workStage N (tests t) ws) (refusalNumber w) (sym (ap stageOf q) ∙ (now-is N tests b).answer)
+                → work_stage N (tests t) ws ≡ refused (refusal_number_of w)
+            refuses N tests b = refused-by (work_stage N (tests t) ws) (refusal_number_of w) (sym (ap stage_of q) ∙ (now-is N tests b).answer)
 
             pub refused-kept : MemoryKept ws' work₀ work'
-            unfolding storeAfter
+            unfolding store_after
             refused-kept =
-                let same : ws' ≡ ws = this.store ∙ ap (λ (x : Answer Tested). after x ws storeLeft) (refuses g.circuit g.tests g.block) in
+                let same : ws' ≡ ws = this.store ∙ ap (λ (x : Answer Tested). after x ws store_left) (refuses g.circuit g.tests g.block) in
                 record {
-                  storeLength = ap (length {A = ℕ}) same ∙ here.memory.storeLength;
-                  sameLength = this.sameLength ∙ g.sameLength;
-                  pastWork = this.pastWork ∙ g.pastWork;
+                  store_length = ap (length {A = ℕ}) same ∙ here.memory.store_length;
+                  same_length_of = this.same_length_of ∙ g.same_length_of;
+                  past_work = this.past_work ∙ g.past_work;
                 }
 
             pub refused-here : (N : Netlist) (tests : ℕ → Test) → BlockIn N tests table offsets risingLists fallingLists marks inputs records ws₀ work₀
@@ -175,40 +175,40 @@ module _ {table offsets risingLists fallingLists marks ws₀ work₀ : List ℕ}
             refused-here N tests b =
                 let s = g.so_far N tests b in
                 let x = refuses N tests b in
-                let whole : workAll N tests 0 records ws₀ ≡ refused (refusalNumber w) = sym s.rest ∙ all-next N tests t records h ws ∙ rw x refl in
-                let none : workTaken N tests t (records - t) ws ≡ 0 = taken_next N tests t records h ws ∙ rw x refl in
+                let whole : work_all N tests 0 records ws₀ ≡ refused (refusal_number_of w) = sym s.rest ∙ all-next N tests t records h ws ∙ rw x refl in
+                let none : work_taken N tests t (records - t) ws ≡ 0 = taken_next N tests t records h ws ∙ rw x refl in
                 record { answer = sym whole; taken = omega (arith, none, s.counted) }
 
           module _ (q : r ≡ stage.Taken) where
             taken_here : (N : Netlist) (tests : ℕ → Test) → BlockIn N tests table offsets risingLists fallingLists marks inputs records ws₀ work₀
                 → SoFar table offsets risingLists fallingLists marks ws₀ work₀ inputs records N tests ws' work' (t + 1)
-            unfolding storeAfter
+            unfolding store_after
             taken_here N tests b =
                 let s = g.so_far N tests b in
                 let x = now-is N tests b in
-                let p = taken-by (workStage N (tests t) ws) (sym (ap stageOf q) ∙ x.answer) in
-                let left : ws' ≡ storeLeft p.got = x.store ∙ ap (λ (y : Answer Tested). after y ws storeLeft) p.is in
-                let others : workTaken N tests t (records - t) ws ≡ 1 + workTaken N tests (t + 1) (records - (t + 1)) ws' =
-                taken_next N tests t records h ws ∙ rw p.is (ap (λ (y : List ℕ). 1 + workTaken N tests (t + 1) (records - (t + 1)) y) (sym left)) in
+                let p = taken-by (work_stage N (tests t) ws) (sym (ap stage_of q) ∙ x.answer) in
+                let left : ws' ≡ store_left p.got = x.store ∙ ap (λ (y : Answer Tested). after y ws store_left) p.is in
+                let others : work_taken N tests t (records - t) ws ≡ 1 + work_taken N tests (t + 1) (records - (t + 1)) ws' =
+                taken_next N tests t records h ws ∙ rw p.is (ap (λ (y : List ℕ). 1 + work_taken N tests (t + 1) (records - (t + 1)) y) (sym left)) in
                 record {
-                  memory = subst (λ (y : List ℕ). MemoryReady N y work') (sym left) (work-memory N (tests t) ws p.is s.memory x.sameLength);
-                  rest = sym (all-next N tests t records h ws ∙ rw p.is (ap (λ (y : List ℕ). workAll N tests (t + 1) (records - (t + 1)) y) (sym left))) ∙ s.rest;
+                  memory = subst (λ (y : List ℕ). MemoryReady N y work') (sym left) (work-memory N (tests t) ws p.is s.memory x.same_length_of);
+                  rest = sym (all-next N tests t records h ws ∙ rw p.is (ap (λ (y : List ℕ). work_all N tests (t + 1) (records - (t + 1)) y) (sym left))) ∙ s.rest;
                   counted = omega (arith, others, s.counted);
                 }
 
-            pub record-taken : {spans' : List ℕ} → InputSpans spans' edges.inputs
+            pub record_taken : {spans' : List ℕ} → InputSpans spans' edges.inputs
                 → Applying table offsets risingLists fallingLists marks ws₀ work₀ inputs records ws' work' spans' (t + 1)
-            record-taken {spans' = spans'} i = record {
+            record_taken {spans' = spans'} i = record {
               within = omega arith;
               few = g.few;
               circuit = g.circuit;
               tests = g.tests;
               block = g.block;
-              inputSpans = subst (λ (e : RecordEdges). InputSpans spans' e.inputs) ee i;
+              input_spans = subst (λ (e : RecordEdges). InputSpans spans' e.inputs) ee i;
               so_far = taken_here;
-              same_store = (taken_here g.circuit g.tests g.block).memory.storeLength ∙ sym g.block.memory.storeLength;
-              sameLength = this.sameLength ∙ g.sameLength;
-              pastWork = this.pastWork ∙ g.pastWork;
+              same_store = (taken_here g.circuit g.tests g.block).memory.store_length ∙ sym g.block.memory.store_length;
+              same_length_of = this.same_length_of ∙ g.same_length_of;
+              past_work = this.past_work ∙ g.past_work;
             }
 
 -- a block as it is handed over, and as it is answered for
@@ -227,16 +227,16 @@ module _ {table offsets risingLists fallingLists marks : List ℕ} {batch : Batc
     circuit = h.netlist;
     tests = h.tests;
     block = block-begun;
-    inputSpans = i;
+    input_spans = i;
     so_far = λ N tests b. (let z : batch.records - 0 ≡ batch.records = omega arith in
         record {
           memory = b.memory;
-          rest = ap (λ (n : ℕ). workAll N tests 0 n ws₀) z;
-          counted = let w : workTaken N tests 0 (batch.records - 0) ws₀ ≡ workTaken N tests 0 batch.records ws₀ = ap (λ (n : ℕ). workTaken N tests 0 n ws₀) z in omega arith;
+          rest = ap (λ (n : ℕ). work_all N tests 0 n ws₀) z;
+          counted = let w : work_taken N tests 0 (batch.records - 0) ws₀ ≡ work_taken N tests 0 batch.records ws₀ = ap (λ (n : ℕ). work_taken N tests 0 n ws₀) z in omega arith;
         });
     same_store = refl;
-    sameLength = refl;
-    pastWork = refl;
+    same_length_of = refl;
+    past_work = refl;
   }
 
 pub ruleset block-cases = (block_start, needs)

@@ -3,28 +3,28 @@ use Rattle.std.specs.Prelude.{◌≡◌, List, ℕ, zero, suc, ◌+◌, ◌≤�
 use Rattle.model.specs.Base.{Answer, refused, value, ◌into◌, ◌then◌}
 use Rattle.model.specs.Netlist.{Netlist}
 use Rattle.model.specs.Detect.{Test}
-use Rattle.model.specs.Store.{storeWords}
-use Rattle.model.specs.Calls.{Tested, storeLeft, workWords}
-use Rattle.store_coverage.specs.Stage.{MemoryReady, stageOf, workStage}
+use Rattle.model.specs.Store.{store_words_count}
+use Rattle.model.specs.Calls.{Tested, store_left, work_words_count}
+use Rattle.store_coverage.specs.Stage.{MemoryReady, stage_of, work_stage}
 use Rattle.block_words.specs.Table.{CircuitTable}
 use Rattle.block_activity.specs.Marks.{OffsetTable, MarksTrue}
 use Rattle.block_activity.specs.declared.inner.Batch.{Batch}
 use Rattle.block_stage.specs.declared.inner.Applied.{Applied}
 
 -- the place Work with n tests in order, from test t on: the number of the first refusal, or the store that they leave
-unfoldable pub workAll : Netlist → (ℕ → Test) → ℕ → ℕ → List ℕ → Answer (List ℕ)
-workAll N tests t zero ws = value ws
-workAll N tests t (suc n) ws = workStage N (tests t) ws into λ d. workAll N tests (suc t) n (storeLeft d)
+unfoldable pub work_all : Netlist → (ℕ → Test) → ℕ → ℕ → List ℕ → Answer (List ℕ)
+work_all N tests t zero ws = value ws
+work_all N tests t (suc n) ws = work_stage N (tests t) ws into λ d. work_all N tests (suc t) n (store_left d)
 
 -- one more if a test is taken, and none once one is refused
-abbrev pub oneMoreTest : Answer Tested → (Tested → ℕ) → ℕ
-oneMoreTest (refused n) others = 0
-oneMoreTest (value d) others = 1 + others d
+abbrev pub one_more_test : Answer Tested → (Tested → ℕ) → ℕ
+one_more_test (refused n) others = 0
+one_more_test (value d) others = 1 + others d
 
 -- how many of them are taken before the first that is refused; all if none is
-unfoldable pub workTaken : Netlist → (ℕ → Test) → ℕ → ℕ → List ℕ → ℕ
-workTaken N tests t zero ws = 0
-workTaken N tests t (suc n) ws = oneMoreTest (workStage N (tests t) ws) (λ d. workTaken N tests (suc t) n (storeLeft d))
+unfoldable pub work_taken : Netlist → (ℕ → Test) → ℕ → ℕ → List ℕ → ℕ
+work_taken N tests t zero ws = 0
+work_taken N tests t (suc n) ws = one_more_test (work_stage N (tests t) ws) (λ d. work_taken N tests (suc t) n (store_left d))
 
 -- a block of a netlist: its tables, and what is marked of each record
 pub record BlockAt (N : Netlist) (tests : ℕ → Test) (table offsets risingLists fallingLists marks : List ℕ) (batch : Batch) : Type 0 where
@@ -41,10 +41,10 @@ pub record BlockReady (table offsets risingLists fallingLists marks : List ℕ) 
 
 -- the answer with the store that is left, how many were taken, and what holds of the lent memory
 pub record BlockTaken (r : Applied) (N : Netlist) (tests : ℕ → Test) (n : ℕ) (ws ws' : List ℕ) : Type 0 where
-  pub answer : (stageOf r.answer then value ws') ≡ workAll N tests 0 n ws
-  pub taken : r.taken ≡ workTaken N tests 0 n ws
+  pub answer : (stage_of r.answer then value ws') ≡ work_all N tests 0 n ws
+  pub taken : r.taken ≡ work_taken N tests 0 n ws
 
 pub record MemoryKept (ws' work work' : List ℕ) : Type 0 where
-  pub storeLength : length ws' ≡ storeWords
-  pub sameLength : length work' ≡ length work
-  pub pastWork : drop workWords work' ≡ drop workWords work
+  pub store_length : length ws' ≡ store_words_count
+  pub same_length_of : length work' ≡ length work
+  pub past_work : drop work_words_count work' ≡ drop work_words_count work

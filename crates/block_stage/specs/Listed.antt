@@ -9,15 +9,15 @@ use Rattle.detection.specs.Cases.{case_of}
 use Rattle.block_activity.specs.Marks.{OffsetTable, ListedEdge}
 use Rattle.block_intervals.specs.Spans.{InputSpans}
 use Rattle.block_stage.specs.declared.inner.listed.RecordEdges.{RecordEdges}
-use Rattle.block_activity.specs.Layout.{upOutsAt, downOutsAt}
+use Rattle.block_activity.specs.Layout.{up_outs_at, down_outs_at}
 
 -- record t of a block, from the words of its marks
 abbrev pub edges_at : List ℕ → ℕ → ℕ → ℕ → RecordEdges
 edges_at marks t n outputs = record {
   rises = get_or marks t 0;
   falls = get_or marks (64 + t) 0;
-  up_outs = get_or marks (upOutsAt + t) 0;
-  down_outs = get_or marks (downOutsAt + t) 0;
+  up_outs = get_or marks (up_outs_at + t) 0;
+  down_outs = get_or marks (down_outs_at + t) 0;
   inputs = n;
   outputs = outputs;
 }
@@ -28,7 +28,7 @@ pub record ListedBoth (N : Netlist) (t : Test) (table offsets risingList falling
   pub placed : OffsetTable N offsets
   pub rises : ListedEdge (case_of N t rising) risingList edges.rises edges.up_outs
   pub falls : ListedEdge (case_of N t falling) fallingList edges.falls edges.down_outs
-  pub inputSpans : InputSpans spans edges.inputs
+  pub input_spans : InputSpans spans edges.inputs
   pub memory : MemoryReady N ws work
 
 -- the same of some test

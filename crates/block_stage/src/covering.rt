@@ -1,6 +1,6 @@
 // One edge of a store with what a record of a block detects. Each caller proves what a function requires.
 ghost use Rattle.detection.specs.Cases.{Case};
-ghost use Rattle.store_coverage.specs.Covers.{heldRuns, Covers};
+ghost use Rattle.store_coverage.specs.Covers.{held_runs, Covers};
 ghost use Rattle.block_intervals.specs.Spans.{InputSpans};
 ghost use Rattle.block_stage.specs.Covering.{EdgeReady, SomeEdgeReady};
 
@@ -38,7 +38,7 @@ pub(crate) fn cover_edge(
     requires { SomeEdgeReady table.now offsets.now entries.now marks held.now spans.old words.old }
     ensures { InputSpans spans.new marks.inputs
         × ((K : Case) → EdgeReady K table.now offsets.now entries.now marks held.now spans.old words.old
-        → Covers K (heldRuns held.now) words.old words.new marks.target result) }
+        → Covers K (held_runs held.now) words.old words.new marks.target result) }
 {
     let edges = marks.edges;
     let outs = marks.outs;

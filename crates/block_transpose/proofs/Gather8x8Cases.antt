@@ -4,7 +4,7 @@ use Rattle.model.proofs.Prelude.{arith}
 use native.Mathlib.Nat.{zero-div}
 use lib.Bits.{bit_and, bit_or, mask_lt}
 use Rattle.model.specs.Base.{bit}
-use Rattle.record_bytes.proofs.BitLaws.{or-bit}
+use Rattle.record_bytes.proofs.BitLaws.{or_bit}
 use Rattle.block_transpose.specs.Vectors.{BitsSpread, Gathered}
 use Rattle.block_transpose.proofs.WordShiftLaws.{right-bit, left-bit, left-none, byte-bit}
 
@@ -18,8 +18,8 @@ pub record Gathering (vectors : List ℕ) (first shift word t : ℕ) : Type 0 wh
   pub free : (i u : ℕ) → i < 8 → u < 8 → 8 ≤ t + u → bit word (8 * i + u) ≡ false
 
 module _ {vectors : List ℕ} {first shift : ℕ} where
-  pub gather-start : Gathering vectors first shift 0 8
-  gather-start = record {
+  pub gather_start : Gathering vectors first shift 0 8
+  gather_start = record {
     within = omega arith;
     bits = λ i u h l. absurd (past u l);
     free = λ i u h l m. ap (λ x. eqb (x % 2) 1) (zero-div (2 ^ (8 * i + u)));
@@ -29,8 +29,8 @@ module _ {vectors : List ℕ} {first shift : ℕ} where
       past u l = omega arith
 
   module _ {word t : ℕ} (x : Gathering vectors first shift word t) where
-    pub gather-end : t ≤ 0 → Gathered vectors first shift word
-    gather-end z = record {
+    pub gather_end : t ≤ 0 → Gathered vectors first shift word
+    gather_end z = record {
       bits = λ i u h l.
           let e : t + u ≡ u = omega arith in
           x.bits i u h (omega arith) ∙ ap (λ k. bit (get_or vectors (first + k) 0) (shift + i)) e;
@@ -51,13 +51,13 @@ module _ {vectors : List ℕ} {first shift : ℕ} where
       lowest-is : (i : ℕ) → i < 8 → bit (bit_or pushed c) (8 * i) ≡ bit (get_or vectors (first + (t - 1)) 0) (shift + i)
       lowest-is i h =
           let vector = get_or vectors (first + (t - 1)) 0 in
-          or-bit pushed c (8 * i) ∙ ap₂ ◌||◌ (lowest-free i h) (y.lowest i h) ∙ byte-bit (vector / 2 ^ shift) h ∙ right-bit vector shift i
+          or_bit pushed c (8 * i) ∙ ap₂ ◌||◌ (lowest-free i h) (y.lowest i h) ∙ byte-bit (vector / 2 ^ shift) h ∙ right-bit vector shift i
 
       others-are : (i u : ℕ) → i < 8 → suc u < 8 → bit (bit_or pushed c) (8 * i + suc u) ≡ bit word (8 * i + u)
       unfolding pushed
       others-are i u h l =
           let m : 8 * i + suc u ≡ 1 + (8 * i + u) = omega arith in
-          or-bit pushed c (8 * i + suc u)
+          or_bit pushed c (8 * i + suc u)
           ∙ ap₂ ◌||◌ (ap (bit pushed) m ∙ left-bit word 1 (8 * i + u) (omega arith)) (y.others i (suc u) h (omega arith) l)
           ∙ or-false (bit word (8 * i + u))
 
@@ -77,6 +77,6 @@ module _ {vectors : List ℕ} {first shift : ℕ} where
           past t s w m = omega arith
       free-then i (suc u) h l m = others-are i u h l ∙ x.free i u h (omega arith) (omega arith)
 
-      pub gather-step : Gathering vectors first shift (bit_or ((word * 2 ^ 1) % 2 ^ 64) c) (t - 1)
+      pub gather_step : Gathering vectors first shift (bit_or ((word * 2 ^ 1) % 2 ^ 64) c) (t - 1)
       unfolding pushed
-      gather-step = record { within = omega (arith, x.within); bits = bits-then; free = free-then }
+      gather_step = record { within = omega (arith, x.within); bits = bits-then; free = free-then }

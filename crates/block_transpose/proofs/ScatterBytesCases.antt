@@ -5,7 +5,7 @@ use native.Mathlib.Nat.{div-one, eq-or-lt_of_le}
 use lib.Bits.{bit_and, bit_or}
 use lib.Pow.{shr-shr}
 use Rattle.model.specs.Base.{bit}
-use Rattle.record_bytes.proofs.BitLaws.{or-bit}
+use Rattle.record_bytes.proofs.BitLaws.{or_bit}
 use Rattle.block_transpose.specs.Vectors.{Scattered}
 use Rattle.block_transpose.proofs.WordShiftLaws.{right-bit, left-bit, left-none, byte-bit, byte-none}
 
@@ -33,32 +33,32 @@ module _ (word i place old left : ℕ) (low : place ≤ 56) (rest : left ≡ wor
   added : Added word i place old (bit_or old ((bit_and left 255 * 2 ^ place) % 2 ^ 64))
   unfolding byte
   added = record {
-    put = λ t h. or-bit old byte (place + t) ∙ ap (λ b. bit old (place + t) || b) (byte-there t h);
-    others = λ s o h. or-bit old byte s ∙ ap (λ b. bit old s || b) (nothing-else s o h) ∙ or-false (bit old s);
+    put = λ t h. or_bit old byte (place + t) ∙ ap (λ b. bit old (place + t) || b) (byte-there t h);
+    others = λ s o h. or_bit old byte s ∙ ap (λ b. bit old s || b) (nothing-else s o h) ∙ or-false (bit old s);
   }
 
 -- the bytes below i are put, the others are left
 pub record Scattering (word first place : ℕ) (before after : List ℕ) (left i : ℕ) : Type 0 where
   pub within : i ≤ 8
   pub rest : left ≡ word / 2 ^ (8 * i)
-  pub sameLength : length after ≡ length before
+  pub same_length_of : length after ≡ length before
   pub bytes : (k : ℕ) → k < i → Added word k place (get_or before (first + k) 0) (get_or after (first + k) 0)
   pub words : (j : ℕ) → (j < first) ⊎ (first + i ≤ j) → get_or after j 0 ≡ get_or before j 0
 
 module _ {word first place : ℕ} {before : List ℕ} where
-  pub scatter-bytes-start : Scattering word first place before before word 0
-  scatter-bytes-start = record {
+  pub scatter_bytes-start : Scattering word first place before before word 0
+  scatter_bytes-start = record {
     within = omega arith;
     rest = sym (div-one word);
-    sameLength = refl;
+    same_length_of = refl;
     bytes = λ k h. absurd (not-suc-le-zero h);
     words = λ j o. refl;
   }
 
   module _ {after : List ℕ} {left i : ℕ} (x : Scattering word first place before after left i) where
-    pub scatter-bytes-end : 8 ≤ i → Scattered word first place before after
-    scatter-bytes-end h = record {
-      sameLength = x.sameLength;
+    pub scatter_bytes-end : 8 ≤ i → Scattered word first place before after
+    scatter_bytes-end h = record {
+      same_length_of = x.same_length_of;
       put = λ k t l m. (x.bytes k (omega arith)).put t m;
       others = λ k s l o m. (x.bytes k (omega arith)).others s o m;
       words = λ j o. x.words j (outside j o x.within);
@@ -77,7 +77,7 @@ module _ {word first place : ℕ} {before : List ℕ} where
       unfolding new
       byte-now =
           let before-it = x.words (first + i) (inr (omega arith)) in
-          let now-it = get_or-set_same after (first + i) new 0 (omega (arith, x.sameLength)) in
+          let now-it = get_or-set_same after (first + i) new 0 (omega (arith, x.same_length_of)) in
           subst (λ (a : ℕ). Added word i place a (get_or (set after (first + i) new) (first + i) 0)) before-it
           (subst (λ (a : ℕ). Added word i place (get_or after (first + i) 0) a) (sym now-it) (added word i place (get_or after (first + i) 0) left low x.rest))
 
@@ -105,15 +105,15 @@ module _ {word first place : ℕ} {before : List ℕ} where
           outside (inl l) = inl l
           outside (inr l) = inr (omega arith)
 
-      pub scatter-bytes-step : Scattering word first place before (set after (first + i) (bit_or (get_or after (first + i) 0) ((bit_and left 255 * 2 ^ place) % 2 ^ 64)))
+      pub scatter_bytes-step : Scattering word first place before (set after (first + i) (bit_or (get_or after (first + i) 0) ((bit_and left 255 * 2 ^ place) % 2 ^ 64)))
           (left / 2 ^ 8) (i + 1)
       unfolding new
-      scatter-bytes-step =
+      scatter_bytes-step =
           let m : 8 * i + 8 ≡ 8 * (i + 1) = omega arith in
           record {
             within = omega arith;
             rest = ap (λ y. y / 2 ^ 8) x.rest ∙ shr-shr word (8 * i) 8 ∙ ap (λ k. word / 2 ^ k) m;
-            sameLength = length-set after (first + i) new ∙ x.sameLength;
+            same_length_of = length-set after (first + i) new ∙ x.same_length_of;
             bytes = bytes-then;
             words = words-then;
           }

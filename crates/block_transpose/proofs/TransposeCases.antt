@@ -13,24 +13,24 @@ Empty words byte = (i : ℕ) → i < 8 → get_or words (8 * byte + i) 0 ≡ 0
 -- the records below t are put into the eight words, and nothing stands above
 pub record Standing (vectors : List ℕ) (first byte : ℕ) (before after : List ℕ) (t : ℕ) : Type 0 where
   pub eights : t % 8 ≡ 0
-  pub sameLength : length after ≡ length before
+  pub same_length_of : length after ≡ length before
   pub words : (j : ℕ) → (j < 8 * byte) ⊎ (8 * byte + 8 ≤ j) → get_or after j 0 ≡ get_or before j 0
   pub bits : Empty before byte → (i s : ℕ) → i < 8 → s < t → bit (get_or after (8 * byte + i) 0) s ≡ bit (get_or vectors (first + s) 0) (8 * byte + i)
   pub free : Empty before byte → (i s : ℕ) → i < 8 → t ≤ s → s < 64 → bit (get_or after (8 * byte + i) 0) s ≡ false
 
 module _ {vectors : List ℕ} {first byte : ℕ} {before : List ℕ} where
-  pub transpose-column-start : Standing vectors first byte before before 0
-  transpose-column-start = record {
+  pub transpose_column-start : Standing vectors first byte before before 0
+  transpose_column-start = record {
     eights = refl;
-    sameLength = refl;
+    same_length_of = refl;
     words = λ j o. refl;
     bits = λ e i s h l. absurd (not-suc-le-zero l);
     free = λ e i s h l m. ap (λ x. bit x s) (e i h) ∙ ap (λ x. eqb (x % 2) 1) (zero-div (2 ^ s));
   }
 
   module _ {after : List ℕ} {t : ℕ} (x : Standing vectors first byte before after t) where
-    pub transpose-column-end : {n : ℕ} → n ≤ t → ColumnTransposed vectors first n byte before after
-    transpose-column-end h = record { sameLength = x.sameLength; words = x.words; bits = λ e i s l m. x.bits e i s l (omega arith) }
+    pub transpose_column-end : {n : ℕ} → n ≤ t → ColumnTransposed vectors first n byte before after
+    transpose_column-end h = record { same_length_of = x.same_length_of; words = x.words; bits = λ e i s l m. x.bits e i s l (omega arith) }
 
     module _ {word : ℕ} {then : List ℕ} (y : Gathered vectors (first + t) (8 * byte) word) (z : Scattered word (8 * byte) t after then) where
       -- the next eight records
@@ -44,10 +44,10 @@ module _ {vectors : List ℕ} {first byte : ℕ} {before : List ℕ} where
           ap (bit (get_or then (8 * byte + i) 0)) u ∙ z.put i (s - t) h (omega arith) ∙ ap₂ ◌||◌ old (y.bits i (s - t) h (omega arith))
           ∙ ap (λ j. bit (get_or vectors j 0) (8 * byte + i)) w
 
-      pub transpose-column-step : t < 64 → Standing vectors first byte before then (t + 8)
-      transpose-column-step few = record {
+      pub transpose_column-step : t < 64 → Standing vectors first byte before then (t + 8)
+      transpose_column-step few = record {
         eights = omega (arith, x.eights);
-        sameLength = z.sameLength ∙ x.sameLength;
+        same_length_of = z.same_length_of ∙ x.same_length_of;
         words = λ j o. z.words j o ∙ x.words j o;
         bits = λ e i s h l.
             cases t s (λ (m : t ≤ s). added e i s h m l (omega (arith, x.eights)))
@@ -62,8 +62,8 @@ pub record Transposing (vectors : List ℕ) (first n : ℕ) (words : List ℕ) (
   pub bits : (j : ℕ) → j < 8 * byte → (t : ℕ) → t < n → bit (get_or words j 0) t ≡ bit (get_or vectors (first + t) 0) j
   pub free : (j : ℕ) → 8 * byte ≤ j → j < 64 → get_or words j 0 ≡ 0
 
-pub transpose-start : {vectors : List ℕ} {first n : ℕ} → Transposing vectors first n (replicate 64 0) 0
-transpose-start = record {
+pub transpose_start : {vectors : List ℕ} {first n : ℕ} → Transposing vectors first n (replicate 64 0) 0
+transpose_start = record {
   within = omega arith;
   whole = refl;
   bits = λ j h t l. absurd (not-suc-le-zero h);
@@ -71,24 +71,24 @@ transpose-start = record {
 }
 
 module _ {vectors : List ℕ} {first n : ℕ} {words : List ℕ} {byte : ℕ} (x : Transposing vectors first n words byte) where
-  pub transpose-end : {inputs : ℕ} → inputs ≤ 8 * byte → Transposed vectors first n inputs words
-  transpose-end h = record { bits = λ j l t m. x.bits j (omega arith) t m }
+  pub transpose_end : {inputs : ℕ} → inputs ≤ 8 * byte → Transposed vectors first n inputs words
+  transpose_end h = record { bits = λ j l t m. x.bits j (omega arith) t m }
 
   module _ {then : List ℕ} (few : byte < 8) (y : ColumnTransposed vectors first n byte words then) where
     -- the next eight inputs
-    transpose-column-bits : (j : ℕ) → 8 * byte ≤ j → j < 8 * byte + 8 → (t : ℕ) → t < n → bit (get_or then j 0) t ≡ bit (get_or vectors (first + t) 0) j
-    transpose-column-bits j h l t m =
+    transpose_column-bits : (j : ℕ) → 8 * byte ≤ j → j < 8 * byte + 8 → (t : ℕ) → t < n → bit (get_or then j 0) t ≡ bit (get_or vectors (first + t) 0) j
+    transpose_column-bits j h l t m =
         let u : j ≡ 8 * byte + (j - 8 * byte) = omega arith in
         let v : 8 * byte + (j - 8 * byte) ≡ j = omega arith in
         ap (λ k. bit (get_or then k 0) t) u ∙ y.bits (λ i o. x.free (8 * byte + i) (omega arith) (omega arith)) (j - 8 * byte) t (omega arith) m
         ∙ ap (bit (get_or vectors (first + t) 0)) v
 
-    pub transpose-step : Transposing vectors first n then (byte + 1)
-    transpose-step = record {
+    pub transpose_step : Transposing vectors first n then (byte + 1)
+    transpose_step = record {
       within = omega arith;
-      whole = y.sameLength ∙ x.whole;
+      whole = y.same_length_of ∙ x.whole;
       bits = λ j h t l.
-          cases (8 * byte) j (λ (m : 8 * byte ≤ j). transpose-column-bits j m (omega arith) t l)
+          cases (8 * byte) j (λ (m : 8 * byte ≤ j). transpose_column-bits j m (omega arith) t l)
           (λ (m : j < 8 * byte). ap (λ a. bit a t) (y.words j (inl m)) ∙ x.bits j m t l);
       free = λ j h l. y.words j (inr (omega arith)) ∙ x.free j (omega arith) l;
     }

@@ -2,12 +2,12 @@
 use Rattle.model.proofs.Prelude.{ℕ, ◌≤◌, ◌<◌, ◌+◌, ◌-◌, suc, ◌≡◌, ◌∙◌, ap, sym, subst, ap₂, ⊎_elim, inl, ◌&&◌, ◌||◌, or_comm, List, ◌∷◌}
 use Rattle.model.proofs.Prelude.{length, get_or, set, length-set, get_or-set_same, get_or-set_other, arith}
 use lib.Bits.{bit_and, bit_or}
-use Rattle.model.specs.Base.{any_of, bit, numbersFrom}
+use Rattle.model.specs.Base.{any_of, bit, numbers_from}
 use Rattle.model.specs.Detect.{Class}
 use Rattle.model.proofs.BoolLaws.{equal_or_not}
-use Rattle.record_bytes.proofs.BitLaws.{and-bit, or-bit, zero_bit}
-use Rattle.block_words.specs.Words.{bits_at, wordsAt, firstWords, pinWord, PinPlace}
-use Rattle.block_words.specs.NetStates.{v1Words, v2Words, steadyWords, riseWords, fallWords, PinOpenIs, ActiveBoth}
+use Rattle.record_bytes.proofs.BitLaws.{and_bit, or_bit, zero_bit}
+use Rattle.block_words.specs.Words.{bits_at, words_at, first_words, pin_word, PinPlace}
+use Rattle.block_words.specs.NetStates.{v1_words, v2_words, steady_words, rise_words, fall_words, PinOpenIs, ActiveBoth}
 use Rattle.block_words.specs.declared.inner.gates.Gate.{Gate}
 use Rattle.block_words.specs.declared.inner.gates.PinScan.{PinScan}
 use Rattle.block_words.proofs.PlaneLaws.{pin_at, pin-first}
@@ -15,7 +15,7 @@ use Rattle.block_words.proofs.PushCases.{outside}
 
 -- an array with one word more, from the last place down
 module _ (array : List ℕ) (i c : ℕ) (l : i < length array) where
-  set_first : (n : ℕ) → wordsAt (set array i c) (numbersFrom i (suc n)) ≡ c ∷ wordsAt array (numbersFrom (suc i) n)
+  set_first : (n : ℕ) → words_at (set array i c) (numbers_from i (suc n)) ≡ c ∷ words_at array (numbers_from (suc i) n)
   set_first n = ap₂ (λ x (xs : List ℕ). x ∷ xs) (get_or-set_same array i c 0 l) (outside array i c n (suc i) (inl (next i)))
     where
       next : (i : ℕ) → i < suc i
@@ -40,7 +40,7 @@ module _ (xs ys zs : List ℕ) (i : ℕ) {a b c : ℕ} (P : ℕ → ℕ → ℕ 
 -- the sum of the rows from k on
 pub record SumFrom (n : ℕ) (rows : List ℕ) (k sum : ℕ) : Type 0 where
   pub room : length rows ≡ 8
-  pub some : (t : ℕ) → bit sum t ≡ any_of (λ v. v) (bits_at (wordsAt rows (numbersFrom k (n - k))) t)
+  pub some : (t : ℕ) → bit sum t ≡ any_of (λ v. v) (bits_at (words_at rows (numbers_from k (n - k))) t)
 
 sum-none : {n : ℕ} {rows : List ℕ} → length rows ≡ 8 → SumFrom n rows n 0
 sum-none {n} r = let z : n - n ≡ 0 = omega arith in record { room = r; some = rw z (λ t. zero_bit t) }
@@ -50,30 +50,30 @@ sum_more {n} {rows} {k} {sum} l m few x w =
     let i : k - 1 < length rows = omega (arith, x.room) in
     let s : suc (k - 1) ≡ k = omega arith in
     let more : n - (k - 1) ≡ suc (n - k) = omega arith in
-    let row : wordsAt (set rows (k - 1) w) (numbersFrom (k - 1) (n - (k - 1))) ≡ w ∷ wordsAt rows (numbersFrom k (n - k)) =
-    ap (λ j. wordsAt (set rows (k - 1) w) (numbersFrom (k - 1) j)) more ∙ set_first rows (k - 1) w i (n - k)
-    ∙ ap (λ j. w ∷ wordsAt rows (numbersFrom j (n - k))) s in
+    let row : words_at (set rows (k - 1) w) (numbers_from (k - 1) (n - (k - 1))) ≡ w ∷ words_at rows (numbers_from k (n - k)) =
+    ap (λ j. words_at (set rows (k - 1) w) (numbers_from (k - 1) j)) more ∙ set_first rows (k - 1) w i (n - k)
+    ∙ ap (λ j. w ∷ words_at rows (numbers_from j (n - k))) s in
     record {
       room = length-set rows (k - 1) w ∙ x.room;
-      some = λ t. or-bit sum w t ∙ ap (λ a. a || bit w t) (x.some t)
-          ∙ or_comm (any_of (λ v. v) (bits_at (wordsAt rows (numbersFrom k (n - k))) t)) (bit w t)
+      some = λ t. or_bit sum w t ∙ ap (λ a. a || bit w t) (x.some t)
+          ∙ or_comm (any_of (λ v. v) (bits_at (words_at rows (numbers_from k (n - k))) t)) (bit w t)
           ∙ ap (λ ws. any_of (λ v. v) (bits_at ws t)) (sym row);
     }
 
 -- one pin: its open word, and its active words for the two edges
 pub record PinActive (c : Class) (table : List ℕ) (g : Gate) (scan : PinScan) (words : List ℕ) (p w up down : ℕ) : Type 0 where
-  pub opened : PinOpenIs c g.kind scan (pinWord table g (v1Words words) p) (pinWord table g (v2Words words) p) (pinWord table g (steadyWords words) p) w
-  pub rises : (t : ℕ) → bit up t ≡ (bit w t && bit (pinWord table g (riseWords words) p) t)
-  pub falls : (t : ℕ) → bit down t ≡ (bit w t && bit (pinWord table g (fallWords words) p) t)
+  pub opened : PinOpenIs c g.kind scan (pin_word table g (v1_words words) p) (pin_word table g (v2_words words) p) (pin_word table g (steady_words words) p) w
+  pub rises : (t : ℕ) → bit up t ≡ (bit w t && bit (pin_word table g (rise_words words) p) t)
+  pub falls : (t : ℕ) → bit down t ≡ (bit w t && bit (pin_word table g (fall_words words) p) t)
 
 -- the words of the pins from k on, their open words in an array that the code does not hold, and the sums
-pub record ActiveFrom (c : Class) (table : List ℕ) (g : Gate) (scan : PinScan) (words : List ℕ) (k : ℕ) (risingRows fallingRows : List ℕ) (up down : ℕ) : Type 0 where
+pub record ActiveFrom (c : Class) (table : List ℕ) (g : Gate) (scan : PinScan) (words : List ℕ) (k : ℕ) (rising_rows falling_rows : List ℕ) (up down : ℕ) : Type 0 where
   pub within : k ≤ g.pins
   pub opens : List ℕ
   pub room : length opens ≡ 8
-  pub each : (p : ℕ) → k ≤ p → p < g.pins → PinActive c table g scan words p (get_or opens p 0) (get_or risingRows p 0) (get_or fallingRows p 0)
-  pub rises : SumFrom g.pins risingRows k up
-  pub falls : SumFrom g.pins fallingRows k down
+  pub each : (p : ℕ) → k ≤ p → p < g.pins → PinActive c table g scan words p (get_or opens p 0) (get_or rising_rows p 0) (get_or falling_rows p 0)
+  pub rises : SumFrom g.pins rising_rows k up
+  pub falls : SumFrom g.pins falling_rows k down
 
 module _ {c : Class} {table : List ℕ} {g : Gate} {scan : PinScan} {words : List ℕ} where
   -- the pin at hand
@@ -81,25 +81,25 @@ module _ {c : Class} {table : List ℕ} {g : Gate} {scan : PinScan} {words : Lis
       → PinActive c table g scan words p w (bit_and w (get_or words (at + 3) 0)) (bit_and w (get_or words (at + 4) 0))
   pin-active {p} {at} {w} h o = record {
     opened = rw (pin-first h words, pin_at h words 1, pin_at h words 2) o;
-    rises = λ t. and-bit w (get_or words (at + 3) 0) t ∙ ap (λ v. bit w t && bit v t) (sym (pin_at h words 3));
-    falls = λ t. and-bit w (get_or words (at + 4) 0) t ∙ ap (λ v. bit w t && bit v t) (sym (pin_at h words 4));
+    rises = λ t. and_bit w (get_or words (at + 3) 0) t ∙ ap (λ v. bit w t && bit v t) (sym (pin_at h words 3));
+    falls = λ t. and_bit w (get_or words (at + 4) 0) t ∙ ap (λ v. bit w t && bit v t) (sym (pin_at h words 4));
   }
 
-  pub active-start : {risingRows fallingRows : List ℕ} → length risingRows ≡ 8 → length fallingRows ≡ 8 → ActiveFrom c table g scan words g.pins risingRows fallingRows 0 0
-  active-start {risingRows} a b =
-      record { within = omega arith; opens = risingRows; room = a; each = λ p l h. absurd (none g.pins p l h); rises = sum-none a; falls = sum-none b }
+  pub active-start : {rising_rows falling_rows : List ℕ} → length rising_rows ≡ 8 → length falling_rows ≡ 8 → ActiveFrom c table g scan words g.pins rising_rows falling_rows 0 0
+  active-start {rising_rows} a b =
+      record { within = omega arith; opens = rising_rows; room = a; each = λ p l h. absurd (none g.pins p l h); rises = sum-none a; falls = sum-none b }
     where
       none : (n p : ℕ) → n ≤ p → p < n → ⊥
       none n p l h = omega arith
 
-  module _ {k : ℕ} {risingRows fallingRows : List ℕ} {up down : ℕ} (x : ActiveFrom c table g scan words k risingRows fallingRows up down) where
+  module _ {k : ℕ} {rising_rows falling_rows : List ℕ} {up down : ℕ} (x : ActiveFrom c table g scan words k rising_rows falling_rows up down) where
     active-more : {w a b : ℕ} → 0 < k → g.pins ≤ 8 → PinActive c table g scan words (k - 1) w a b
-        → ActiveFrom c table g scan words (k - 1) (set risingRows (k - 1) a) (set fallingRows (k - 1) b) (bit_or up a) (bit_or down b)
+        → ActiveFrom c table g scan words (k - 1) (set rising_rows (k - 1) a) (set falling_rows (k - 1) b) (bit_or up a) (bit_or down b)
     active-more {w} {a} {b} l few pin = record {
       within = omega (arith, x.within);
       opens = set x.opens (k - 1) w;
       room = length-set x.opens (k - 1) w ∙ x.room;
-      each = set-each x.opens risingRows fallingRows (k - 1) (PinActive c table g scan words) (omega (arith, x.room, x.within)) (omega (arith, x.rises.room, x.within))
+      each = set-each x.opens rising_rows falling_rows (k - 1) (PinActive c table g scan words) (omega (arith, x.room, x.within)) (omega (arith, x.rises.room, x.within))
           (omega (arith, x.falls.room, x.within)) pin (λ p m h. x.each p (omega arith) h);
       rises = sum_more l x.within few x.rises a;
       falls = sum_more l x.within few x.falls b;
@@ -108,26 +108,26 @@ module _ {c : Class} {table : List ℕ} {g : Gate} {scan : PinScan} {words : Lis
     pub active-step : {at w : ℕ} → 0 < k → g.pins ≤ 8 → PinPlace table g (k - 1) at
         → PinOpenIs c g.kind scan (get_or words at 0) (get_or words (at + 1) 0) (get_or words (at + 2) 0) w
         → ActiveFrom c table g scan words (k - 1)
-        (set risingRows (k - 1) (bit_and w (get_or words (at + 3) 0))) (set fallingRows (k - 1) (bit_and w (get_or words (at + 4) 0)))
+        (set rising_rows (k - 1) (bit_and w (get_or words (at + 3) 0))) (set falling_rows (k - 1) (bit_and w (get_or words (at + 4) 0)))
         (bit_or up (bit_and w (get_or words (at + 3) 0))) (bit_or down (bit_and w (get_or words (at + 4) 0)))
     active-step l few h o = active-more l few (pin-active h o)
 
-    pub active-end : k ≤ 0 → ActiveBoth c table g scan words risingRows fallingRows (record { up = up; down = down })
+    pub active-end : k ≤ 0 → ActiveBoth c table g scan words rising_rows falling_rows (record { up = up; down = down })
     active-end z =
         let n : g.pins - k ≡ g.pins = omega arith in
         let o : k ≡ 0 = omega arith in
-        let q : (rows : List ℕ) → wordsAt rows (numbersFrom k (g.pins - k)) ≡ firstWords rows g.pins = (λ rows. ap₂ (λ a b. wordsAt rows (numbersFrom a b)) o n) in
+        let q : (rows : List ℕ) → words_at rows (numbers_from k (g.pins - k)) ≡ first_words rows g.pins = (λ rows. ap₂ (λ a b. words_at rows (numbers_from a b)) o n) in
         record {
           opens = λ p. get_or x.opens p 0;
           opened = λ p h. (x.each p (omega arith) h).opened;
           rises = record {
             room = x.rises.room;
             each = λ p h. (x.each p (omega arith) h).rises;
-            some = λ t. x.rises.some t ∙ ap (λ ws. any_of (λ v. v) (bits_at ws t)) (q risingRows);
+            some = λ t. x.rises.some t ∙ ap (λ ws. any_of (λ v. v) (bits_at ws t)) (q rising_rows);
           };
           falls = record {
             room = x.falls.room;
             each = λ p h. (x.each p (omega arith) h).falls;
-            some = λ t. x.falls.some t ∙ ap (λ ws. any_of (λ v. v) (bits_at ws t)) (q fallingRows);
+            some = λ t. x.falls.some t ∙ ap (λ ws. any_of (λ v. v) (bits_at ws t)) (q falling_rows);
           };
         }

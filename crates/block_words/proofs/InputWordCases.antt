@@ -5,16 +5,16 @@ use mir.Syntax.{w64}
 use mir.Val.{Fits}
 use lib.Bits.{bit_and, bit_xor, xor_lt}
 use Rattle.model.specs.Base.{bit}
-use Rattle.record_bytes.proofs.BitLaws.{and-bit, xor-bit, rise-bit, fall-bit}
+use Rattle.record_bytes.proofs.BitLaws.{and_bit, xor_bit, rise-bit, fall-bit}
 use Rattle.block_words.specs.Words.{WordIs}
 use Rattle.block_words.specs.NetStates.{NetPut, InputWords}
 use Rattle.block_words.specs.declared.inner.words.NetState.{NetState}
-use Rattle.block_words.proofs.WordBitLaws.{not-bit}
+use Rattle.block_words.proofs.WordBitLaws.{not_bit}
 use Rattle.block_words.proofs.NetPutLaws.{kept-start, kept_more, put-more}
 
 -- the words of an input, from those under V1 and V2 and the word of the records
-abbrev pub inputNet : ℕ → ℕ → ℕ → NetState
-inputNet first last within = record {
+abbrev pub input_net : ℕ → ℕ → ℕ → NetState
+input_net first last within = record {
   first = first;
   last = last;
   steady = 2 ^ 64 - 1 - bit_xor first last;
@@ -22,18 +22,18 @@ inputNet first last within = record {
   falls = bit_and (bit_and (bit_xor first last) first) within;
 }
 
-steady-is : (first last : ℕ) → first < 2 ^ 64 → last < 2 ^ 64 → WordIs (inputNet first last 0).steady (λ t. Bool·beq (bit first t) (bit last t)) 64
+steady-is : (first last : ℕ) → first < 2 ^ 64 → last < 2 ^ 64 → WordIs (input_net first last 0).steady (λ t. Bool·beq (bit first t) (bit last t)) 64
 steady-is first last h l t m =
-    not-bit (bit_xor first last) t (xor_lt 64 first last h l) m ∙ ap not (xor-bit first last t) ∙ Bool·not-not (Bool·beq (bit first t) (bit last t))
+    not_bit (bit_xor first last) t (xor_lt 64 first last h l) m ∙ ap not (xor_bit first last t) ∙ Bool·not-not (Bool·beq (bit first t) (bit last t))
 
 module _ (first last within n : ℕ) (all : (s : ℕ) → s < n → bit within s ≡ true) where
   within-is : (word : ℕ) → WordIs (bit_and word within) (bit word) n
-  within-is word t h = and-bit word within t ∙ ap (λ b. bit word t && b) (all t h) ∙ and-true (bit word t)
+  within-is word t h = and_bit word within t ∙ ap (λ b. bit word t && b) (all t h) ∙ and-true (bit word t)
 
-  rises-is : WordIs (inputNet first last within).rises (λ t. not (bit first t) && bit last t) n
+  rises-is : WordIs (input_net first last within).rises (λ t. not (bit first t) && bit last t) n
   rises-is t h = within-is (bit_and (bit_xor first last) last) t h ∙ rise-bit first last t
 
-  falls-is : WordIs (inputNet first last within).falls (λ t. not (bit last t) && bit first t) n
+  falls-is : WordIs (input_net first last within).falls (λ t. not (bit last t) && bit first t) n
   falls-is t h = within-is (bit_and (bit_xor first last) first) t h ∙ fall-bit first last t ∙ and_comm (bit first t) (not (bit last t))
 
 module _ {firsts lasts : List ℕ} {n : ℕ} {before : List ℕ} where
@@ -49,7 +49,7 @@ module _ {firsts lasts : List ℕ} {n : ℕ} {before : List ℕ} where
 
   -- one input more; its words fit where they stand afterwards
   pub input-step : {words words' : List ℕ} {input : ℕ} (within : ℕ) → InputWords firsts lasts input n before words → input < 512
-      → ((s : ℕ) → s < n → bit within s ≡ true) → NetPut input (inputNet (get_or firsts input 0) (get_or lasts input 0) within) words words'
+      → ((s : ℕ) → s < n → bit within s ≡ true) → NetPut input (input_net (get_or firsts input 0) (get_or lasts input 0) within) words words'
       → ((i : ℕ) → Fits w64 (get_or words' i 0)) → InputWords firsts lasts (input + 1) n before words'
   input-step {words} {words'} {input} within x low all p fits =
       let first = get_or firsts input 0 in

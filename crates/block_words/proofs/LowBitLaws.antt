@@ -8,7 +8,7 @@ use lib.Count.{count_trailing_zeros, under}
 use lib.Dec.{eqb-suc-suc, eqb-suc-zero}
 use Rattle.model.specs.Base.{bit}
 use Rattle.model.proofs.BoolLaws.{T→true, not→false}
-use Rattle.record_bytes.proofs.BitLaws.{and-bit}
+use Rattle.record_bytes.proofs.BitLaws.{and_bit}
 use Rattle.record_bytes.proofs.BitLaws.{half-bit, half-below, first_bit}
 
 none_below_one : (q : ℕ) → 0 < q → q < 1 → ⊥
@@ -76,7 +76,7 @@ both-low (suc d) n (suc t) h k = go (n % 2) refl (λ (e : n % 2 ≡ 0). both-low
 
 -- `and` with the number before takes the lowest set bit away
 pub without-low : (d n t : ℕ) → 0 < n → n < 2 ^ d → bit (bit_and n (n - 1)) t ≡ (bit n t && not (eqb t (count_trailing_zeros d n)))
-without-low d n t h k = and-bit n (n - 1) t ∙ both-low d n t h k
+without-low d n t h k = and_bit n (n - 1) t ∙ both-low d n t h k
 
 -- a word of 64 bits that is not 0
 module _ {left : ℕ} (small : left < 2 ^ 64) (ne : left ≡ 0 → ⊥) where

@@ -5,7 +5,7 @@ use Rattle.model.proofs.BoolLaws.{equal_or_not}
 use Rattle.block_words.specs.NetStates.{plane, NetPut, StatesKept}
 use Rattle.block_words.specs.declared.inner.words.NetState.{NetState}
 use Rattle.block_words.proofs.PlaneLaws.{plane-at}
-use Rattle.block_words.specs.Layout.{netsSize}
+use Rattle.block_words.specs.Layout.{nets_size}
 
 -- Five writes, one after the other
 module _ (before : List ℕ) (net : ℕ) (s : NetState) where
@@ -21,8 +21,8 @@ module _ (before : List ℕ) (net : ℕ) (s : NetState) where
   abbrev with4 : List ℕ
   with4 = set with3 (8 * net + 3) s.rises
 
-  abbrev pub withNet : List ℕ
-  withNet = set with4 (8 * net + 4) s.falls
+  abbrev pub with_net : List ℕ
+  with_net = set with4 (8 * net + 4) s.falls
 
   length1 : length with1 ≡ length before
   length1 = length-set before (8 * net) s.first
@@ -37,7 +37,7 @@ module _ (before : List ℕ) (net : ℕ) (s : NetState) where
   length4 = length-set with3 (8 * net + 3) s.rises ∙ length3
 
   -- the places are there at each write
-  module _ (low : net < 512) (room : netsSize ≤ length before) where
+  module _ (low : net < 512) (room : nets_size ≤ length before) where
     pub room2 : 8 * net + 1 < length with1
     room2 = omega (arith, length1)
 
@@ -65,23 +65,23 @@ module _ (before : List ℕ) (net : ℕ) (s : NetState) where
     away-start i at (inr h) e = omega arith
 
     -- a place that the later writes do not meet
-    past5 : (i : ℕ) → (i ≡ 8 * net + 4 → ⊥) → get_or withNet i 0 ≡ get_or with4 i 0
+    past5 : (i : ℕ) → (i ≡ 8 * net + 4 → ⊥) → get_or with_net i 0 ≡ get_or with4 i 0
     past5 i d = get_or-set_other with4 (8 * net + 4) i s.falls 0 d
 
-    past4 : (i : ℕ) → (i ≡ 8 * net + 4 → ⊥) → (i ≡ 8 * net + 3 → ⊥) → get_or withNet i 0 ≡ get_or with3 i 0
+    past4 : (i : ℕ) → (i ≡ 8 * net + 4 → ⊥) → (i ≡ 8 * net + 3 → ⊥) → get_or with_net i 0 ≡ get_or with3 i 0
     past4 i d e = past5 i d ∙ get_or-set_other with3 (8 * net + 3) i s.rises 0 e
 
-    past3 : (i : ℕ) → (i ≡ 8 * net + 4 → ⊥) → (i ≡ 8 * net + 3 → ⊥) → (i ≡ 8 * net + 2 → ⊥) → get_or withNet i 0 ≡ get_or with2 i 0
+    past3 : (i : ℕ) → (i ≡ 8 * net + 4 → ⊥) → (i ≡ 8 * net + 3 → ⊥) → (i ≡ 8 * net + 2 → ⊥) → get_or with_net i 0 ≡ get_or with2 i 0
     past3 i d e f = past4 i d e ∙ get_or-set_other with2 (8 * net + 2) i s.steady 0 f
 
-    past2 : (i : ℕ) → (i ≡ 8 * net + 4 → ⊥) → (i ≡ 8 * net + 3 → ⊥) → (i ≡ 8 * net + 2 → ⊥) → (i ≡ 8 * net + 1 → ⊥) → get_or withNet i 0 ≡ get_or with1 i 0
+    past2 : (i : ℕ) → (i ≡ 8 * net + 4 → ⊥) → (i ≡ 8 * net + 3 → ⊥) → (i ≡ 8 * net + 2 → ⊥) → (i ≡ 8 * net + 1 → ⊥) → get_or with_net i 0 ≡ get_or with1 i 0
     past2 i d e f g = past3 i d e f ∙ get_or-set_other with1 (8 * net + 1) i s.last 0 g
 
-    pub net-put : NetPut net s before withNet
+    pub net-put : NetPut net s before with_net
     net-put =
         let at = 8 * net in
         record {
-          sameLength = length-set with4 (8 * net + 4) s.falls ∙ length4;
+          same_length_of = length-set with4 (8 * net + 4) s.falls ∙ length4;
           others = λ i o.
               past2 i (away i at 4 o (omega arith)) (away i at 3 o (omega arith)) (away i at 2 o (omega arith)) (away i at 1 o (omega arith))
               ∙ get_or-set_other before (8 * net) i s.first 0 (away-start i at o);
@@ -96,7 +96,7 @@ module _ (before : List ℕ) (net : ℕ) (s : NetState) where
 
 -- What is past the words of 512 nets stays
 pub kept-start : {words : List ℕ} → StatesKept words words
-kept-start = record { sameLength = refl; past = λ i h. refl }
+kept-start = record { same_length_of = refl; past = λ i h. refl }
 
 module _ {net : ℕ} {s : NetState} {before after : List ℕ} (p : NetPut net s before after) where
   -- One word of each net, at the place that `at` says: what holds of the nets before `net`, and of the new word of `net`, holds of those before `net` + 1
@@ -114,7 +114,7 @@ module _ {net : ℕ} {s : NetState} {before after : List ℕ} (p : NetPut net s 
   module _ (low : net < 512) where
     pub kept_more : {start : List ℕ} → StatesKept start before → StatesKept start after
     kept_more x = record {
-      sameLength = p.sameLength ∙ x.sameLength;
+      same_length_of = p.same_length_of ∙ x.same_length_of;
       past = λ i h. p.others i (inr (omega arith)) ∙ x.past i h;
     }
 

@@ -3,25 +3,25 @@ use Rattle.model.proofs.Prelude.{ℕ, ◌<◌, suc, zero, ◌≡◌, ◌∙◌, 
 use Rattle.model.proofs.Prelude.{get_or, T, not-suc-le-zero, le_of_suc-le-suc}
 use Rattle.model.specs.Base.{all_of, any_of}
 use Rattle.model.specs.Detect.{others}
-use Rattle.block_words.specs.Words.{unequal, twoOf}
+use Rattle.block_words.specs.Words.{unequal, two_of}
 use Rattle.block_words.proofs.TruthLaws.{unequal-false}
 
 pub unequal-true : (v : Bool) → unequal true v ≡ not v
 unequal-true true = refl
 unequal-true false = refl
 
-or-not : (a b : Bool) → (not a || not b) ≡ not (a && b)
-or-not true b = refl
-or-not false b = refl
+or_not : (a b : Bool) → (not a || not b) ≡ not (a && b)
+or_not true b = refl
+or_not false b = refl
 
 -- some value is 0: not all are 1
-pub any-zero : (vs : List Bool) → any_of (unequal true) vs ≡ not (all_of (λ v. v) vs)
-any-zero [] = refl
-any-zero (v ∷ vs) = ap₂ (λ a b. a || b) (unequal-true v) (any-zero vs) ∙ or-not v (all_of (λ v. v) vs)
+pub any_zero : (vs : List Bool) → any_of (unequal true) vs ≡ not (all_of (λ v. v) vs)
+any_zero [] = refl
+any_zero (v ∷ vs) = ap₂ (λ a b. a || b) (unequal-true v) (any_zero vs) ∙ or_not v (all_of (λ v. v) vs)
 
-pub any-one : (vs : List Bool) → any_of (unequal false) vs ≡ any_of (λ v. v) vs
-any-one [] = refl
-any-one (v ∷ vs) = ap₂ (λ a b. a || b) (unequal-false v) (any-one vs)
+pub any_one : (vs : List Bool) → any_of (unequal false) vs ≡ any_of (λ v. v) vs
+any_one [] = refl
+any_one (v ∷ vs) = ap₂ (λ a b. a || b) (unequal-false v) (any_one vs)
 
 -- none differs: all are the same
 all_same : (b : Bool) (vs : List Bool) → not (any_of (unequal b) vs) ≡ all_of (Bool·beq b) vs
@@ -32,9 +32,9 @@ all_same b (v ∷ vs) = step (Bool·beq b v) (any_of (unequal b) vs) ∙ ap (λ 
     step true a = refl
     step false a = refl
 
-pub two-any : (f : Bool → Bool) (vs : List Bool) → T (twoOf f vs) → T (any_of f vs)
+pub two-any : (f : Bool → Bool) (vs : List Bool) → T (two_of f vs) → T (any_of f vs)
 two-any f [] t = t
-two-any f (v ∷ vs) t = step (f v) (any_of f vs) (twoOf f vs) (two-any f vs) t
+two-any f (v ∷ vs) t = step (f v) (any_of f vs) (two_of f vs) (two-any f vs) t
   where
     step : (d a w : Bool) → (T w → T a) → T ((a && d) || w) → T (d || a)
     step true a w i t = tt
@@ -57,9 +57,9 @@ any_at f (v ∷ vs) (suc p) h t = step (f v) (any_of f vs) (any_at f vs p (le_of
 
 -- none is controlling, or this one alone: every other is non-controlling
 pub opens : (b : Bool) (vs : List Bool) (p : ℕ) → p < length vs
-    → (not (any_of (unequal b) vs) || (not (twoOf (unequal b) vs) && unequal b (get_or vs p false))) ≡ others (Bool·beq b) vs p
+    → (not (any_of (unequal b) vs) || (not (two_of (unequal b) vs) && unequal b (get_or vs p false))) ≡ others (Bool·beq b) vs p
 opens b [] p h = absurd (not-suc-le-zero h)
-opens b (v ∷ vs) zero h = step (unequal b v) (any_of (unequal b) vs) (twoOf (unequal b) vs) (two-any (unequal b) vs) ∙ all_same b vs
+opens b (v ∷ vs) zero h = step (unequal b v) (any_of (unequal b) vs) (two_of (unequal b) vs) (two-any (unequal b) vs) ∙ all_same b vs
   where
     step : (d a w : Bool) → (T w → T a) → (not (d || a) || (not ((a && d) || w) && d)) ≡ not a
     step true true w i = refl
@@ -70,7 +70,7 @@ opens b (v ∷ vs) zero h = step (unequal b v) (any_of (unequal b) vs) (twoOf (u
     step false false true i = refl
     step false false false i = refl
 opens b (v ∷ vs) (suc p) h =
-    step (Bool·beq b v) (any_of (unequal b) vs) (twoOf (unequal b) vs) (unequal b (get_or vs p false)) (any_at (unequal b) vs p (le_of_suc-le-suc h))
+    step (Bool·beq b v) (any_of (unequal b) vs) (two_of (unequal b) vs) (unequal b (get_or vs p false)) (any_at (unequal b) vs p (le_of_suc-le-suc h))
     ∙ ap (λ r. Bool·beq b v && r) (opens b vs p (le_of_suc-le-suc h))
   where
     step : (e a w q : Bool) → (T q → T a) → (not (not e || a) || (not ((a && not e) || w) && q)) ≡ (e && (not a || (not w && q)))

@@ -1,24 +1,24 @@
 -- A block of up to 64 tests of one class on a netlist: test t in bit t of each word.
 use Rattle.std.specs.Prelude.{◌≡◌, Bool, false, ◌&&◌, List, ℕ, ◌≤◌, ◌<◌, get_or}
-use Rattle.model.specs.Base.{any_of, bit, numbersFrom}
-use Rattle.model.specs.Netlist.{Netlist, counts, pinNet}
+use Rattle.model.specs.Base.{any_of, bit, numbers_from}
+use Rattle.model.specs.Netlist.{Netlist, counts, pin_net}
 use Rattle.model.specs.Path.{Edge}
-use Rattle.model.specs.Detect.{Class, Test, Evaluation, noEvaluation, evaluate}
+use Rattle.model.specs.Detect.{Class, Test, Evaluation, no_evaluation, evaluate}
 use Rattle.detection.specs.Cases.{Case, case_of, in_set}
 use Rattle.block_words.specs.Words.{WordIs}
 
 -- A net is live when its set is not empty
-unfoldable pub liveNet : Case → ℕ → Bool
-liveNet K net = any_of (in_set K net) (numbersFrom 1 (get_or (counts K.netlist) net 0))
+unfoldable pub live_net : Case → ℕ → Bool
+live_net K net = any_of (in_set K net) (numbers_from 1 (get_or (counts K.netlist) net 0))
 
 -- A pin is active when it is open and its net is live
-unfoldable pub activePin : Case → ℕ → ℕ → Bool
-activePin K net p = K.isOpen net p && liveNet K (pinNet K.netlist net p)
+unfoldable pub active_pin : Case → ℕ → ℕ → Bool
+active_pin K net p = K.is_open net p && live_net K (pin_net K.netlist net p)
 
 -- the first n tests are of the class
 pub record BlockOf (tests : ℕ → Test) (c : Class) (n : ℕ) : Type 0 where
   pub few : n ≤ 64
-  pub inClass : (t : ℕ) → t < n → (tests t).class ≡ c
+  pub in_class : (t : ℕ) → t < n → (tests t).class ≡ c
 
 -- the words of the inputs: their values in V1 and in V2
 pub record InputBits (tests : ℕ → Test) (n inputs : ℕ) (firsts lasts : List ℕ) : Type 0 where
@@ -27,7 +27,7 @@ pub record InputBits (tests : ℕ → Test) (n inputs : ℕ) (firsts lasts : Lis
 
 -- what evaluating a net under a test yields
 abbrev pub evaluated : Netlist → Test → ℕ → Evaluation
-evaluated N t net = get_or (evaluate N t.v1 t.v2) net noEvaluation
+evaluated N t net = get_or (evaluate N t.v1 t.v2) net no_evaluation
 
 -- one fact of the nets below `top` that evaluating them yields: the value under V1 or V2, or whether they are steady
 pub record FactWords (fact : Evaluation → Bool) (N : Netlist) (tests : ℕ → Test) (n top : ℕ) (array : List ℕ) : Type 0 where
@@ -35,10 +35,10 @@ pub record FactWords (fact : Evaluation → Bool) (N : Netlist) (tests : ℕ →
 
 -- all three
 pub record StateWords (N : Netlist) (tests : ℕ → Test) (n top : ℕ) (firsts lasts steadies : List ℕ) : Type 0 where
-  pub first : FactWords (λ e. e.underV1) N tests n top firsts
-  pub last : FactWords (λ e. e.underV2) N tests n top lasts
+  pub first : FactWords (λ e. e.under_v1) N tests n top firsts
+  pub last : FactWords (λ e. e.under_v2) N tests n top lasts
   pub steady : FactWords (λ e. e.steady) N tests n top steadies
 
 -- the live words of the nets below `top`, for an edge
 pub record LiveWords (N : Netlist) (tests : ℕ → Test) (e : Edge) (n top : ℕ) (array : List ℕ) : Type 0 where
-  pub words : (net : ℕ) → net < top → WordIs (get_or array net 0) (λ t. liveNet (case_of N (tests t) e) net) n
+  pub words : (net : ℕ) → net < top → WordIs (get_or array net 0) (λ t. live_net (case_of N (tests t) e) net) n

@@ -1,14 +1,14 @@
 // Each caller proves what a function requires.
 ghost use Rattle.std.specs.Prelude.{◌≡◌, [], ◌∷◌, ◌++◌, ◌≤◌, length, get_or};
 ghost use Rattle.std.proofs.lemmas.List.Edits.{sets};
-ghost use Rattle.c_answer_words.specs.Codes.{numberWord};
+ghost use Rattle.c_answer_words.specs.Codes.{number_word};
 
 use netlist::NetlistSurvey;
 
 // An answer of one word: writes it, and returns the code of a call that was taken.
 pub fn put_number(number: u64, answer: &mut [u64; 1]) -> u32
     ensures value { result ≡ 0 }
-    ensures answer_after { answer.new ≡ sets answer.old 0 (numberWord number) }
+    ensures answer_after { answer.new ≡ sets answer.old 0 (number_word number) }
 {
     answer[0] = number;
     0

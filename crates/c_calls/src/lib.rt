@@ -1,18 +1,18 @@
 // The answers of the other calls for C: the code, 0 or the number of the refusal, and the answer words of a call that was taken. Of one that was
 // refused they stay as they were.
 ghost use Rattle.std.specs.Prelude.{◌≡◌};
-ghost use Rattle.path_faults.specs.Answers.{modelEdge, faultAnswer};
-ghost use Rattle.path_to_number.specs.PathNumbers.{numberAnswer};
-ghost use Rattle.path_of_number.specs.Answers.{pathAnswer};
+ghost use Rattle.path_faults.specs.Answers.{model_edge, fault_answer};
+ghost use Rattle.path_to_number.specs.PathNumbers.{number_answer};
+ghost use Rattle.path_of_number.specs.Answers.{path_answer};
 ghost use Rattle.report.specs.Answers.{written_of};
-ghost use Rattle.audit_judging.specs.FileJudging.{auditedOf};
-ghost use Rattle.audit_piece_steps.specs.Steps.{begunOf};
+ghost use Rattle.audit_judging.specs.FileJudging.{audited_of};
+ghost use Rattle.audit_piece_steps.specs.Steps.{begun_of};
 ghost use Rattle.audit_pieces.specs.Calls.{piece_of};
-ghost use Rattle.bench_text.specs.Calls.{benchOf};
-ghost use Rattle.load.specs.Answers.{loadedOf};
-ghost use Rattle.c_answer_words.specs.Codes.{codeAnswer, answerAfter, Answered, surveyWords, numberWord, edgeNumber};
-ghost use Rattle.c_calls.specs.Answers.{surveyedOf, allTaken, loadWords};
-ghost use Rattle.c_calls.specs.FaultNumbers.{faultOfCall, pathOfCall, pathWord, sideWord};
+ghost use Rattle.bench_text.specs.Calls.{bench_of};
+ghost use Rattle.load.specs.Answers.{loaded_of};
+ghost use Rattle.c_answer_words.specs.Codes.{code_answer, answer_after, Answered, survey_words, number_word, edge_number_of};
+ghost use Rattle.c_calls.specs.Answers.{surveyed_of, all_taken, load_words};
+ghost use Rattle.c_calls.specs.FaultNumbers.{fault_of_call, path_of_call, path_word, side_word};
 
 use audit_judging::AuditAnswer;
 use audit_piece_steps::BeginAnswer;
@@ -30,7 +30,7 @@ use report::WriteAnswer;
 
 // The survey: I, G, U, T, then a count for each of 512 nets.
 pub fn survey_code(surveyed: Surveyed, answer: &mut [u64; 516]) -> u32
-    ensures { Answered (surveyedOf surveyed) surveyWords result answer.old answer.new }
+    ensures { Answered (surveyed_of surveyed) survey_words result answer.old answer.new }
 {
     let found = surveyed.answer;
     match found {
@@ -44,7 +44,7 @@ pub fn survey_code(surveyed: Surveyed, answer: &mut [u64; 516]) -> u32
 
 // The number of a path.
 pub fn number_code(number: NumberAnswer, answer: &mut [u64; 1]) -> u32
-    ensures { Answered (numberAnswer number) numberWord result answer.old answer.new }
+    ensures { Answered (number_answer number) number_word result answer.old answer.new }
 {
     match number {
         NumberAnswer::Refused(why) => refusal_number(why),
@@ -54,7 +54,7 @@ pub fn number_code(number: NumberAnswer, answer: &mut [u64; 1]) -> u32
 
 // The number of a fault.
 pub fn fault_code(found: FaultAnswer, answer: &mut [u64; 1]) -> u32
-    ensures { Answered (faultAnswer found) numberWord result answer.old answer.new }
+    ensures { Answered (fault_answer found) number_word result answer.old answer.new }
 {
     match found {
         FaultAnswer::Refused(why) => refusal_number(why),
@@ -64,7 +64,7 @@ pub fn fault_code(found: FaultAnswer, answer: &mut [u64; 1]) -> u32
 
 // The fault of a path and an edge, 0 rising, 1 falling.
 pub fn fault_of_code(path: PathNo, edge: u32, answer: &mut [u64; 1]) -> u32
-    ensures { Answered (faultOfCall path.0 edge) numberWord result answer.old answer.new }
+    ensures { Answered (fault_of_call path.0 edge) number_word result answer.old answer.new }
 {
     if edge == 0 {
         let rising = fault_of(path, Edge::Rising);
@@ -79,8 +79,8 @@ pub fn fault_of_code(path: PathNo, edge: u32, answer: &mut [u64; 1]) -> u32
 
 // The path of a fault, and its edge, 0 rising, 1 falling.
 pub fn path_of_code(fault: FaultNo, answer: &mut [u64; 1], edge: &mut [u32; 1]) -> u32
-    ensures answered { Answered (pathOfCall fault.0) pathWord result answer.old answer.new }
-    ensures edge_after { edge.new ≡ answerAfter (pathOfCall fault.0) sideWord edge.old }
+    ensures answered { Answered (path_of_call fault.0) path_word result answer.old answer.new }
+    ensures edge_after { edge.new ≡ answer_after (path_of_call fault.0) side_word edge.old }
 {
     let number = fault.0;
     if number < 1 {
@@ -94,7 +94,7 @@ pub fn path_of_code(fault: FaultNo, answer: &mut [u64; 1], edge: &mut [u32; 1]) 
 
 // The number of an edge.
 fn edge_number(side: Edge) -> u32
-    ensures { result ≡ edgeNumber (modelEdge side) }
+    ensures { result ≡ edge_number_of (model_edge side) }
 {
     match side {
         Edge::Rising => 0,
@@ -104,7 +104,7 @@ fn edge_number(side: Edge) -> u32
 
 // A path that was written.
 pub fn path_code(written: PathAnswer) -> u32
-    ensures { codeAnswer result ≡ pathAnswer written }
+    ensures { code_answer result ≡ path_answer written }
 {
     match written {
         PathAnswer::Refused(why) => refusal_number(why),
@@ -114,7 +114,7 @@ pub fn path_code(written: PathAnswer) -> u32
 
 // The length of a report.
 pub fn report_code(written: WriteAnswer, answer: &mut [u64; 1]) -> u32
-    ensures { Answered (written_of written) numberWord result answer.old answer.new }
+    ensures { Answered (written_of written) number_word result answer.old answer.new }
 {
     match written {
         WriteAnswer::Refused(why) => refusal_number(why),
@@ -124,7 +124,7 @@ pub fn report_code(written: WriteAnswer, answer: &mut [u64; 1]) -> u32
 
 // A report that was judged.
 pub fn audit_code(audited: AuditAnswer) -> u32
-    ensures { codeAnswer result ≡ auditedOf audited }
+    ensures { code_answer result ≡ audited_of audited }
 {
     match audited {
         AuditAnswer::Refused(why) => refusal_number(why),
@@ -134,7 +134,7 @@ pub fn audit_code(audited: AuditAnswer) -> u32
 
 // The beginning of an audit in pieces.
 pub fn begin_code(begun: BeginAnswer) -> u32
-    ensures { codeAnswer result ≡ begunOf begun }
+    ensures { code_answer result ≡ begun_of begun }
 {
     match begun {
         BeginAnswer::Refused(why) => refusal_number(why),
@@ -144,7 +144,7 @@ pub fn begin_code(begun: BeginAnswer) -> u32
 
 // A piece: the number of its records, if all were taken.
 pub fn piece_code(taken: PieceAnswer, answer: &mut [u64; 1]) -> u32
-    ensures { Answered (allTaken (piece_of taken)) numberWord result answer.old answer.new }
+    ensures { Answered (all_taken (piece_of taken)) number_word result answer.old answer.new }
 {
     match taken {
         PieceAnswer::Refused(why) => refusal_number(why),
@@ -155,7 +155,7 @@ pub fn piece_code(taken: PieceAnswer, answer: &mut [u64; 1]) -> u32
 
 // The length of a netlist file made of .bench text.
 pub fn bench_code(converted: BenchAnswer, answer: &mut [u64; 1]) -> u32
-    ensures { Answered (benchOf converted) numberWord result answer.old answer.new }
+    ensures { Answered (bench_of converted) number_word result answer.old answer.new }
 {
     match converted {
         BenchAnswer::Refused { why, line: _ } => refusal_number(why),
@@ -165,7 +165,7 @@ pub fn bench_code(converted: BenchAnswer, answer: &mut [u64; 1]) -> u32
 
 // The state after a load's vector, and the bytes written.
 pub fn load_code(written: LoadAnswer, answer: &mut [u64; 2]) -> u32
-    ensures { Answered (loadedOf written) loadWords result answer.old answer.new }
+    ensures { Answered (loaded_of written) load_words result answer.old answer.new }
 {
     match written {
         LoadAnswer::Refused(why) => refusal_number(why),

@@ -2,10 +2,10 @@
 // refused they stay as they were.
 ghost use Rattle.std.specs.Prelude.{◌≡◌, [], ◌∷◌};
 ghost use Rattle.std.proofs.lemmas.List.Edits.{sets};
-ghost use Rattle.tree.specs.Answers.{emptiedOf, changedOf, searchOf, totalIn, holds_of};
-ghost use Rattle.tree.specs.Each.{eachOf};
-ghost use Rattle.c_answer_words.specs.Codes.{codeAnswer, Answered, numberWord};
-ghost use Rattle.c_tree.specs.AnswerWords.{foundWords, askedWords};
+ghost use Rattle.tree.specs.Answers.{emptied_of, changed_of, search_of, total_in, holds_of};
+ghost use Rattle.tree.specs.Each.{each_of};
+ghost use Rattle.c_answer_words.specs.Codes.{code_answer, Answered, number_word};
+ghost use Rattle.c_tree.specs.AnswerWords.{found_words, asked_words};
 
 use c_answer_words::inner::put_number;
 use model_refusals::refusal_number;
@@ -13,7 +13,7 @@ use tree::{TreeAsked, TreeChanged, TreeEmptied, TreeFound, TreeHolds, TreeTotal}
 
 // Emptying a tree.
 pub fn emptied_code(emptied: TreeEmptied) -> u32
-    ensures { codeAnswer result ≡ emptiedOf emptied }
+    ensures { code_answer result ≡ emptied_of emptied }
 {
     match emptied {
         TreeEmptied::Refused(why) => refusal_number(why),
@@ -23,7 +23,7 @@ pub fn emptied_code(emptied: TreeEmptied) -> u32
 
 // Inserting a run, and deleting one.
 pub fn changed_code(changed: TreeChanged) -> u32
-    ensures { codeAnswer result ≡ changedOf changed }
+    ensures { code_answer result ≡ changed_of changed }
 {
     match changed {
         TreeChanged::Refused(why) => refusal_number(why),
@@ -44,7 +44,7 @@ fn put_three(first: u64, second: u64, third: u64, answer: &mut [u64; 3]) -> u32
 
 // The run found: 1, its low and its high; zeros where there is none.
 pub fn found_code(found: TreeFound, answer: &mut [u64; 3]) -> u32
-    ensures { Answered (searchOf found) foundWords result answer.old answer.new }
+    ensures { Answered (search_of found) found_words result answer.old answer.new }
 {
     match found {
         TreeFound::Refused(why) => refusal_number(why),
@@ -55,7 +55,7 @@ pub fn found_code(found: TreeFound, answer: &mut [u64; 3]) -> u32
 
 // How many numbers a tree holds.
 pub fn total_code(total: TreeTotal, answer: &mut [u64; 1]) -> u32
-    ensures { Answered (totalIn total) numberWord result answer.old answer.new }
+    ensures { Answered (total_in total) number_word result answer.old answer.new }
 {
     match total {
         TreeTotal::Refused(why) => refusal_number(why),
@@ -75,7 +75,7 @@ fn put_two(first: u64, second: u64, answer: &mut [u64; 2]) -> u32
 
 // Whether a path number is held, 1 if it is, else 0, and the nodes visited for the answer.
 pub fn holds_code(held: TreeHolds, answer: &mut [u64; 2]) -> u32
-    ensures { Answered (holds_of held) askedWords result answer.old answer.new }
+    ensures { Answered (holds_of held) asked_words result answer.old answer.new }
 {
     match held {
         TreeHolds::Refused(why) => refusal_number(why),
@@ -86,7 +86,7 @@ pub fn holds_code(held: TreeHolds, answer: &mut [u64; 2]) -> u32
 
 // The levels of the tree that gave many answers.
 pub fn each_code(asked: TreeAsked, answer: &mut [u64; 1]) -> u32
-    ensures { Answered (eachOf asked) numberWord result answer.old answer.new }
+    ensures { Answered (each_of asked) number_word result answer.old answer.new }
 {
     match asked {
         TreeAsked::Refused(why) => refusal_number(why),

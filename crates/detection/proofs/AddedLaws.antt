@@ -3,21 +3,21 @@ use Rattle.model.proofs.Prelude.{ℕ, ◌≤◌, ◌+◌, ◌*◌, ◌≡◌, �
 use Rattle.model.proofs.Prelude.{arith}
 use mathlib.Core.Path.{subst₂}
 use Rattle.model.specs.Runs.{Run}
-use Rattle.run_lists.specs.RunLists.{writeRuns}
+use Rattle.run_lists.specs.RunLists.{write_runs_of}
 use Rattle.run_lists.specs.Answers.{Adds}
 use Rattle.run_lists.specs.declared.inner.Added.{Added}
 use Rattle.run_lists.specs.declared.inner.Added.TheVariants.{Count, Full}
 use Rattle.model.proofs.BoolLaws.{cases}
 
-pub as-adds : {ws ws' : List ℕ} {start cap : ℕ} {s t : List Run} {q r : Added} → s ≡ t → q ≡ r → Adds ws ws' start cap s q → Adds ws ws' start cap t r
-as-adds {ws} {ws'} {start} {cap} e d a = subst₂ (λ s q. Adds ws ws' start cap s q) e d a
+pub as_adds : {ws ws' : List ℕ} {start cap : ℕ} {s t : List Run} {q r : Added} → s ≡ t → q ≡ r → Adds ws ws' start cap s q → Adds ws ws' start cap t r
+as_adds {ws} {ws'} {start} {cap} e d a = subst₂ (λ s q. Adds ws ws' start cap s q) e d a
 
 pub full-count : {n : ℕ} → ◌≡◌ {A = Added} Full (Count n) → ⊥
 full-count {n} p = let z : ◌≡◌ {A = ℕ} 0 1 = cc in omega arith
 
 -- ---- words past the runs that are written
 
-pub drop-write : (k : ℕ) (ws : List ℕ) (i : ℕ) (s : List Run) → 2 * (i + length s) ≤ k → drop k (writeRuns ws i s) ≡ drop k ws
+pub drop-write : (k : ℕ) (ws : List ℕ) (i : ℕ) (s : List Run) → 2 * (i + length s) ≤ k → drop k (write_runs_of ws i s) ≡ drop k ws
 drop-write k ws i [] h = refl
 drop-write k ws i (r ∷ s) h =
     drop-write k (set (set ws (2 * i) r.low) (2 * i + 1) r.high) (i + 1) s (omega arith)

@@ -2,11 +2,11 @@
 use Rattle.model.proofs.Prelude.{ℕ, ◌≤◌, ◌<◌, ◌*◌, ◌≡◌, ◌∙◌, ap, refl, sym, ap₂, true, Bool, false, not, and-false, List, [], ◌∷◌, leb, arith, needs}
 use Rattle.model.proofs.Prelude.{le-leb, lt-leb, not-true, not-false}
 use Rattle.model.specs.Base.{Answer, refused, value, ◌then◌, checks}
-use Rattle.model.specs.Netlist.{Netlist, pathTotal}
-use Rattle.model.specs.Path.{Edge, edgeOfFault, pathOfFault}
-use Rattle.model.specs.Detect.{detectsNumber}
-use Rattle.model.specs.Read.{within, readNetlist, class_of, testRules, test_of}
-use Rattle.model.specs.Refusals.{refusalNumber}
+use Rattle.model.specs.Netlist.{Netlist, path_total}
+use Rattle.model.specs.Path.{Edge, edge_of_fault, path_of_fault}
+use Rattle.model.specs.Detect.{detects_number}
+use Rattle.model.specs.Read.{within, read_netlist, class_of, test_rules, test_of}
+use Rattle.model.specs.Refusals.{refusal_number_of}
 use Rattle.model.specs.declared.Refusal.{Refusal}
 use Rattle.model.specs.declared.Refusal.TheVariants as why
 use Rattle.model.proofs.AnswerLaws.{checks-both, value_inj}
@@ -17,93 +17,93 @@ use Rattle.netlist.specs.declared.inner.Shape.{Shape}
 use Rattle.netlist.specs.declared.inner.LoadAnswer.{LoadAnswer}
 use Rattle.netlist.specs.declared.inner.LoadAnswer.TheVariants as load
 use Rattle.netlist.proofs.LoadCases.{zeros-are}
-use Rattle.record_test.specs.Records.{RecordTrue, recordOf}
+use Rattle.record_test.specs.Records.{RecordTrue, record_of}
 use Rattle.record_test.specs.declared.inner.RecordAnswer.{RecordAnswer}
 use Rattle.record_test.specs.declared.inner.RecordAnswer.TheVariants as record-answer
-use Rattle.detection_fault.specs.Detection.{detectsFault, detectionOf, detectionOn, detectionCall}
+use Rattle.detection_fault.specs.Detection.{detects_fault, detection_of, detection_on, detection_call}
 use Rattle.detection_fault.specs.OpenPaths.{Asked, LegalAsked}
 use Rattle.detection_fault.specs.declared.DetectionAnswer.{DetectionAnswer}
 use Rattle.detection_fault.specs.declared.DetectionAnswer.TheVariants as detection
 
 module _ (file ps cs : List ℕ) (shape : Shape) (total : ℕ) (a : Asked file ps cs shape total) where
   pub on-some-input : 1 ≤ shape.inputs
-  on-some-input = omega (arith, a.tables.inputsAre, (limits file a.circuit a.tables.legal).someInput)
+  on-some-input = omega (arith, a.tables.inputs_are, (limits file a.circuit a.tables.legal).some_input)
 
   pub on-few-inputs : shape.inputs ≤ 64
-  on-few-inputs = omega (arith, a.tables.inputsAre, (limits file a.circuit a.tables.legal).fewInputs)
+  on-few-inputs = omega (arith, a.tables.inputs_are, (limits file a.circuit a.tables.legal).few_inputs)
 
   -- what is shown of the circuit at hand holds of every netlist that has these tables
-  every : (x : Answer Bool) (class fault : ℕ) (rec : List ℕ) → x ≡ detectionOn a.circuit class rec fault
-      → (N : Netlist) → CircuitTables N file ps cs shape → x ≡ detectionOn N class rec fault
-  every x class fault rec e N u = e ∙ ap (λ (M : Netlist). detectionOn M class rec fault) (value_inj (sym a.tables.legal ∙ u.legal))
+  every : (x : Answer Bool) (class fault : ℕ) (rec : List ℕ) → x ≡ detection_on a.circuit class rec fault
+      → (N : Netlist) → CircuitTables N file ps cs shape → x ≡ detection_on N class rec fault
+  every x class fault rec e N u = e ∙ ap (λ (M : Netlist). detection_on M class rec fault) (value_inj (sym a.tables.legal ∙ u.legal))
 
   module _ (class fault : ℕ) (rec : List ℕ) (k : Bool) (ek : k ≡ within 1 2 class) where
-    pub on-unknown : not k ≡ true → (N : Netlist) → CircuitTables N file ps cs shape → detectionOf (detection.Refused why.UnknownClass) ≡ detectionOn N class rec fault
-    unfolding detectionOn
+    pub on-unknown : not k ≡ true → (N : Netlist) → CircuitTables N file ps cs shape → detection_of (detection.Refused why.UnknownClass) ≡ detection_on N class rec fault
+    unfolding detection_on
     on-unknown h N u = let q : within 1 2 class ≡ false = sym ek ∙ not-true k h in rw q refl
 
     module _ (h : not k ≡ false) (r : RecordAnswer) (rt : RecordTrue r shape.inputs rec) where
       abbrev N : Netlist
       N = a.circuit
 
-      in-range : Bool
-      in-range = within 1 (2 * pathTotal N) fault
+      in_range : Bool
+      in_range = within 1 (2 * path_total N) fault
 
       found : Bool
-      found = detectsFault N (test_of N (class_of class) rec) fault
+      found = detects_fault N (test_of N (class_of class) rec) fault
 
-      as-asked : (x : Answer (Unit {0})) → recordOf r ≡ x → (x then checks ((60, in-range) ∷ []) then value found) ≡ detectionOn N class rec fault
-      unfolding detectionOn in-range found
-      as-asked x e =
+      as_asked : (x : Answer (Unit {0})) → record_of r ≡ x → (x then checks ((60, in_range) ∷ []) then value found) ≡ detection_on N class rec fault
+      unfolding detection_on in_range found
+      as_asked x e =
           let q : within 1 2 class ≡ true = sym ek ∙ not-false k h in
-          ap (λ (y : Answer (Unit {0})). y then checks ((60, in-range) ∷ []) then value found) (sym e ∙ rt.answer N (sym a.tables.inputsAre))
-          ∙ ap (λ (y : Answer (Unit {0})). y then value found) (sym (checks-both (testRules N rec) ((60, in-range) ∷ [])))
+          ap (λ (y : Answer (Unit {0})). y then checks ((60, in_range) ∷ []) then value found) (sym e ∙ rt.answer N (sym a.tables.inputs_are))
+          ∙ ap (λ (y : Answer (Unit {0})). y then value found) (sym (checks-both (test_rules N rec) ((60, in_range) ∷ [])))
           ∙ rw q refl
 
       pub on-record : (w : Refusal) → r ≡ record-answer.Refused w
-          → (M : Netlist) → CircuitTables M file ps cs shape → detectionOf (detection.Refused w) ≡ detectionOn M class rec fault
-      on-record w e = every (refused (refusalNumber w)) class fault rec (as-asked (refused (refusalNumber w)) (ap recordOf e))
+          → (M : Netlist) → CircuitTables M file ps cs shape → detection_of (detection.Refused w) ≡ detection_on M class rec fault
+      on-record w e = every (refused (refusal_number_of w)) class fault rec (as_asked (refused (refusal_number_of w)) (ap record_of e))
 
-      module _ (e : r ≡ record-answer.Legal) (number : ℕ) (en : number ≡ pathOfFault fault) where
-        legal-asked : (checks ((60, in-range) ∷ []) then value found) ≡ detectionOn N class rec fault
-        legal-asked = as-asked (value tt) (ap recordOf e)
+      module _ (e : r ≡ record-answer.Legal) (number : ℕ) (en : number ≡ path_of_fault fault) where
+        legal-asked : (checks ((60, in_range) ∷ []) then value found) ≡ detection_on N class rec fault
+        legal-asked = as_asked (value tt) (ap record_of e)
 
-        pub on-low : number < 1 → (M : Netlist) → CircuitTables M file ps cs shape → detectionOf (detection.Refused why.NoSuchNumber) ≡ detectionOn M class rec fault
-        unfolding in-range
+        pub on-low : number < 1 → (M : Netlist) → CircuitTables M file ps cs shape → detection_of (detection.Refused why.NoSuchNumber) ≡ detection_on M class rec fault
+        unfolding in_range
         on-low z =
             let low : fault < 1 = omega arith in
             every (refused 60) class fault rec (rw (lt-leb 1 fault low) at legal-asked)
 
-        pub on-high : total < number → (M : Netlist) → CircuitTables M file ps cs shape → detectionOf (detection.Refused why.NoSuchNumber) ≡ detectionOn M class rec fault
-        unfolding in-range
+        pub on-high : total < number → (M : Netlist) → CircuitTables M file ps cs shape → detection_of (detection.Refused why.NoSuchNumber) ≡ detection_on M class rec fault
+        unfolding in_range
         on-high z =
-            let high : 2 * pathTotal N < fault = omega (arith, a.totalIs) in
-            every (refused 60) class fault rec (rw (lt-leb fault (2 * pathTotal N) high, and-false (leb 1 fault)) at legal-asked)
+            let high : 2 * path_total N < fault = omega (arith, a.total_is) in
+            every (refused 60) class fault rec (rw (lt-leb fault (2 * path_total N) high, and-false (leb 1 fault)) at legal-asked)
 
         module _ (some : 1 ≤ number) (few : number ≤ total) where
           pub on-legal : LegalAsked file ps cs shape rec number
           on-legal = record {
             circuit = N;
             tables = a.tables;
-            legalRecord = sym (rt.answer N (sym a.tables.inputsAre)) ∙ ap recordOf e;
+            legal_record = sym (rt.answer N (sym a.tables.inputs_are)) ∙ ap record_of e;
             low = some;
-            high = omega (arith, a.totalIs);
+            high = omega (arith, a.total_is);
           }
 
-          module _ (d : Edge) (de : d ≡ edgeOfFault fault) (b : Bool)
-              (made : (M : Netlist) → CircuitTables M file ps cs shape → b ≡ detectsNumber M (test_of M (class_of class) rec) d number) where
-            answered : (v : Bool) → b ≡ v → value v ≡ detectionOn N class rec fault
-            unfolding in-range found detectsFault
+          module _ (d : Edge) (de : d ≡ edge_of_fault fault) (b : Bool)
+              (made : (M : Netlist) → CircuitTables M file ps cs shape → b ≡ detects_number M (test_of M (class_of class) rec) d number) where
+            answered : (v : Bool) → b ≡ v → value v ≡ detection_on N class rec fault
+            unfolding in_range found detects_fault
             answered v t =
                 let low : 1 ≤ fault = omega arith in
-                let high : fault ≤ 2 * pathTotal N = omega (arith, a.totalIs) in
-                let f : v ≡ found = sym t ∙ made N a.tables ∙ ap₂ (λ (x : Edge) (y : ℕ). detectsNumber N (test_of N (class_of class) rec) x y) de en in
-                ap value f ∙ (rw (le-leb 1 fault low, le-leb fault (2 * pathTotal N) high) at legal-asked)
+                let high : fault ≤ 2 * path_total N = omega (arith, a.total_is) in
+                let f : v ≡ found = sym t ∙ made N a.tables ∙ ap₂ (λ (x : Edge) (y : ℕ). detects_number N (test_of N (class_of class) rec) x y) de en in
+                ap value f ∙ (rw (le-leb 1 fault low, le-leb fault (2 * path_total N) high) at legal-asked)
 
-            pub on-detected : b ≡ true → (M : Netlist) → CircuitTables M file ps cs shape → detectionOf detection.Detected ≡ detectionOn M class rec fault
+            pub on-detected : b ≡ true → (M : Netlist) → CircuitTables M file ps cs shape → detection_of detection.Detected ≡ detection_on M class rec fault
             on-detected t = every (value true) class fault rec (answered true t)
 
-            pub on-not : b ≡ false → (M : Netlist) → CircuitTables M file ps cs shape → detectionOf detection.NotDetected ≡ detectionOn M class rec fault
+            pub on-not : b ≡ false → (M : Netlist) → CircuitTables M file ps cs shape → detection_of detection.NotDetected ≡ detection_on M class rec fault
             on-not t = every (value false) class fault rec (answered false t)
 
 pub ruleset on-cases = (on-some-input, on-few-inputs, on-unknown, on-record, on-low, on-high, on-legal, on-detected, on-not, needs)
@@ -111,20 +111,20 @@ pub ruleset on-cases = (on-some-input, on-few-inputs, on-unknown, on-record, on-
 -- ---- the netlist
 
 module _ (file cs ps : List ℕ) (l : LoadAnswer) (t : LoadTrue l file cs ps) (class fault : ℕ) (rec : List ℕ) where
-  pub call-refused : (w : Refusal) → l ≡ load.Refused w → detectionOf (detection.Refused w) ≡ detectionCall file class rec fault
-  unfolding detectionCall
-  call-refused w e = let n : readNetlist file ≡ refused (refusalNumber w) = rw e at t in rw n refl
+  pub call-refused : (w : Refusal) → l ≡ load.Refused w → detection_of (detection.Refused w) ≡ detection_call file class rec fault
+  unfolding detection_call
+  call-refused w e = let n : read_netlist file ≡ refused (refusal_number_of w) = rw e at t in rw n refl
 
   module _ (shape : Shape) (total : ℕ) (e : l ≡ load.Legal shape total) where
     here : LegalLoad file cs ps shape total
     here = rw e at t
 
     pub call-asked : Asked file ps cs shape total
-    call-asked = record { circuit = here.circuit; tables = here.tables; totalIs = here.totalIs }
+    call-asked = record { circuit = here.circuit; tables = here.tables; total_is = here.total_is }
 
-    pub call-answered : (r : DetectionAnswer) → ((N : Netlist) → CircuitTables N file ps cs shape → detectionOf r ≡ detectionOn N class rec fault)
-        → detectionOf r ≡ detectionCall file class rec fault
-    unfolding detectionCall
+    pub call-answered : (r : DetectionAnswer) → ((N : Netlist) → CircuitTables N file ps cs shape → detection_of r ≡ detection_on N class rec fault)
+        → detection_of r ≡ detection_call file class rec fault
+    unfolding detection_call
     call-answered r made = made here.circuit here.tables ∙ rw here.tables.legal refl
 
 pub ruleset call-cases = (zeros-are, call-refused, call-asked, call-answered, needs)

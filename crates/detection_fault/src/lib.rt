@@ -5,7 +5,7 @@ ghost use Rattle.std.specs.Prelude.{◌≡◌};
 ghost use Rattle.model.specs.Base.{value};
 ghost use Rattle.model.specs.Netlist.{Netlist};
 ghost use Rattle.netlist.specs.Tables.{CircuitTables};
-ghost use Rattle.detection_fault.specs.Detection.{detectionOf, detectionOn, detectionCall};
+ghost use Rattle.detection_fault.specs.Detection.{detection_of, detection_on, detection_call};
 ghost use Rattle.detection_fault.specs.OpenPaths.{Asked};
 
 use crate::walking::detects_path;
@@ -35,7 +35,7 @@ fn detects_on(
 ) -> DetectionAnswer
     requires { Asked netlist.now positions.now counts.now shape total }
     ensures { (N : Netlist) → CircuitTables N netlist.now positions.now counts.now shape
-        → detectionOf result ≡ detectionOn N class test.now fault.0 }
+        → detection_of result ≡ detection_on N class test.now fault.0 }
 {
     if !known_class(class) {
         return DetectionAnswer::Refused(Refusal::UnknownClass);
@@ -63,7 +63,7 @@ fn detects_on(
 
 // Whether a test detects a fault, judged in class 1 (non-robust) or 2 (robust).
 pub fn test_detects(netlist: &[u8], test: &[u8], test_class: u32, fault: FaultNo) -> DetectionAnswer
-    ensures { detectionOf result ≡ detectionCall netlist.now test_class test.now fault.0 }
+    ensures { detection_of result ≡ detection_call netlist.now test_class test.now fault.0 }
 {
     let mut counts = [0u64; 512];
     let mut positions = [0u16; 512];

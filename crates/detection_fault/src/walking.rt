@@ -2,13 +2,13 @@
 ghost use Rattle.std.specs.Prelude.{◌≡◌, ◌≤◌, ◌<◌, get_or};
 ghost use Rattle.model.specs.Base.{bit};
 ghost use Rattle.model.specs.Netlist.{Netlist};
-ghost use Rattle.model.specs.Path.{pathOf};
-ghost use Rattle.model.specs.Detect.{detectsNumber};
+ghost use Rattle.model.specs.Path.{path_of};
+ghost use Rattle.model.specs.Detect.{detects_number};
 ghost use Rattle.model.specs.Read.{class_of, test_of};
-ghost use Rattle.path_faults.specs.Answers.{modelEdge};
+ghost use Rattle.path_faults.specs.Answers.{model_edge};
 ghost use Rattle.netlist.specs.Tables.{CircuitTables, SomeTables};
 ghost use Rattle.path_of_number.specs.Tasks.{Wanted};
-ghost use Rattle.detection_fault.specs.OpenPaths.{open_at, openNumber, movedBy, LegalAsked};
+ghost use Rattle.detection_fault.specs.OpenPaths.{open_at, open_number, moved_by, LegalAsked};
 
 use netlist::inner::{Shape, gate_part, outputs_part};
 use path_faults::Edge;
@@ -70,7 +70,7 @@ fn open_path(
 ) -> bool
     requires { Wanted netlist.now positions.now counts.now shape number }
     ensures { (N : Netlist) → CircuitTables N netlist.now positions.now counts.now shape
-        → result ≡ openNumber N masks.now moved number }
+        → result ≡ open_number N masks.now moved number }
 {
     let outputs = outputs_part(netlist, shape.outputs);
     let out = pick_output(outputs, shape.outputs, counts, shape.inputs, number);
@@ -81,7 +81,7 @@ fn open_path(
 
 // The inputs that make an edge.
 fn moved_of(edges: InputEdges, edge: Edge) -> u64
-    ensures { result ≡ movedBy edges (modelEdge edge) }
+    ensures { result ≡ moved_by edges (model_edge edge) }
 {
     match edge {
         Edge::Rising => edges.rises,
@@ -102,7 +102,7 @@ pub(crate) fn detects_path(
 ) -> bool
     requires { LegalAsked netlist.now positions.now counts.now shape test.now path }
     ensures { (N : Netlist) → CircuitTables N netlist.now positions.now counts.now shape
-        → result ≡ detectsNumber N (test_of N (class_of class) test.now) (modelEdge edge) path }
+        → result ≡ detects_number N (test_of N (class_of class) test.now) (model_edge edge) path }
 {
     let vectors = read_vectors(test, shape.inputs);
     let masks = open_masks(netlist, positions, shape, vectors.v1, vectors.v2, class);

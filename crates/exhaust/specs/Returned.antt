@@ -2,23 +2,23 @@
 use Rattle.std.specs.Prelude.{◌≡◌, not, List, ℕ, T}
 use Rattle.model.specs.Base.{value}
 use Rattle.model.specs.Netlist.{Netlist}
-use Rattle.model.specs.Read.{readNetlist}
-use Rattle.model.specs.Refusals.{refusalNumber}
-use Rattle.model.specs.Store.{emptyStore}
+use Rattle.model.specs.Read.{read_netlist}
+use Rattle.model.specs.Refusals.{refusal_number_of}
+use Rattle.model.specs.Store.{empty_store}
 use Rattle.model.specs.declared.Refusal.{Refusal}
-use Rattle.exhaust_pairs.specs.Exhaust.{ofWork, Exhausted}
+use Rattle.exhaust_pairs.specs.Exhaust.{of_work, Exhausted}
 use Rattle.exhaust.specs.Answers.{ExhaustTrue}
 use Rattle.exhaust.specs.declared.ExhaustAnswer.{ExhaustAnswer}
 use Rattle.exhaust.specs.declared.ExhaustAnswer.TheVariants as exhaust
 
 pub record ReturnedShows (r : ExhaustAnswer) (netlist : List ℕ) (class : ℕ) (ws ws' found left : List ℕ) : Type 0 where
   -- not refused: the store holds exactly what legal tests of the class detect, and the totals are its
-  pub whole : (N : Netlist) → readNetlist netlist ≡ value N → (a b : ℕ) → r ≡ exhaust.Totals a b
-      → Exhausted netlist N class ws' (record { onRising = a; onFalling = b })
+  pub whole : (N : Netlist) → read_netlist netlist ≡ value N → (a b : ℕ) → r ≡ exhaust.Totals a b
+      → Exhausted netlist N class ws' (record { on_rising = a; on_falling = b })
   -- a 50 or 51 leaves the store empty, another refusal store and working memory as found
-  pub emptied : (w : Refusal) → r ≡ exhaust.Refused w → T (ofWork (refusalNumber w)) → ws' ≡ emptyStore
-  pub storeFound : (w : Refusal) → r ≡ exhaust.Refused w → T (not (ofWork (refusalNumber w))) → ws' ≡ ws
-  pub workFound : (w : Refusal) → r ≡ exhaust.Refused w → T (not (ofWork (refusalNumber w))) → left ≡ found
+  pub emptied : (w : Refusal) → r ≡ exhaust.Refused w → T (of_work (refusal_number_of w)) → ws' ≡ empty_store
+  pub store_found : (w : Refusal) → r ≡ exhaust.Refused w → T (not (of_work (refusal_number_of w))) → ws' ≡ ws
+  pub work_found : (w : Refusal) → r ≡ exhaust.Refused w → T (not (of_work (refusal_number_of w))) → left ≡ found
 
 pub record ExhaustShows : Type 0 where
   pub returned : (r : ExhaustAnswer) (netlist : List ℕ) (class : ℕ) (ws ws' found left : List ℕ)

@@ -2,8 +2,8 @@
 mod pairs;
 
 ghost use Rattle.std.specs.Prelude.{◌≡◌, ◌≤◌};
-ghost use Rattle.model.specs.Store.{emptyStore};
-ghost use Rattle.exhaust_pairs.specs.Exhaust.{mostInputs};
+ghost use Rattle.model.specs.Store.{empty_store};
+ghost use Rattle.exhaust_pairs.specs.Exhaust.{most_inputs};
 ghost use Rattle.audit_records.specs.FileRecords.{Ready};
 ghost use Rattle.exhaust.specs.Answers.{ExhaustTrue, PairsApplied};
 
@@ -69,7 +69,7 @@ fn apply_pairs(
     work: &mut [u64],
 ) -> ExhaustAnswer
     requires ready { Ready netlist.now loaded store.old work.old }
-    requires store_value { (store.old ≡ emptyStore) × (loaded.shape.inputs ≤ mostInputs) }
+    requires store_value { (store.old ≡ empty_store) × (loaded.shape.inputs ≤ most_inputs) }
     ensures { PairsApplied result netlist.now class store.new work.old work.new }
 {
     let positions = loaded.positions;

@@ -1,6 +1,6 @@
 // The test stage with all pairs of a few inputs, those of one V1 at a time, on the tables of a netlist. Each caller proves what a function requires.
 ghost use Rattle.std.specs.Prelude.{◌^◌, ◌≤◌, ◌<◌};
-ghost use Rattle.exhaust_pairs.specs.Exhaust.{mostInputs};
+ghost use Rattle.exhaust_pairs.specs.Exhaust.{most_inputs};
 ghost use Rattle.audit_block.specs.FileBlocks.{BlocksReady};
 ghost use Rattle.exhaust.specs.PairsTaken.{WithTaken, AllTaken};
 
@@ -24,7 +24,7 @@ fn apply_pairs_with(
     work: &mut [u64],
 ) -> StageAnswer
     requires blocks_ready { BlocksReady table.now offsets.now numbers rising_lists.old falling_lists.old store.old work.old }
-    requires inputs_le_most_inputs { (numbers.inputs ≤ mostInputs) × (first < 2 ^ numbers.inputs) }
+    requires inputs_le_most_inputs { (numbers.inputs ≤ most_inputs) × (first < 2 ^ numbers.inputs) }
     ensures { WithTaken result table.now offsets.now numbers first rising_lists.old rising_lists.new
         falling_lists.old falling_lists.new store.old store.new work.old work.new }
 {
@@ -61,7 +61,7 @@ pub(crate) fn apply_all_pairs(
     work: &mut [u64],
 ) -> StageAnswer
     requires blocks_ready { BlocksReady table.now offsets.now numbers rising_lists.old falling_lists.old store.old work.old }
-    requires inputs_le_most_inputs { numbers.inputs ≤ mostInputs }
+    requires inputs_le_most_inputs { numbers.inputs ≤ most_inputs }
     ensures { AllTaken result table.now offsets.now numbers store.old store.new work.old work.new }
 {
     let count = vectors_of(numbers.inputs);

@@ -2,11 +2,11 @@
 use Rattle.std.specs.Prelude.{List, [], ◌∷◌, ◌++◌, ℕ, replicate}
 use Rattle.model.specs.Base.{Answer, refused, value, ◌into◌}
 use Rattle.model.specs.Runs.{run}
-use Rattle.model.specs.Store.{storeWords, emptyStore}
-use Rattle.model.specs.Calls.{workWords}
-use Rattle.model.specs.Encode.{headerBytes, gateBytes, outputBytes}
+use Rattle.model.specs.Store.{store_words_count, empty_store}
+use Rattle.model.specs.Calls.{work_words_count}
+use Rattle.model.specs.Encode.{header_bytes, gate_bytes, output_bytes}
 use Rattle.model.specs.Examples.{Q, twice, hazard, spread, holding}
-use Rattle.exhaust_pairs.specs.Exhaust.{exhaustAnswer, exhaustStore}
+use Rattle.exhaust_pairs.specs.Exhaust.{exhaust_answer, exhaust_store}
 
 -- a netlist and a class, the answer as rising and falling totals, and the store left
 pub record Example : Type 0 where
@@ -17,24 +17,24 @@ pub record Example : Type 0 where
 
 -- the store as found
 unfoldable pub sevens : List ℕ
-sevens = replicate storeWords 7
+sevens = replicate store_words_count 7
 
 -- an example of a refusal
-abbrev pub noExample : Example
-noExample = record { netlist = []; class = 1; answer = refused 10; left = sevens }
+abbrev pub no_example : Example
+no_example = record { netlist = []; class = 1; answer = refused 10; left = sevens }
 
 unfoldable pub enough : List ℕ
-enough = replicate workWords 0
+enough = replicate work_words_count 0
 
-unfoldable pub totalsShown : List ℕ → ℕ → Answer (List ℕ)
-totalsShown netlist class = exhaustAnswer netlist class sevens enough into λ t. value (t.onRising ∷ t.onFalling ∷ [])
+unfoldable pub totals_shown : List ℕ → ℕ → Answer (List ℕ)
+totals_shown netlist class = exhaust_answer netlist class sevens enough into λ t. value (t.on_rising ∷ t.on_falling ∷ [])
 
-unfoldable pub storeShown : List ℕ → ℕ → List ℕ
-storeShown netlist class = exhaustStore netlist class sevens enough
+unfoldable pub store_shown : List ℕ → ℕ → List ℕ
+store_shown netlist class = exhaust_store netlist class sevens enough
 
 -- seven inputs
 unfoldable pub seven : List ℕ
-seven = headerBytes 7 1 1 ++ gateBytes 3 (0 ∷ 1 ∷ []) ++ outputBytes 7
+seven = header_bytes 7 1 1 ++ gate_bytes 3 (0 ∷ 1 ∷ []) ++ output_bytes 7
 
 unfoldable pub examples : List Example
 examples =
@@ -50,9 +50,9 @@ examples =
     ∷ record { netlist = hazard; class = 1; answer = value (2 ∷ 2 ∷ []); left = holding 12 (run 2 3 ∷ []) (run 1 1 ∷ run 3 3 ∷ []) }
     ∷ record { netlist = hazard; class = 2; answer = value (1 ∷ 1 ∷ []); left = holding 12 (run 3 3 ∷ []) (run 3 3 ∷ []) }
     -- 2,341 working runs when a rises: 50 on the way, by the first pair, and the store is empty
-    ∷ record { netlist = spread 3; class = 1; answer = refused 50; left = emptyStore }
+    ∷ record { netlist = spread 3; class = 1; answer = refused 50; left = empty_store }
     -- seven inputs are 91, after the class; the store is as found
     ∷ record { netlist = seven; class = 2; answer = refused 91; left = sevens }
     ∷ record { netlist = seven; class = 3; answer = refused 83; left = sevens }
-    ∷ noExample
+    ∷ no_example
     ∷ []

@@ -1,12 +1,12 @@
 // The lines of a store that all pairs left, and its first faults. Each caller proves what a function requires.
 ghost use Rattle.std.specs.Prelude.{◌≡◌, [], ◌^◌, ◌≤◌, length};
 ghost use Rattle.io.specs.Counts.{IsPrefixLen};
-ghost use Rattle.model.specs.Store.{emptyStore};
+ghost use Rattle.model.specs.Store.{empty_store};
 ghost use Rattle.store_words.specs.Sound.{SoundWords};
 ghost use Rattle.exhaust_undetected.specs.Undetected.{listed};
 ghost use Rattle.text_buffer.specs.Written.{Written};
-ghost use Rattle.listing_text.specs.StoreText.{outBytes};
-ghost use Rattle.exhaust_text.specs.BlockText.{zeroWork, block_lines, list_of};
+ghost use Rattle.listing_text.specs.StoreText.{out_bytes};
+ghost use Rattle.exhaust_text.specs.BlockText.{zero_work, block_lines, list_of};
 
 use crate::FaultList;
 use exhaust_undetected::inner::{LISTED, count_undetected, first_undetected};
@@ -17,13 +17,13 @@ use text_buffer::inner::put_line;
 
 // Zeros for a store, for working memory and for a list.
 pub(crate) fn no_store() -> [u64; STORE_WORDS]
-    ensures { result ≡ emptyStore }
+    ensures { result ≡ empty_store }
 {
     [0; STORE_WORDS]
 }
 
 pub(crate) fn no_work() -> [u64; WORK_WORDS]
-    ensures { result ≡ zeroWork }
+    ensures { result ≡ zero_work }
 {
     [0; WORK_WORDS]
 }
@@ -40,7 +40,7 @@ pub(crate) fn no_faults() -> FaultList
 
 // The runs and totals of a store, then how many faults of so many paths it does not hold.
 pub(crate) fn put_lines(store: &[u64], paths: u64, out: &mut [u8]) -> usize
-    requires { SoundWords paths store.now × (paths ≤ 2 ^ 62) × (outBytes ≤ length out.old) }
+    requires { SoundWords paths store.now × (paths ≤ 2 ^ 62) × (out_bytes ≤ length out.old) }
     ensures { Written out.old out.new 0 (block_lines store.now paths) result }
 {
     let end = put_store(out, store);

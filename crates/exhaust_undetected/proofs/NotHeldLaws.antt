@@ -4,69 +4,69 @@ use Rattle.model.proofs.Prelude.{arith}
 use Rattle.model.proofs.BoolLaws.{bool_cases, cases}
 use Rattle.path_faults.specs.declared.FaultAnswer.{FaultAnswer}
 use Rattle.path_faults.specs.declared.FaultAnswer.TheVariants as fault
-use Rattle.exhaust_undetected.specs.Undetected.{heldNumber, notHeldFrom}
+use Rattle.exhaust_undetected.specs.Undetected.{held_number, not_held_from}
 use Rattle.exhaust_undetected.specs.Searches.{FirstNotHeld}
 
 module _ (ws : List ℕ) where
-  pub skip-held : (f n : ℕ) → heldNumber ws f ≡ true → notHeldFrom ws f (suc n) ≡ notHeldFrom ws (suc f) n
-  unfolding notHeldFrom
-  skip-held f n q = rw (q, notHeldFrom) refl
+  pub skip_held : (f n : ℕ) → held_number ws f ≡ true → not_held_from ws f (suc n) ≡ not_held_from ws (suc f) n
+  unfolding not_held_from
+  skip_held f n q = rw (q, not_held_from) refl
 
-  pub take-free : (f n : ℕ) → heldNumber ws f ≡ false → notHeldFrom ws f (suc n) ≡ f ∷ notHeldFrom ws (suc f) n
-  unfolding notHeldFrom
-  take-free f n q = rw (q, notHeldFrom) refl
+  pub take-free : (f n : ℕ) → held_number ws f ≡ false → not_held_from ws f (suc n) ≡ f ∷ not_held_from ws (suc f) n
+  unfolding not_held_from
+  take-free f n q = rw (q, not_held_from) refl
 
   -- all are held
-  pub none_free : (n f : ℕ) → ((k : ℕ) → f ≤ k → k < f + n → heldNumber ws k ≡ true) → notHeldFrom ws f n ≡ []
-  unfolding notHeldFrom
+  pub none_free : (n f : ℕ) → ((k : ℕ) → f ≤ k → k < f + n → held_number ws k ≡ true) → not_held_from ws f n ≡ []
+  unfolding not_held_from
   none_free zero f h = refl
-  none_free (suc n) f h = skip-held f n (h f (omega arith) (omega arith)) ∙ none_free n (suc f) (λ k a b. h k (omega arith) (omega arith))
+  none_free (suc n) f h = skip_held f n (h f (omega arith) (omega arith)) ∙ none_free n (suc f) (λ k a b. h k (omega arith) (omega arith))
 
   -- the first that is not held
-  pub first-free : (n f g : ℕ) → FirstNotHeld g ws f → g < f + n → notHeldFrom ws f n ≡ g ∷ notHeldFrom ws (suc g) (f + n - suc g)
-  first-free zero f g x l = absurd (omega (arith, x.notBefore))
+  pub first-free : (n f g : ℕ) → FirstNotHeld g ws f → g < f + n → not_held_from ws f n ≡ g ∷ not_held_from ws (suc g) (f + n - suc g)
+  first-free zero f g x l = absurd (omega (arith, x.not_before))
   first-free (suc n) f g x l =
       cases g f
       (λ (m : g ≤ f).
-      let e : f ≡ g = omega (arith, x.notBefore) in
+      let e : f ≡ g = omega (arith, x.not_before) in
       let k : n ≡ f + suc n - suc g = omega arith in
-      take-free f n (subst (λ (j : ℕ). heldNumber ws j ≡ false) (sym e) x.isFree) ∙ ap₂ (λ (j i : ℕ). j ∷ notHeldFrom ws (suc j) i) e k)
+      take-free f n (subst (λ (j : ℕ). held_number ws j ≡ false) (sym e) x.is_free) ∙ ap₂ (λ (j i : ℕ). j ∷ not_held_from ws (suc j) i) e k)
       (λ (m : f < g).
       let k : suc f + n - suc g ≡ f + suc n - suc g = omega arith in
-      skip-held f n (x.passed f (omega arith) m)
-      ∙ first-free n (suc f) g (record { notBefore = m; passed = λ j a b. x.passed j (omega arith) b; isFree = x.isFree }) (omega arith)
-      ∙ ap (λ (i : ℕ). g ∷ notHeldFrom ws (suc g) i) k)
+      skip_held f n (x.passed f (omega arith) m)
+      ∙ first-free n (suc f) g (record { not_before = m; passed = λ j a b. x.passed j (omega arith) b; is_free = x.is_free }) (omega arith)
+      ∙ ap (λ (i : ℕ). g ∷ not_held_from ws (suc g) i) k)
 
   -- what comes after the first of a list
   pub record Begins (f n : ℕ) (x : ℕ) (xs : List ℕ) : Type 0 where
-    pub notBefore : f ≤ x
+    pub not_before : f ≤ x
     pub inside : x < f + n
-    pub others : xs ≡ notHeldFrom ws (suc x) (f + n - suc x)
+    pub others : xs ≡ not_held_from ws (suc x) (f + n - suc x)
 
-  pub begins : (n f x : ℕ) (xs : List ℕ) → notHeldFrom ws f n ≡ x ∷ xs → Begins f n x xs
-  unfolding notHeldFrom
+  pub begins : (n f x : ℕ) (xs : List ℕ) → not_held_from ws f n ≡ x ∷ xs → Begins f n x xs
+  unfolding not_held_from
   begins zero f x xs e = absurd (nil≢ e)
     where
-      isNil : List ℕ → Type 0
-      isNil [] = Unit {0}
-      isNil (y ∷ ys) = ⊥
+      is_nil : List ℕ → Type 0
+      is_nil [] = Unit {0}
+      is_nil (y ∷ ys) = ⊥
 
       nil≢ : [] ≡ x ∷ xs → ⊥
-      nil≢ q = subst isNil q tt
+      nil≢ q = subst is_nil q tt
   begins (suc n) f x xs e =
       ⊎_elim
-      (λ (q : heldNumber ws f ≡ true).
-      let b = begins n (suc f) x xs (sym (skip-held f n q) ∙ e) in
+      (λ (q : held_number ws f ≡ true).
+      let b = begins n (suc f) x xs (sym (skip_held f n q) ∙ e) in
       let k : suc f + n - suc x ≡ f + suc n - suc x = omega arith in
       record {
-        notBefore = omega (arith, b.notBefore);
+        not_before = omega (arith, b.not_before);
         inside = omega (arith, b.inside);
-        others = b.others ∙ ap (notHeldFrom ws (suc x)) k;
+        others = b.others ∙ ap (not_held_from ws (suc x)) k;
       })
-      (λ (q : heldNumber ws f ≡ false).
-      let c : f ∷ notHeldFrom ws (suc f) n ≡ x ∷ xs = sym (take-free f n q) ∙ e in
+      (λ (q : held_number ws f ≡ false).
+      let c : f ∷ not_held_from ws (suc f) n ≡ x ∷ xs = sym (take-free f n q) ∙ e in
       let h : f ≡ x = ap (λ (l : List ℕ). get_or l 0 0) c in
-      let t : notHeldFrom ws (suc f) n ≡ xs = ap (λ (l : List ℕ). lib.ListN.drop 1 l) c in
+      let t : not_held_from ws (suc f) n ≡ xs = ap (λ (l : List ℕ). lib.ListN.drop 1 l) c in
       let k : n ≡ f + suc n - suc x = omega arith in
-      record { notBefore = omega arith; inside = omega arith; others = sym t ∙ ap₂ (λ (j i : ℕ). notHeldFrom ws (suc j) i) h k })
-      (bool_cases (heldNumber ws f))
+      record { not_before = omega arith; inside = omega arith; others = sym t ∙ ap₂ (λ (j i : ℕ). not_held_from ws (suc j) i) h k })
+      (bool_cases (held_number ws f))

@@ -1,17 +1,17 @@
 -- Stores of a few paths and the faults that they do not hold, the first 20, worked by hand.
 use Rattle.std.specs.Prelude.{List, [], ◌∷◌, ℕ}
-use Rattle.model.specs.Base.{numbersFrom}
+use Rattle.model.specs.Base.{numbers_from}
 use Rattle.model.specs.Runs.{run}
 use Rattle.model.specs.Examples.{holding}
-use Rattle.model.specs.Store.{emptyStore}
+use Rattle.model.specs.Store.{empty_store}
 
 pub record Example : Type 0 where
   pub store : List ℕ
   pub paths : ℕ
   pub faults : List ℕ
 
-abbrev pub noExample : Example
-noExample = record { store = emptyStore; paths = 0; faults = [] }
+abbrev pub no_example : Example
+no_example = record { store = empty_store; paths = 0; faults = [] }
 
 unfoldable pub examples : List Example
 examples =
@@ -21,8 +21,8 @@ examples =
     ∷ record { store = holding 1 (run 2 3 ∷ []) (run 1 1 ∷ run 3 3 ∷ []); paths = 3; faults = 1 ∷ 4 ∷ [] }
     -- all faults, none, and no path
     ∷ record { store = holding 1 (run 1 2 ∷ []) (run 1 2 ∷ []); paths = 2; faults = [] }
-    ∷ record { store = emptyStore; paths = 2; faults = 1 ∷ 2 ∷ 3 ∷ 4 ∷ [] }
-    ∷ noExample
+    ∷ record { store = empty_store; paths = 2; faults = 1 ∷ 2 ∷ 3 ∷ 4 ∷ [] }
+    ∷ no_example
     -- 22 faults, of which 20 are listed
-    ∷ record { store = emptyStore; paths = 11; faults = numbersFrom 1 20 }
+    ∷ record { store = empty_store; paths = 11; faults = numbers_from 1 20 }
     ∷ []

@@ -1,11 +1,11 @@
 // The faults of so many paths that sound words do not hold. Each caller proves what a function requires.
 ghost use Rattle.std.specs.Prelude.{◌≡◌, ◌+◌, ◌-◌, ◌*◌, ◌/◌, ◌^◌, ◌≤◌, length, get_or};
-ghost use Rattle.model.specs.Store.{storeRuns};
-ghost use Rattle.path_faults.specs.Answers.{modelEdge};
-ghost use Rattle.run_lists.specs.RunLists.{Sound, runsInWords};
+ghost use Rattle.model.specs.Store.{store_runs};
+ghost use Rattle.path_faults.specs.Answers.{model_edge};
+ghost use Rattle.run_lists.specs.RunLists.{Sound, runs_in_words};
 ghost use Rattle.store_words.specs.Sound.{SoundWords};
-ghost use Rattle.exhaust_undetected.specs.Undetected.{mostListed, undetected, ListWritten};
-ghost use Rattle.exhaust_undetected.specs.Searches.{FirstFree, FirstFault, restFrom};
+ghost use Rattle.exhaust_undetected.specs.Undetected.{most_listed, undetected, ListWritten};
+ghost use Rattle.exhaust_undetected.specs.Searches.{FirstFree, FirstFault, rest_from};
 
 use model::{HEAD_WORDS, MAX_RUNS};
 use path_faults::{Edge, FaultAnswer, FaultNo, PathNo, edge_of, fault_of, path_of};
@@ -17,8 +17,8 @@ pub const LISTED: usize = 20;
 // The first number from x on that is in none of the runs from..to.
 fn next_free(words: &[u64], from: usize, to: usize, x: u64) -> u64
     requires from_le_to { (from ≤ to) × (2 * to ≤ length words.now) }
-    requires sound { Sound (2 ^ 62) (runsInWords words.now from (to - from)) }
-    ensures { FirstFree result (runsInWords words.now from (to - from)) x }
+    requires sound { Sound (2 ^ 62) (runs_in_words words.now from (to - from)) }
+    ensures { FirstFree result (runs_in_words words.now from (to - from)) x }
 {
     let mut i = from;
     while i < to {
@@ -36,7 +36,7 @@ fn next_free(words: &[u64], from: usize, to: usize, x: u64) -> u64
 // The first path from a number on whose fault of an edge is not held.
 fn next_path(words: &[u64], edge: Edge, from: u64) -> u64
     requires { SoundWords (2 ^ 62) words.now }
-    ensures { FirstFree result (storeRuns words.now (modelEdge edge)) from }
+    ensures { FirstFree result (store_runs words.now (model_edge edge)) from }
 {
     let places = &words[HEAD_WORDS..];
     match edge {
@@ -80,7 +80,7 @@ fn next_fault(words: &[u64], from: FaultNo) -> FaultAnswer
 // The number of that fault, if it is one of so many paths, else 0.
 fn next_number(words: &[u64], paths: u64, from: FaultNo) -> u64
     requires { SoundWords (2 ^ 62) words.now × (1 ≤ from.0) × (paths ≤ 2 ^ 62) }
-    ensures { result ≡ get_or (restFrom words.now paths from.0) 0 0 }
+    ensures { result ≡ get_or (rest_from words.now paths from.0) 0 0 }
 {
     let found = next_fault(words, from);
     match found {
@@ -97,7 +97,7 @@ fn next_number(words: &[u64], paths: u64, from: FaultNo) -> u64
 
 // Writes the numbers of the first faults that are not held, at most 20, at the start of the words lent for them; how many they are.
 pub fn first_undetected(words: &[u64], paths: u64, list: &mut [u64]) -> usize
-    requires { SoundWords (2 ^ 62) words.now × (paths ≤ 2 ^ 62) × (mostListed ≤ length list.old) }
+    requires { SoundWords (2 ^ 62) words.now × (paths ≤ 2 ^ 62) × (most_listed ≤ length list.old) }
     ensures { ListWritten result list.old list.new words.now paths }
 {
     let mut from: u64 = 1;

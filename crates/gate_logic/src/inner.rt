@@ -5,8 +5,8 @@ ghost use Rattle.std.specs.Prelude.{◌≡◌, ℕ, ◌<◌, ◌≤◌};
 ghost use Rattle.model.specs.Base.{bit};
 ghost use Rattle.model.specs.Detect as detect;
 ghost use Rattle.model.specs.Read.{kind_of, class_of};
-ghost use Rattle.gate_packed_pins.specs.Packed.{oneWhere};
-ghost use Rattle.gate_logic.specs.States.{steadyBy, state_of, word_of, pinsIn, PackedStates};
+ghost use Rattle.gate_packed_pins.specs.Packed.{one_where_of};
+ghost use Rattle.gate_logic.specs.States.{steady_by_of, state_of, word_of, pins_in, PackedStates};
 
 use gate_packed_pins::inner::{all_pins, is_odd, open_pins, open_set};
 
@@ -20,7 +20,7 @@ pub struct PinStates {
 
 // A bit in a word.
 fn one_where(value: bool) -> u32
-    ensures { (result ≡ oneWhere value) × (result ≤ 1) }
+    ensures { (result ≡ one_where_of value) × (result ≤ 1) }
 {
     if value { 1 } else { 0 }
 }
@@ -35,7 +35,7 @@ pub fn state_word(v1: bool, v2: bool, steady: bool) -> u32
 // All pins are steady, or one pin is steady at the controlling value, where `controlling` are those at it. Without a branch that depends on the
 // values.
 fn gate_steady(all: u8, steady: u8, controlling: u8) -> bool
-    ensures { result ≡ steadyBy all steady controlling }
+    ensures { result ≡ steady_by_of all steady controlling }
 {
     one_where(steady == all) | one_where(steady & controlling != 0) != 0
 }
@@ -43,7 +43,7 @@ fn gate_steady(all: u8, steady: u8, controlling: u8) -> bool
 // What evaluating the gate's net yields, as a word.
 pub fn evaluate(kind: u8, pins: u8, states: PinStates) -> u32
     requires { PackedStates kind pins states }
-    ensures { result ≡ word_of (detect.gateEvaluation (kind_of kind) (pinsIn pins states.v1 states.v2 states.steady)) }
+    ensures { result ≡ word_of (detect.gate_evaluation (kind_of kind) (pins_in pins states.v1 states.v2 states.steady)) }
 {
     let v1 = states.v1;
     let v2 = states.v2;
@@ -65,7 +65,7 @@ pub fn evaluate(kind: u8, pins: u8, states: PinStates) -> u32
 // non-controlling value.
 fn robust_pins(kind: u8, pins: u8, states: PinStates) -> u8
     requires { PackedStates kind pins states }
-    ensures { (p : ℕ) → p < pins → bit result p ≡ detect.isOpen detect.robust (kind_of kind) (pinsIn pins states.v1 states.v2 states.steady) p }
+    ensures { (p : ℕ) → p < pins → bit result p ≡ detect.is_open detect.robust (kind_of kind) (pins_in pins states.v1 states.v2 states.steady) p }
 {
     let v2 = states.v2;
     let moved = states.v1 ^ v2;
@@ -83,7 +83,7 @@ fn robust_pins(kind: u8, pins: u8, states: PinStates) -> u8
 // The open pins of a gate in a class, a bit for each.
 pub fn class_pins(class: u32, kind: u8, pins: u8, states: PinStates) -> u8
     requires { PackedStates kind pins states }
-    ensures { (p : ℕ) → p < pins → bit result p ≡ detect.isOpen (class_of class) (kind_of kind) (pinsIn pins states.v1 states.v2 states.steady) p }
+    ensures { (p : ℕ) → p < pins → bit result p ≡ detect.is_open (class_of class) (kind_of kind) (pins_in pins states.v1 states.v2 states.steady) p }
 {
     if class == 2 {
         return robust_pins(kind, pins, states);

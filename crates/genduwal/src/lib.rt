@@ -3,17 +3,17 @@ pub mod number_calls;
 pub mod tree_calls;
 
 ghost use Rattle.std.specs.Prelude.{◌≡◌};
-ghost use Rattle.model.specs.Calls.{surveyCall, emptyCall, emptiedStore, totalsCall, faultCall, pathToNumberCall, numberToPathAnswer, numberToPathBuffer, testAnswer, testStore, WorkAfter};
-ghost use Rattle.model.specs.Report.{writerAnswer, writerBuffer, auditAnswer, auditStore};
-ghost use Rattle.audit_piece_steps.specs.Steps.{beginAnswer, beginStore};
-ghost use Rattle.load.specs.Calls.{loadAnswer, loadBuffer};
-ghost use Rattle.exhaust_pairs.specs.Exhaust.{exhaustAnswer, exhaustStore, PairsWork};
-ghost use Rattle.length_rows.specs.Lengths.{lengthWords, lengthsCall};
-ghost use Rattle.audit_pieces.specs.Calls.{pieceAnswer, pieceLeft, PieceWork, endAnswer, endStore};
-ghost use Rattle.bench_text.specs.Calls.{convertAnswer, convertBuffer};
-ghost use Rattle.viewer_places.specs.Viewer.{viewerTotalsCall, viewerRunsAnswer, viewerRunsStore, viewerFaultCall};
-ghost use Rattle.c_answer_words.specs.Codes.{codeAnswer, Answered, surveyWords, edgeWords, countWords, numberWord, boolWord};
-ghost use Rattle.c_calls.specs.Answers.{allTaken, loadWords};
+ghost use Rattle.model.specs.Calls.{survey_call, empty_call, emptied_store, totals_call, fault_call, path_to_number_call, number_to_path_answer, number_to_path_buffer, test_answer, test_store, WorkAfter};
+ghost use Rattle.model.specs.Report.{writer_answer, writer_buffer, audit_answer, audit_store};
+ghost use Rattle.audit_piece_steps.specs.Steps.{begin_answer, begin_store};
+ghost use Rattle.load.specs.Calls.{load_answer, load_buffer};
+ghost use Rattle.exhaust_pairs.specs.Exhaust.{exhaust_answer, exhaust_store, PairsWork};
+ghost use Rattle.length_rows.specs.Lengths.{length_words, lengths_call};
+ghost use Rattle.audit_pieces.specs.Calls.{piece_answer, piece_left, PieceWork, end_answer, end_store};
+ghost use Rattle.bench_text.specs.Calls.{convert_answer, convert_buffer};
+ghost use Rattle.viewer_places.specs.Viewer.{viewer_totals_call, viewer_runs_answer, viewer_runs_store, viewer_fault_call};
+ghost use Rattle.c_answer_words.specs.Codes.{code_answer, Answered, survey_words, edge_words, count_words, number_word, bool_word};
+ghost use Rattle.c_calls.specs.Answers.{all_taken, load_words};
 
 use audit_judging::EndAnswer;
 use path_faults::{FaultNo, PathNo};
@@ -21,7 +21,7 @@ use path_faults::{FaultNo, PathNo};
 // The survey of a netlist: I, G, U, T, then a count for each of 512 nets.
 #[unsafe(no_mangle)]
 pub extern "C" fn genduwal_survey(netlist: &[u8], answer: &mut [u64; 516]) -> u32
-    ensures { Answered (surveyCall netlist.now) surveyWords result answer.old answer.new }
+    ensures { Answered (survey_call netlist.now) survey_words result answer.old answer.new }
 {
     let surveyed = netlist::survey(netlist);
     c_calls::survey_code(surveyed, answer)
@@ -30,8 +30,8 @@ pub extern "C" fn genduwal_survey(netlist: &[u8], answer: &mut [u64; 516]) -> u3
 // Empties a store, of any words.
 #[unsafe(no_mangle)]
 pub extern "C" fn genduwal_empty(store: &mut [u64]) -> u32
-    ensures result_value { codeAnswer result ≡ emptyCall store.old }
-    ensures store_after { store.new ≡ emptiedStore store.old }
+    ensures result_value { code_answer result ≡ empty_call store.old }
+    ensures store_after { store.new ≡ emptied_store store.old }
 {
     let emptied = store::empty(store);
     c_store::empty_code(emptied)
@@ -47,9 +47,9 @@ pub extern "C" fn genduwal_test(
     work: &mut [u64],
     answer: &mut [u64; 4],
 ) -> u32
-    ensures answered { Answered (testAnswer netlist.now test_class test.now store.old work.old)
-        countWords result answer.old answer.new }
-    ensures store_after { store.new ≡ testStore netlist.now test_class test.now store.old work.old }
+    ensures answered { Answered (test_answer netlist.now test_class test.now store.old work.old)
+        count_words result answer.old answer.new }
+    ensures store_after { store.new ≡ test_store netlist.now test_class test.now store.old work.old }
     ensures work_after { WorkAfter netlist.now test_class store.old work.old work.new }
 {
     let tested = single_call::apply_test(netlist, test, test_class, store, work);
@@ -66,9 +66,9 @@ pub extern "C" fn genduwal_exhaust(
     work: &mut [u64],
     answer: &mut [u64; 2],
 ) -> u32
-    ensures answered { Answered (exhaustAnswer netlist.now test_class store.old work.old)
-        edgeWords result answer.old answer.new }
-    ensures store_after { store.new ≡ exhaustStore netlist.now test_class store.old work.old }
+    ensures answered { Answered (exhaust_answer netlist.now test_class store.old work.old)
+        edge_words result answer.old answer.new }
+    ensures store_after { store.new ≡ exhaust_store netlist.now test_class store.old work.old }
     ensures pairs_work { PairsWork netlist.now test_class store.old work.old work.new }
 {
     let shown = exhaust::exhaust(netlist, test_class, store, work);
@@ -78,7 +78,7 @@ pub extern "C" fn genduwal_exhaust(
 // The number of rising, then of falling faults that a store holds.
 #[unsafe(no_mangle)]
 pub extern "C" fn genduwal_totals(netlist: &[u8], store: &[u64], answer: &mut [u64; 2]) -> u32
-    ensures { Answered (totalsCall netlist.now store.now) edgeWords result answer.old answer.new }
+    ensures { Answered (totals_call netlist.now store.now) edge_words result answer.old answer.new }
 {
     let totals = store::totals(netlist, store);
     c_store::totals_code(totals, answer)
@@ -87,7 +87,7 @@ pub extern "C" fn genduwal_totals(netlist: &[u8], store: &[u64], answer: &mut [u
 // Coverage by length: for rising the number of paths of each length of 0 to 63 gates, then of their faults that a store holds; the same for falling.
 #[unsafe(no_mangle)]
 pub extern "C" fn genduwal_lengths(netlist: &[u8], store: &[u64], answer: &mut [u64; 256]) -> u32
-    ensures { Answered (lengthsCall netlist.now store.now) lengthWords result answer.old answer.new }
+    ensures { Answered (lengths_call netlist.now store.now) length_words result answer.old answer.new }
 {
     let rows = length_coverage::coverage_by_length(netlist, store);
     c_store::lengths_code(rows, answer)
@@ -101,7 +101,7 @@ pub extern "C" fn genduwal_holds(
     fault: u64,
     answer: &mut [u64; 1],
 ) -> u32
-    ensures { Answered (faultCall netlist.now store.now fault) boolWord result answer.old answer.new }
+    ensures { Answered (fault_call netlist.now store.now fault) bool_word result answer.old answer.new }
 {
     let held = store::fault_in_store(netlist, store, FaultNo(fault));
     c_store::held_code(held, answer)
@@ -115,7 +115,7 @@ pub extern "C" fn genduwal_viewer_totals(
     places: &[u16],
     answer: &mut [u64; 2],
 ) -> u32
-    ensures { Answered (viewerTotalsCall netlist.now store.now places.now) edgeWords result answer.old answer.new }
+    ensures { Answered (viewer_totals_call netlist.now store.now places.now) edge_words result answer.old answer.new }
 {
     let totals = viewer::viewer_totals(netlist, store, places);
     c_store::totals_code(totals, answer)
@@ -130,7 +130,7 @@ pub extern "C" fn genduwal_viewer_holds(
     fault: u64,
     answer: &mut [u64; 1],
 ) -> u32
-    ensures { Answered (viewerFaultCall netlist.now store.now places.now fault) boolWord result answer.old answer.new }
+    ensures { Answered (viewer_fault_call netlist.now store.now places.now fault) bool_word result answer.old answer.new }
 {
     let held = viewer::viewer_holds(netlist, store, places, FaultNo(fault));
     c_store::held_code(held, answer)
@@ -144,8 +144,8 @@ pub extern "C" fn genduwal_viewer_runs(
     places: &[u16],
     view: &mut [u64],
 ) -> u32
-    ensures result_value { codeAnswer result ≡ viewerRunsAnswer netlist.now store.now view.old places.now }
-    ensures view_after { view.new ≡ viewerRunsStore netlist.now store.now view.old places.now }
+    ensures result_value { code_answer result ≡ viewer_runs_answer netlist.now store.now view.old places.now }
+    ensures view_after { view.new ≡ viewer_runs_store netlist.now store.now view.old places.now }
 {
     let written = viewer::viewer_runs(netlist, store, places, view);
     c_store::view_code(written)
@@ -158,7 +158,7 @@ pub extern "C" fn genduwal_path_to_number(
     path: &[u16],
     answer: &mut [u64; 1],
 ) -> u32
-    ensures { Answered (pathToNumberCall netlist.now path.now) numberWord result answer.old answer.new }
+    ensures { Answered (path_to_number_call netlist.now path.now) number_word result answer.old answer.new }
 {
     let number = path_to_number::path_to_number(netlist, path);
     c_calls::number_code(number, answer)
@@ -167,8 +167,8 @@ pub extern "C" fn genduwal_path_to_number(
 // Writes the path of a number into the first 513 words, with zeros after it.
 #[unsafe(no_mangle)]
 pub extern "C" fn genduwal_number_to_path(netlist: &[u8], number: u64, path: &mut [u16]) -> u32
-    ensures result_value { codeAnswer result ≡ numberToPathAnswer netlist.now number path.old }
-    ensures path_after { path.new ≡ numberToPathBuffer netlist.now number path.old }
+    ensures result_value { code_answer result ≡ number_to_path_answer netlist.now number path.old }
+    ensures path_after { path.new ≡ number_to_path_buffer netlist.now number path.old }
 {
     let written = path_of_number::number_to_path(netlist, PathNo(number), path);
     c_calls::path_code(written)
@@ -182,8 +182,8 @@ pub extern "C" fn genduwal_write_report(
     report: &mut [u8],
     answer: &mut [u64; 1],
 ) -> u32
-    ensures answered { Answered (writerAnswer netlist.now store.now report.old) numberWord result answer.old answer.new }
-    ensures report_after { report.new ≡ writerBuffer netlist.now store.now report.old }
+    ensures answered { Answered (writer_answer netlist.now store.now report.old) number_word result answer.old answer.new }
+    ensures report_after { report.new ≡ writer_buffer netlist.now store.now report.old }
 {
     let written = report::write_report(netlist, store, report);
     c_calls::report_code(written, answer)
@@ -199,8 +199,8 @@ pub extern "C" fn genduwal_audit(
     store: &mut [u64],
     work: &mut [u64],
 ) -> u32
-    ensures result_value { codeAnswer result ≡ auditAnswer netlist.now test_class tests.now report.now store.old work.old }
-    ensures store_after { store.new ≡ auditStore netlist.now test_class tests.now report.now store.old work.old }
+    ensures result_value { code_answer result ≡ audit_answer netlist.now test_class tests.now report.now store.old work.old }
+    ensures store_after { store.new ≡ audit_store netlist.now test_class tests.now report.now store.old work.old }
     ensures work_after { WorkAfter netlist.now test_class store.old work.old work.new }
 {
     let audited = audit::audit(netlist, tests, report, test_class, store, work);
@@ -215,8 +215,8 @@ pub extern "C" fn genduwal_audit_begin(
     store: &mut [u64],
     work: &[u64],
 ) -> u32
-    ensures result_value { codeAnswer result ≡ beginAnswer netlist.now test_class store.old work.now }
-    ensures store_after { store.new ≡ beginStore store.old work.now }
+    ensures result_value { code_answer result ≡ begin_answer netlist.now test_class store.old work.now }
+    ensures store_after { store.new ≡ begin_store store.old work.now }
 {
     let begun = audit_pieces::audit_begin(netlist, test_class, store, work);
     c_calls::begin_code(begun)
@@ -232,9 +232,9 @@ pub extern "C" fn genduwal_audit_piece(
     work: &mut [u64],
     answer: &mut [u64; 1],
 ) -> u32
-    ensures answered { Answered (allTaken (pieceAnswer netlist.now test_class piece.now
-        store.old work.old)) numberWord result answer.old answer.new }
-    ensures store_after { store.new ≡ pieceLeft netlist.now test_class piece.now store.old work.old }
+    ensures answered { Answered (all_taken (piece_answer netlist.now test_class piece.now
+        store.old work.old)) number_word result answer.old answer.new }
+    ensures store_after { store.new ≡ piece_left netlist.now test_class piece.now store.old work.old }
     ensures piece_work { PieceWork netlist.now test_class store.old work.old work.new }
 {
     let taken = audit_pieces::audit_piece(netlist, piece, test_class, store, work);
@@ -250,8 +250,8 @@ pub extern "C" fn genduwal_audit_end(
     report: &[u8],
     store: &mut [u64],
 ) -> u32
-    ensures result_value { codeAnswer result ≡ endAnswer netlist.now bytes first report.now store.old }
-    ensures store_after { store.new ≡ endStore netlist.now bytes first report.now store.old }
+    ensures result_value { code_answer result ≡ end_answer netlist.now bytes first report.now store.old }
+    ensures store_after { store.new ≡ end_store netlist.now bytes first report.now store.old }
 {
     let ended = audit_pieces::audit_end(netlist, bytes, first, report, store);
     match ended {
@@ -267,8 +267,8 @@ pub extern "C" fn genduwal_bench_to_netlist(
     netlist: &mut [u8],
     answer: &mut [u64; 1],
 ) -> u32
-    ensures answered { Answered (convertAnswer text.now netlist.old) numberWord result answer.old answer.new }
-    ensures netlist_after { netlist.new ≡ convertBuffer text.now netlist.old }
+    ensures answered { Answered (convert_answer text.now netlist.old) number_word result answer.old answer.new }
+    ensures netlist_after { netlist.new ≡ convert_buffer text.now netlist.old }
 {
     let converted = bench_text::bench_to_netlist(text, netlist);
     c_calls::bench_code(converted, answer)
@@ -282,8 +282,8 @@ pub extern "C" fn genduwal_load(
     records: &mut [u8],
     answer: &mut [u64; 2],
 ) -> u32
-    ensures answered { Answered (loadAnswer state inputs records.old) loadWords result answer.old answer.new }
-    ensures records_after { records.new ≡ loadBuffer state inputs records.old }
+    ensures answered { Answered (load_answer state inputs records.old) load_words result answer.old answer.new }
+    ensures records_after { records.new ≡ load_buffer state inputs records.old }
 {
     let written = load::write_load(state, inputs, records);
     c_calls::load_code(written, answer)

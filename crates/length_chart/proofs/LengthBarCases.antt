@@ -5,27 +5,27 @@ use Prim.Native.Nat.{ℕ, ◌+◌, ◌*◌, ◌<◌}
 use native.Mathlib.Omega.{arith}
 use borrow.Author.Tests.{lt-ltb, le-ltb}
 use Rattle.text_line.specs.Lines.{ascii}
-use Rattle.text_buffer.specs.Written.{Written, plainLine, numberLine}
+use Rattle.text_buffer.specs.Written.{Written, plain_line, number_line}
 use Rattle.text_buffer.proofs.WrittenLaws.{then-written, written_as}
-use Rattle.length_chart.specs.Chart.{heightOf, titleLines, barLines, groupLines, lengthBars}
+use Rattle.length_chart.specs.Chart.{height_in, title_lines, bar_lines, group_lines, length_bars}
 
 module _ (gates paths rising falling : ℕ) where
-  pub no-bars : paths ≡ 0 → [] ≡ lengthBars gates paths rising falling
-  unfolding lengthBars
-  no-bars h = sym (rw (le-ltb 0 paths (omega arith), lengthBars) refl)
+  pub no-bars : paths ≡ 0 → [] ≡ length_bars gates paths rising falling
+  unfolding length_bars
+  no-bars h = sym (rw (le-ltb 0 paths (omega arith), length_bars) refl)
 
-  bars-there : 0 < paths → groupLines gates paths rising falling ≡ lengthBars gates paths rising falling
-  unfolding lengthBars
-  bars-there h = sym (rw (lt-ltb 0 paths h, lengthBars) refl)
+  bars_there : 0 < paths → group_lines gates paths rising falling ≡ length_bars gates paths rising falling
+  unfolding length_bars
+  bars_there h = sym (rw (lt-ltb 0 paths h, length_bars) refl)
 
   -- the parts of a group
-  pub bars-written : {out o1 o2 o3 o4 o5 : List ℕ} {at m n k l end : ℕ} (r f : ℕ) → 0 < paths → r ≡ heightOf rising paths → f ≡ heightOf falling paths
-      → Written out o1 at (numberLine (ascii "<g transform='translate(") (200 + 24 * gates) (ascii " 240)'>")) m
-      → Written o1 o2 m (titleLines gates paths rising falling) n
-      → Written o2 o3 n (numberLine (ascii "<text x='9' y='18' text-anchor='middle'>") gates (ascii "</text>")) k
-      → Written o3 o4 k (barLines r f) l
-      → Written o4 o5 l (plainLine (ascii "</g>")) end
-      → Written out o5 at (lengthBars gates paths rising falling) end
-  unfolding groupLines
-  bars-written r f h er ef place title label bars close =
-      written_as (bars-there h) (then-written (then-written (then-written (then-written place title) label) (written_as (ap₂ barLines er ef) bars)) close)
+  pub bars_written : {out o1 o2 o3 o4 o5 : List ℕ} {at m n k l end : ℕ} (r f : ℕ) → 0 < paths → r ≡ height_in rising paths → f ≡ height_in falling paths
+      → Written out o1 at (number_line (ascii "<g transform='translate(") (200 + 24 * gates) (ascii " 240)'>")) m
+      → Written o1 o2 m (title_lines gates paths rising falling) n
+      → Written o2 o3 n (number_line (ascii "<text x='9' y='18' text-anchor='middle'>") gates (ascii "</text>")) k
+      → Written o3 o4 k (bar_lines r f) l
+      → Written o4 o5 l (plain_line (ascii "</g>")) end
+      → Written out o5 at (length_bars gates paths rising falling) end
+  unfolding group_lines
+  bars_written r f h er ef place title label bars close =
+      written_as (bars_there h) (then-written (then-written (then-written (then-written place title) label) (written_as (ap₂ bar_lines er ef) bars)) close)

@@ -1,7 +1,7 @@
 // The bars of each length. Each caller proves that there is room.
 ghost use Rattle.std.specs.Prelude.{◌+◌, ◌*◌, ◌≤◌, ◌<◌, length};
-ghost use Rattle.text_buffer.specs.Written.{Written, eachBelow};
-ghost use Rattle.length_chart.specs.Chart.{titleLines, barLines, lengthBars, barsAt};
+ghost use Rattle.text_buffer.specs.Written.{Written, each_below_of};
+ghost use Rattle.length_chart.specs.Chart.{title_lines, bar_lines, length_bars, bars_at};
 
 use crate::measures::height_of;
 use text_buffer::inner::{put_numbered, put_plain};
@@ -9,7 +9,7 @@ use text_buffer::inner::{put_numbered, put_plain};
 // The numbers of a length, which a browser shows where one points at its bars.
 fn put_title(out: &mut [u8], at: usize, gates: u64, paths: u64, rising: u64, falling: u64) -> usize
     requires { at + 150 ≤ length out.old }
-    ensures { Written out.old out.new at (titleLines gates paths rising falling) result × (result ≤ at + 150) }
+    ensures { Written out.old out.new at (title_lines gates paths rising falling) result × (result ≤ at + 150) }
 {
     let counted = put_numbered(out, at, b"<title>length ", gates, b":");
     let first = put_numbered(out, counted, b"", paths, b" paths,");
@@ -20,7 +20,7 @@ fn put_title(out: &mut [u8], at: usize, gates: u64, paths: u64, rising: u64, fal
 // The outlines and bars of a length, from the place of its bars on.
 fn put_pair(out: &mut [u8], at: usize, rising: u64, falling: u64) -> usize
     requires { at + 200 ≤ length out.old }
-    ensures { Written out.old out.new at (barLines rising falling) result × (result ≤ at + 200) }
+    ensures { Written out.old out.new at (bar_lines rising falling) result × (result ≤ at + 200) }
 {
     let first = put_plain(
         out,
@@ -46,7 +46,7 @@ fn put_pair(out: &mut [u8], at: usize, rising: u64, falling: u64) -> usize
 // What is drawn for a length; nothing where it has no path.
 fn put_length(out: &mut [u8], at: usize, gates: u64, paths: u64, rising: u64, falling: u64) -> usize
     requires { (at + 500 ≤ length out.old) × (gates < 64) }
-    ensures { Written out.old out.new at (lengthBars gates paths rising falling) result × (result ≤ at + 500) }
+    ensures { Written out.old out.new at (length_bars gates paths rising falling) result × (result ≤ at + 500) }
 {
     if paths == 0 {
         return at;
@@ -84,7 +84,7 @@ pub(crate) fn put_lengths(
     falling: &[u64; 64],
 ) -> usize
     requires { start + 32000 ≤ length out.old }
-    ensures { Written out.old out.new start (eachBelow (barsAt paths.now rising.now falling.now) 64) result
+    ensures { Written out.old out.new start (each_below_of (bars_at paths.now rising.now falling.now) 64) result
         × (result ≤ start + 32000) }
 {
     let mut at = start;

@@ -1,14 +1,14 @@
 // What stands around the bars. Each caller proves that there is room.
 ghost use Rattle.std.specs.Prelude.{◌+◌, ◌≤◌, length};
 ghost use Rattle.text_buffer.specs.Written.{Written};
-ghost use Rattle.length_chart.specs.Chart.{headLines, legendLines, scaleLines};
+ghost use Rattle.length_chart.specs.Chart.{head_lines, legend_lines, scale_lines};
 
 use text_buffer::inner::{put_numbered, put_plain};
 
 // The first lines, with the width of the picture.
 pub(crate) fn put_head(out: &mut [u8], width: u64) -> usize
     requires { 400 ≤ length out.old }
-    ensures { Written out.old out.new 0 (headLines width) result × (result ≤ 400) }
+    ensures { Written out.old out.new 0 (head_lines width) result × (result ≤ 400) }
 {
     let size = put_plain(
         out,
@@ -28,7 +28,7 @@ pub(crate) fn put_head(out: &mut [u8], width: u64) -> usize
 // What the colours mean. They are told apart by colour-blind people too.
 pub(crate) fn put_legend(out: &mut [u8], at: usize) -> usize
     requires { at + 600 ≤ length out.old }
-    ensures { Written out.old out.new at legendLines result × (result ≤ at + 600) }
+    ensures { Written out.old out.new at legend_lines result × (result ≤ at + 600) }
 {
     let rising_name = put_plain(
         out,
@@ -65,7 +65,7 @@ pub(crate) fn put_legend(out: &mut [u8], at: usize) -> usize
 // The heading, lines across the picture at 0, 50 and 100 percent, and what stands along the axes.
 pub(crate) fn put_scale(out: &mut [u8], at: usize) -> usize
     requires { at + 500 ≤ length out.old }
-    ensures { Written out.old out.new at scaleLines result × (result ≤ at + 500) }
+    ensures { Written out.old out.new at scale_lines result × (result ≤ at + 500) }
 {
     let across = put_plain(
         out,

@@ -6,8 +6,8 @@ mod measures;
 
 ghost use Rattle.std.specs.Prelude.{◌≡◌, take};
 ghost use Rattle.io.specs.Counts.{IsPrefixLen};
-ghost use Rattle.text_buffer.specs.Written.{Written, inRoom};
-ghost use Rattle.length_chart.specs.Chart.{chartText, chartBytes};
+ghost use Rattle.text_buffer.specs.Written.{Written, in_room};
+ghost use Rattle.length_chart.specs.Chart.{chart_text, chart_bytes};
 
 use crate::bars::put_lengths;
 use crate::frame::{put_head, put_legend, put_scale};
@@ -25,9 +25,9 @@ pub fn put_chart(
     out: &mut [u8],
 ) -> usize
     ensures written { Written out.old out.new 0
-        (inRoom chartBytes out.old (chartText paths.now rising.now falling.now)) result }
+        (in_room chart_bytes out.old (chart_text paths.now rising.now falling.now)) result }
     ensures out_after { take result out.new
-        ≡ inRoom chartBytes out.old (chartText paths.now rising.now falling.now) }
+        ≡ in_room chart_bytes out.old (chart_text paths.now rising.now falling.now) }
     ensures prefix_len { IsPrefixLen result out.new }
 {
     if out.len() < CHART_BYTES {

@@ -1,12 +1,12 @@
 // The sizes of the picture and of its bars.
 ghost use Rattle.std.specs.Prelude.{◌≡◌, ◌<◌};
-ghost use Rattle.length_chart.specs.Chart.{longestBelow, width_of, heightOf};
+ghost use Rattle.length_chart.specs.Chart.{longest_below, width_of, height_in};
 
 use text_percent::inner::thousandths;
 
 // The greatest length that has a path, 0 if none has.
 fn longest(paths: &[u64; 64]) -> u64
-    ensures { (result ≡ longestBelow paths.now 64) × (result < 64) }
+    ensures { (result ≡ longest_below paths.now 64) × (result < 64) }
 {
     let mut left = 64;
     while 0 < left {
@@ -27,7 +27,7 @@ pub(crate) fn width_of(paths: &[u64; 64]) -> u64
 
 // The height of a bar of at most 200: a fifth of the thousandths.
 pub(crate) fn height_of(held: u64, paths: u64) -> u64
-    ensures { result ≡ heightOf held paths }
+    ensures { result ≡ height_in held paths }
 {
     if paths == 0 {
         return 0;

@@ -19,10 +19,10 @@ abbrev pub pair-laws : FLaws (array_field (array_field u64-field 64) 2)
 pair-laws = array_laws (array_field u64-field 64) (array_laws u64-field u64-laws 64) 2
 
 -- the rows as a field has them
-abbrev pub inField : List (List ℕ) → List (List ℕ)
-inField = map (map (λ v. v))
+abbrev pub in_field : List (List ℕ) → List (List ℕ)
+in_field = map (map (λ v. v))
 
-pub field-same : (xs : List (List ℕ)) → inField xs ≡ xs
+pub field-same : (xs : List (List ℕ)) → in_field xs ≡ xs
 field-same xs = (λ i. map (λ r. map-id r i) xs) ∙ map-id xs
 
 pub pair-makes : {M : Type 1} {𝓤 : Ura M} (𝓛 : Logic 𝓤) → Makes 𝓛 Pair (Is Pair)

@@ -2,8 +2,8 @@
 ghost use Rattle.std.specs.Prelude.{◌≡◌};
 ghost use Rattle.model.specs.Base.{value};
 ghost use Rattle.model.specs.Netlist.{Netlist};
-ghost use Rattle.model.specs.Read.{readNetlist};
-ghost use Rattle.length_coverage.specs.LengthAnswers.{Countable, CountableRows, RowsAre, lengthsOn, nothing, withRows};
+ghost use Rattle.model.specs.Read.{read_netlist};
+ghost use Rattle.length_coverage.specs.LengthAnswers.{Countable, CountableRows, RowsAre, lengths_on, nothing, with_rows};
 
 use crate::inner::held::held_row;
 use crate::{LengthRows, LengthsAnswer};
@@ -17,7 +17,7 @@ use store_words::inner::parts::edge_runs;
 
 // The answer with its rows.
 fn rows_with(answer: LengthsAnswer, rising: [[u64; 64]; 2], falling: [[u64; 64]; 2]) -> LengthRows
-    ensures { result ≡ withRows answer rising falling }
+    ensures { result ≡ with_rows answer rising falling }
 {
     LengthRows {
         answer,
@@ -44,7 +44,7 @@ pub(crate) fn count_rows(
     store: &[u64],
 ) -> LengthRows
     requires { Countable netlist.now positions.now counts.now shape total store.now }
-    ensures { (N : Netlist) → readNetlist netlist.now ≡ value N → RowsAre result (lengthsOn N store.now) }
+    ensures { (N : Netlist) → read_netlist netlist.now ≡ value N → RowsAre result (lengths_on N store.now) }
 {
     let mut rows = [[0u64; 64]; 512];
     fill_rows(netlist, positions, shape, &mut rows);
@@ -62,7 +62,7 @@ fn rows_by_net(
     store: &[u64],
 ) -> LengthRows
     requires { CountableRows netlist.now positions.now counts.now shape total store.now rows.now }
-    ensures { (N : Netlist) → readNetlist netlist.now ≡ value N → RowsAre result (lengthsOn N store.now) }
+    ensures { (N : Netlist) → read_netlist netlist.now ≡ value N → RowsAre result (lengths_on N store.now) }
 {
     let paths = rank_row(netlist, positions, counts, rows, shape, total);
     let short = row_sum(&paths);

@@ -5,7 +5,7 @@ use mir.Val.{Fits}
 use mir.Syntax.{w64}
 use Rattle.model.specs.Base.{value}
 use Rattle.model.specs.Netlist.{Netlist}
-use Rattle.model.specs.Read.{readNetlist}
+use Rattle.model.specs.Read.{read_netlist}
 use Rattle.model.proofs.AnswerLaws.{value_inj}
 use Rattle.model.proofs.BoolLaws.{cases}
 use Rattle.netlist.specs.Tables.{SomeCircuit}
@@ -20,36 +20,36 @@ module _ (file ps : List ℕ) (shape : Shape) where
     circuit = s.known.circuit;
     counts = s.counts;
     tables = s.known.tables;
-    rowsAre = record { long = long; right = λ net h. absurd (omega arith) };
+    rows_are_of = record { long = long; right = λ net h. absurd (omega arith) };
   }
 
   module _ (net : ℕ) (rows : List (List ℕ)) (b : RowsBefore file ps shape net rows) where
-    pub fill-few : net < shape.nets → net < 512
-    fill-few h = omega (arith, few-nets b.tables)
+    pub fill_few : net < shape.nets → net < 512
+    fill_few h = omega (arith, few-nets b.tables)
 
-    pub fill-place : net < shape.nets → Fits w64 (net * 512)
-    fill-place h = record { fits = omega (arith, few-nets b.tables) }
+    pub fill_place : net < shape.nets → Fits w64 (net * 512)
+    fill_place h = record { fits = omega (arith, few-nets b.tables) }
 
-    pub fill-next : net < shape.nets → (ns : List ℕ) → ((N : Netlist) → readNetlist file ≡ value N → ns ≡ row (partials N net))
+    pub fill_next : net < shape.nets → (ns : List ℕ) → ((N : Netlist) → read_netlist file ≡ value N → ns ≡ row (partials N net))
         → RowsBefore file ps shape (net + 1) (set rows net ns)
-    fill-next h ns e =
-        let here : net < length rows = omega (arith, few-nets b.tables, b.rowsAre.long) in
+    fill_next h ns e =
+        let here : net < length rows = omega (arith, few-nets b.tables, b.rows_are_of.long) in
         let now : get_or (set rows net ns) net [] ≡ row (partials b.circuit net) = get_or-set_same rows net ns [] here ∙ e b.circuit b.tables.legal in
         record {
           circuit = b.circuit;
           counts = b.counts;
           tables = b.tables;
-          rowsAre = record {
-            long = length-set rows net ns ∙ b.rowsAre.long;
+          rows_are_of = record {
+            long = length-set rows net ns ∙ b.rows_are_of.long;
             right = λ k a. cases net k
                 (λ u. let z : k ≡ net = omega arith in rw z now)
-                (λ u. get_or-set_other rows net k ns [] (λ q. omega arith) ∙ b.rowsAre.right k u);
+                (λ u. get_or-set_other rows net k ns [] (λ q. omega arith) ∙ b.rows_are_of.right k u);
           };
         }
 
-    pub fill_end : shape.nets ≤ net → (N : Netlist) → readNetlist file ≡ value N → NetRows N shape.nets rows
+    pub fill_end : shape.nets ≤ net → (N : Netlist) → read_netlist file ≡ value N → NetRows N shape.nets rows
     fill_end h N e =
         subst (λ (M : Netlist). NetRows M shape.nets rows) (value_inj (sym b.tables.legal ∙ e))
-        (record { long = b.rowsAre.long; right = λ k a. b.rowsAre.right k (omega arith) })
+        (record { long = b.rows_are_of.long; right = λ k a. b.rows_are_of.right k (omega arith) })
 
-pub ruleset fill-cases = (fill_start, fill-few, fill-place, fill-next, fill_end, needs)
+pub ruleset fill-cases = (fill_start, fill_few, fill_place, fill_next, fill_end, needs)

@@ -4,9 +4,9 @@ use Rattle.model.proofs.Prelude.{get_or-set_other, arith, needs}
 use mir.Val.{Fits}
 use mir.Syntax.{w64}
 use Rattle.model.specs.Base.{sum_of}
-use Rattle.model.specs.Path.{countsBefore}
+use Rattle.model.specs.Path.{counts_before}
 use Rattle.model.proofs.BoolLaws.{cases}
-use Rattle.model.proofs.NumberLaws.{countsBefore-le, countsBefore-all}
+use Rattle.model.proofs.NumberLaws.{counts_before-le, counts_before-all}
 use Rattle.path_step.proofs.SplitLaws.{before-next}
 use Rattle.length_rows.specs.Lengths.{lengths}
 use Rattle.length_rows.specs.RowSums.{Room, Under, added, longer}
@@ -85,15 +85,15 @@ module _ (ns high low : List ℕ) where
       over-next = summed-next s here (get_or high at 0 - get_or low at 0) refl
 
 -- the sum of a row, place by place
-module _ (row : List ℕ) (long : length row ≡ lengths) (sum at : ℕ) (e : sum ≡ countsBefore at row) where
+module _ (row : List ℕ) (long : length row ≡ lengths) (sum at : ℕ) (e : sum ≡ counts_before at row) where
   pub row_fits : at < lengths → sum_of row < 2 ^ 64 → Fits w64 (sum + get_or row at 0)
-  row_fits h b = record { fits = omega (arith, countsBefore-le row at (omega arith)) }
+  row_fits h b = record { fits = omega (arith, counts_before-le row at (omega arith)) }
 
-  pub row_next : at < lengths → sum + get_or row at 0 ≡ countsBefore (at + 1) row
+  pub row_next : at < lengths → sum + get_or row at 0 ≡ counts_before (at + 1) row
   row_next h = omega (arith, before-next row at (omega arith))
 
   pub row-end : lengths ≤ at → at ≤ lengths → sum ≡ sum_of row
-  row-end h b = let all : at ≡ length row = omega arith in e ∙ ap (λ k. countsBefore k row) all ∙ countsBefore-all row
+  row-end h b = let all : at ≡ length row = omega arith in e ∙ ap (λ k. counts_before k row) all ∙ counts_before-all row
 
 pub ruleset longer-cases = (longer-start, longer-fits, longer-next, needs)
 

@@ -1,21 +1,21 @@
 -- Rows of 64 numbers: what stands at each length, added numbers, and numbers for longer paths.
 use Rattle.model.proofs.Prelude.{ℕ, ◌≤◌, ◌<◌, ◌+◌, ◌-◌, suc, ◌^◌, zero, ◌≡◌, ◌∙◌, ap, refl, sym, List, [], ◌∷◌, length, get_or, replicate, length-map}
 use Rattle.model.proofs.Prelude.{length-replicate, get_or-replicate, ext_get_or, arith, le-leb, lt-leb}
-use Rattle.model.specs.Base.{numbersFrom}
+use Rattle.model.specs.Base.{numbers_from}
 use Rattle.model.proofs.BoolLaws.{cases}
-use Rattle.model.proofs.ListLaws.{getD-map-in, numbersFrom-at, length-numbersFrom}
+use Rattle.model.proofs.ListLaws.{get_d_map-in, numbers_from-at, length-numbers_from}
 use Rattle.length_rows.specs.Lengths.{lengths, row}
 use Rattle.length_rows.specs.RowSums.{Room, added, longer, column}
 
 pub row-length : (f : ℕ → ℕ) → length (row f) ≡ lengths
 unfolding row
-row-length f = length-map (numbersFrom 0 lengths) f ∙ length-numbersFrom 0 lengths
+row-length f = length-map (numbers_from 0 lengths) f ∙ length-numbers_from 0 lengths
 
 pub row_at : (f : ℕ → ℕ) (l : ℕ) → l < lengths → get_or (row f) l 0 ≡ f l
 unfolding row
 row_at f l h =
-    getD-map-in f (numbersFrom 0 lengths) l 0 0 (omega (arith, length-numbersFrom 0 lengths))
-    ∙ ap f (numbersFrom-at lengths 0 l h ∙ omega arith)
+    get_d_map-in f (numbers_from 0 lengths) l 0 0 (omega (arith, length-numbers_from 0 lengths))
+    ∙ ap f (numbers_from-at lengths 0 l h ∙ omega arith)
 
 -- numbers of all lengths are a row
 pub row_is : (ns : List ℕ) (f : ℕ → ℕ) → length ns ≡ lengths → ((l : ℕ) → l < lengths → get_or ns l 0 ≡ f l) → ns ≡ row f

@@ -2,11 +2,11 @@
 ghost use Rattle.std.specs.Prelude.{◌≡◌, ◌+◌, ◌≤◌, ◌<◌};
 ghost use Rattle.model.specs.Base.{value};
 ghost use Rattle.model.specs.Netlist.{Netlist};
-ghost use Rattle.model.specs.Read.{readNetlist};
-ghost use Rattle.length_rows.specs.Lengths.{lengths, ofLength, pathsUpTo};
+ghost use Rattle.model.specs.Read.{read_netlist};
+ghost use Rattle.length_rows.specs.Lengths.{lengths, of_length, paths_up_to};
 ghost use Rattle.length_ranks.specs.NetRows.{Ranked};
-ghost use Rattle.length_search.specs.Untested.{first_of, nextUntested};
-ghost use Rattle.length_search.specs.Tasks.{Somewhere, Looked, allRuns};
+ghost use Rattle.length_search.specs.Untested.{first_of, next_untested_of};
+ghost use Rattle.length_search.specs.Tasks.{Somewhere, Looked, all_runs};
 
 use length_ranks::inner::ranks::rank_row;
 use netlist::inner::Shape;
@@ -30,7 +30,7 @@ fn rank_of(
     number: u64,
 ) -> u64
     requires { Ranked netlist.now positions.now counts.now shape rows.now number × (gates < lengths) }
-    ensures { (N : Netlist) → readNetlist netlist.now ≡ value N → result ≡ pathsUpTo N gates number }
+    ensures { (N : Netlist) → read_netlist netlist.now ≡ value N → result ≡ paths_up_to N gates number }
 {
     let row = rank_row(netlist, positions, counts, rows, shape, number);
     row[gates]
@@ -49,7 +49,7 @@ fn find_first(
     high: u64,
 ) -> u64
     requires { Somewhere netlist.now positions.now counts.now shape rows.now gates low high }
-    ensures { (1 ≤ result) × ((N : Netlist) → readNetlist netlist.now ≡ value N → result ≡ first_of (ofLength N gates) (low + 1) high) }
+    ensures { (1 ≤ result) × ((N : Netlist) → read_netlist netlist.now ≡ value N → result ≡ first_of (of_length N gates) (low + 1) high) }
 {
     let before = rank_of(netlist, positions, counts, rows, shape, gates, low);
     let mut under = low;
@@ -78,7 +78,7 @@ fn first_between(
     last: u64,
 ) -> u64
     requires { Ranked netlist.now positions.now counts.now shape rows.now last × (gates < lengths) × (1 ≤ from) }
-    ensures { (N : Netlist) → readNetlist netlist.now ≡ value N → result ≡ first_of (ofLength N gates) from last }
+    ensures { (N : Netlist) → read_netlist netlist.now ≡ value N → result ≡ first_of (of_length N gates) from last }
 {
     if last < from {
         return 0;
@@ -112,8 +112,8 @@ pub fn next_untested(
     wanted: Search,
 ) -> u64
     requires { Looked netlist.now positions.now counts.now shape rows.now wanted.total words.now wanted.gates wanted.from }
-    ensures { (N : Netlist) → readNetlist netlist.now ≡ value N
-        → result ≡ nextUntested N (allRuns words.now) wanted.gates wanted.from }
+    ensures { (N : Netlist) → read_netlist netlist.now ≡ value N
+        → result ≡ next_untested_of N (all_runs words.now) wanted.gates wanted.from }
 {
     let gates = wanted.gates;
     let runs = words.len() / 2;

@@ -1,11 +1,11 @@
 -- Columns: the blanks in front of a text, and how long a column and a line of the table are at most.
 use Rattle.model.proofs.Prelude.{ℕ, ◌≤◌, ◌+◌, ◌-◌, suc, zero, ◌≡◌, ◌∙◌, ap, refl, ap₂, List, ◌∷◌, ◌++◌, length, take, length-append, replicate}
 use Rattle.model.proofs.Prelude.{length-replicate, arith}
-use Rattle.text_line.specs.Decimal.{decimalText}
+use Rattle.text_line.specs.Decimal.{decimal_text}
 use Rattle.text_line.proofs.DecimalLaws.{at-most-20}
 use Rattle.text_buffer.proofs.LineLengthLaws.{line-bytes}
-use Rattle.length_text.specs.LengthTable.{aligned, heldShare, rowText}
-use Rattle.length_text.proofs.HeldShareCases.{share-short}
+use Rattle.length_text.specs.LengthTable.{aligned, held_share, row_text}
+use Rattle.length_text.proofs.HeldShareCases.{share_short}
 
 take-replicate : (k n a : ℕ) → k ≤ n → take k (replicate n a) ≡ replicate k a
 take-replicate zero n a h = refl
@@ -31,12 +31,12 @@ unfolding aligned
 aligned-most width text = simp (length-append, length-replicate) (omega arith)
 
 -- a line of the table
-pub row-short : (name : List ℕ) (paths rising falling : ℕ) → length name ≤ 20 → length (rowText name paths rising falling) ≤ 128
-unfolding rowText
+pub row-short : (name : List ℕ) (paths rising falling : ℕ) → length name ≤ 20 → length (row_text name paths rising falling) ≤ 128
+unfolding row_text
 row-short name paths rising falling h =
     let named = aligned-most 6 name in
-    let first = aligned-fits 20 (decimalText paths) (at-most-20 paths) in
-    let second = aligned-fits 20 (decimalText rising) (at-most-20 rising) in
-    let third = aligned-fits 20 (decimalText falling) (at-most-20 falling) in
-    let last = aligned-fits 9 (heldShare paths rising falling) (share-short paths rising falling) in
+    let first = aligned-fits 20 (decimal_text paths) (at-most-20 paths) in
+    let second = aligned-fits 20 (decimal_text rising) (at-most-20 rising) in
+    let third = aligned-fits 20 (decimal_text falling) (at-most-20 falling) in
+    let last = aligned-fits 9 (held_share paths rising falling) (share_short paths rising falling) in
     simp length-append (omega arith)

@@ -6,8 +6,8 @@ mod totals;
 
 ghost use Rattle.std.specs.Prelude.{◌≡◌, take};
 ghost use Rattle.io.specs.Counts.{IsPrefixLen};
-ghost use Rattle.text_buffer.specs.Written.{Written, inRoom};
-ghost use Rattle.length_text.specs.LengthTable.{tableText, tableBytes};
+ghost use Rattle.text_buffer.specs.Written.{Written, in_room};
+ghost use Rattle.length_text.specs.LengthTable.{table_text, table_bytes};
 
 use crate::rows::{put_row, put_rows};
 use crate::totals::total_of;
@@ -25,9 +25,9 @@ pub fn put_table(
     out: &mut [u8],
 ) -> usize
     ensures written { Written out.old out.new 0
-        (inRoom tableBytes out.old (tableText paths.now rising.now falling.now)) result }
+        (in_room table_bytes out.old (table_text paths.now rising.now falling.now)) result }
     ensures out_after { take result out.new
-        ≡ inRoom tableBytes out.old (tableText paths.now rising.now falling.now) }
+        ≡ in_room table_bytes out.old (table_text paths.now rising.now falling.now) }
     ensures prefix_len { IsPrefixLen result out.new }
 {
     if out.len() < TABLE_BYTES {

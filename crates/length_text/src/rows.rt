@@ -1,8 +1,8 @@
 // The lines of the table, put into a buffer. Each caller proves that there is room.
 ghost use Rattle.std.specs.Prelude.{◌+◌, ◌≤◌, length};
 ghost use Rattle.text_line.specs.Lines.{text_of};
-ghost use Rattle.text_buffer.specs.Written.{Written, plainLine, eachBelow};
-ghost use Rattle.length_text.specs.LengthTable.{rowText, lengthRow, row_at};
+ghost use Rattle.text_buffer.specs.Written.{Written, plain_line, each_below_of};
+ghost use Rattle.length_text.specs.LengthTable.{row_text, length_row, row_at};
 
 use crate::columns::{number_line, row_line};
 use text_buffer::inner::put_line;
@@ -18,7 +18,7 @@ pub(crate) fn put_row(
     falling: u64,
 ) -> usize
     requires { (at + 129 ≤ length out.old) × (length (text_of name) ≤ 20) }
-    ensures { Written out.old out.new at (plainLine (rowText (text_of name) paths rising falling)) result × (result ≤ at + 129) }
+    ensures { Written out.old out.new at (plain_line (row_text (text_of name) paths rising falling)) result × (result ≤ at + 129) }
 {
     put_line(out, at, row_line(name, paths, rising, falling))
 }
@@ -33,7 +33,7 @@ fn put_length(
     falling: u64,
 ) -> usize
     requires { at + 129 ≤ length out.old }
-    ensures { Written out.old out.new at (lengthRow gates paths rising falling) result × (result ≤ at + 129) }
+    ensures { Written out.old out.new at (length_row gates paths rising falling) result × (result ≤ at + 129) }
 {
     if paths == 0 {
         return at;
@@ -50,7 +50,7 @@ pub(crate) fn put_rows(
     falling: &[u64; 64],
 ) -> usize
     requires { start + 8256 ≤ length out.old }
-    ensures { Written out.old out.new start (eachBelow (row_at paths.now rising.now falling.now) 64) result
+    ensures { Written out.old out.new start (each_below_of (row_at paths.now rising.now falling.now) 64) result
         × (result ≤ start + 8256) }
 {
     let mut at = start;

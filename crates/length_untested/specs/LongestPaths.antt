@@ -2,48 +2,48 @@
 -- their numbers.
 use Rattle.std.specs.Prelude.{◌≡◌, true, false, List, [], ◌∷◌, ◌++◌, ℕ, ◌≤◌, ◌<◌, leb}
 use Rattle.model.specs.Base.{Answer, refused, value, ◌into◌, ◌then◌, checks}
-use Rattle.model.specs.Netlist.{Netlist, pathTotal}
+use Rattle.model.specs.Netlist.{Netlist, path_total}
 use Rattle.model.specs.Path.{Edge}
 use Rattle.model.specs.Runs.{Run}
-use Rattle.model.specs.Read.{readNetlist}
-use Rattle.model.specs.Store.{storeRuns, storeRules}
-use Rattle.model.specs.Calls.{storeRule}
-use Rattle.model.specs.Refusals.{refusalNumber}
+use Rattle.model.specs.Read.{read_netlist}
+use Rattle.model.specs.Store.{store_runs, store_rules}
+use Rattle.model.specs.Calls.{store_rule}
+use Rattle.model.specs.Refusals.{refusal_number_of}
 use Rattle.netlist.specs.declared.inner.Shape.{Shape}
-use Rattle.length_rows.specs.Lengths.{lengths, lengthRule}
+use Rattle.length_rows.specs.Lengths.{lengths, length_rule}
 use Rattle.length_coverage.specs.LengthAnswers.{RunsRanked, Countable}
-use Rattle.length_search.specs.Untested.{Untested, noUntested, longestFrom}
+use Rattle.length_search.specs.Untested.{Untested, no_untested, longest_from}
 use Rattle.length_search.specs.declared.inner.Search.{Search}
 use Rattle.length_untested.specs.declared.LongestAnswer.{LongestAnswer}
 use Rattle.length_untested.specs.declared.LongestAnswer.TheVariants as longest
 
 -- where the search begins: no path has more than 63 gates, and none has number 0
-abbrev pub beginGates : ℕ → ℕ
-beginGates gates = elim (leb gates 63) [ true ↦ gates | false ↦ 63 ]
+abbrev pub begin_gates : ℕ → ℕ
+begin_gates gates = elim (leb gates 63) [ true ↦ gates | false ↦ 63 ]
 
-abbrev pub beginFrom : ℕ → ℕ → ℕ
-beginFrom gates from = elim (leb gates 63) [ true ↦ elim (leb 1 from) [ true ↦ from | false ↦ 1 ] | false ↦ 1 ]
+abbrev pub begin_from : ℕ → ℕ → ℕ
+begin_from gates from = elim (leb gates 63) [ true ↦ elim (leb 1 from) [ true ↦ from | false ↦ 1 ] | false ↦ 1 ]
 
 -- once the runs are known
-unfoldable pub longestIn : Netlist → List Run → ℕ → ℕ → Answer Untested
-longestIn N rs gates from = checks (lengthRule N ∷ []) then value (longestFrom N rs gates from)
+unfoldable pub longest_in : Netlist → List Run → ℕ → ℕ → Answer Untested
+longest_in N rs gates from = checks (length_rule N ∷ []) then value (longest_from N rs gates from)
 
-abbrev pub longestOn : Netlist → List ℕ → Edge → ℕ → ℕ → Answer Untested
-longestOn N ws e gates from = longestIn N (storeRuns ws e) gates from
+abbrev pub longest_on_of : Netlist → List ℕ → Edge → ℕ → ℕ → Answer Untested
+longest_on_of N ws e gates from = longest_in N (store_runs ws e) gates from
 
 -- The call: the first untested path of `gates` gates from number `from` on, else the first one of the greatest length below
-unfoldable pub longestCall : List ℕ → List ℕ → Edge → ℕ → ℕ → Answer Untested
-longestCall netlist ws e gates from =
-    checks (storeRule ws ∷ [])
-    then readNetlist netlist
-    into λ N. checks (storeRules (pathTotal N) ws ++ (lengthRule N ∷ []))
-    then value (longestFrom N (storeRuns ws e) (beginGates gates) (beginFrom gates from))
+unfoldable pub longest_call : List ℕ → List ℕ → Edge → ℕ → ℕ → Answer Untested
+longest_call netlist ws e gates from =
+    checks (store_rule ws ∷ [])
+    then read_netlist netlist
+    into λ N. checks (store_rules (path_total N) ws ++ (length_rule N ∷ []))
+    then value (longest_from N (store_runs ws e) (begin_gates gates) (begin_from gates from))
 
 -- the papers' number of a refusal, or the path
-abbrev pub longestOf : LongestAnswer → Answer Untested
-longestOf (longest.Found g p) = value (record { gates = g; path = p })
-longestOf longest.AllTested = value noUntested
-longestOf (longest.Refused w) = refused (refusalNumber w)
+abbrev pub longest_of : LongestAnswer → Answer Untested
+longest_of (longest.Found g p) = value (record { gates = g; path = p })
+longest_of longest.AllTested = value no_untested
+longest_of (longest.Refused w) = refused (refusal_number_of w)
 
 -- a place at which a search can begin
 pub record Begins (wanted : Search) : Type 0 where
@@ -53,7 +53,7 @@ pub record Begins (wanted : Search) : Type 0 where
 -- runs of path numbers in words, and where to begin
 pub record Ready (file positions counts : List ℕ) (shape : Shape) (rows : List (List ℕ)) (ws : List ℕ) (wanted : Search) : Type 0 where
   pub runs : RunsRanked file positions counts shape rows ws
-  pub totalIs : wanted.total ≡ pathTotal runs.known.circuit
+  pub total_is : wanted.total ≡ path_total runs.known.circuit
   pub begins : Begins wanted
 
 -- a sound store, and where to begin

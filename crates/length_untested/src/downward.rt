@@ -2,11 +2,11 @@
 ghost use Rattle.std.specs.Prelude.{◌≡◌, ◌∷◌, []};
 ghost use Rattle.model.specs.Base.{value, ◌then◌, checks};
 ghost use Rattle.model.specs.Netlist.{Netlist};
-ghost use Rattle.model.specs.Read.{readNetlist};
-ghost use Rattle.length_rows.specs.Lengths.{lengthRule, row, pathsUpTo};
-ghost use Rattle.length_search.specs.Untested.{longestFrom};
-ghost use Rattle.length_search.specs.Tasks.{allRuns};
-ghost use Rattle.length_untested.specs.LongestPaths.{longestOf, longestIn, Ready};
+ghost use Rattle.model.specs.Read.{read_netlist};
+ghost use Rattle.length_rows.specs.Lengths.{length_rule, row, paths_up_to};
+ghost use Rattle.length_search.specs.Untested.{longest_from};
+ghost use Rattle.length_search.specs.Tasks.{all_runs};
+ghost use Rattle.length_untested.specs.LongestPaths.{longest_of, longest_in, Ready};
 
 use crate::LongestAnswer;
 use length_coverage::inner::held::held_row;
@@ -28,9 +28,9 @@ fn search_down(
     paths: &[u64; 64],
 ) -> LongestAnswer
     requires { Ready netlist.now positions.now counts.now shape rows.now words.now wanted
-        × ((N : Netlist) → readNetlist netlist.now ≡ value N → paths.now ≡ row (λ l. pathsUpTo N l wanted.total)) }
-    ensures { (N : Netlist) → readNetlist netlist.now ≡ value N
-        → longestOf result ≡ value (longestFrom N (allRuns words.now) wanted.gates wanted.from) }
+        × ((N : Netlist) → read_netlist netlist.now ≡ value N → paths.now ≡ row (λ l. paths_up_to N l wanted.total)) }
+    ensures { (N : Netlist) → read_netlist netlist.now ≡ value N
+        → longest_of result ≡ value (longest_from N (all_runs words.now) wanted.gates wanted.from) }
 {
     let held = held_row(netlist, positions, counts, rows, shape, words);
     let total = wanted.total;
@@ -64,8 +64,8 @@ pub(crate) fn longest_rows(
     wanted: Search,
 ) -> LongestAnswer
     requires { Ready netlist.now positions.now counts.now shape rows.now words.now wanted }
-    ensures { (N : Netlist) → readNetlist netlist.now ≡ value N
-        → longestOf result ≡ longestIn N (allRuns words.now) wanted.gates wanted.from }
+    ensures { (N : Netlist) → read_netlist netlist.now ≡ value N
+        → longest_of result ≡ longest_in N (all_runs words.now) wanted.gates wanted.from }
 {
     let paths = rank_row(netlist, positions, counts, rows, shape, wanted.total);
     let short = row_sum(&paths);

@@ -4,9 +4,9 @@ mod downward;
 ghost use Rattle.std.specs.Prelude.{◌≡◌};
 ghost use Rattle.model.specs.Base.{value};
 ghost use Rattle.model.specs.Netlist.{Netlist};
-ghost use Rattle.model.specs.Read.{readNetlist};
-ghost use Rattle.path_faults.specs.Answers.{modelEdge};
-ghost use Rattle.length_untested.specs.LongestPaths.{beginGates, beginFrom, longestCall, longestOf, longestOn, Prepared};
+ghost use Rattle.model.specs.Read.{read_netlist};
+ghost use Rattle.path_faults.specs.Answers.{model_edge};
+ghost use Rattle.length_untested.specs.LongestPaths.{begin_gates, begin_from, longest_call, longest_of, longest_on_of, Prepared};
 
 use crate::downward::longest_rows;
 use length_ranks::inner::net_rows::fill_rows;
@@ -27,7 +27,7 @@ pub enum LongestAnswer {
 
 // Where a search begins.
 fn begin_at(gates: usize, from: u64, total: u64) -> Search
-    ensures { result ≡ record { gates = beginGates gates; from = beginFrom gates from; total = total } }
+    ensures { result ≡ record { gates = begin_gates gates; from = begin_from gates from; total = total } }
 {
     if 63 < gates {
         return Search {
@@ -57,8 +57,8 @@ fn longest_on(
     wanted: Search,
 ) -> LongestAnswer
     requires { Prepared netlist.now positions.now counts.now shape store.now wanted }
-    ensures { (N : Netlist) → readNetlist netlist.now ≡ value N
-        → longestOf result ≡ longestOn N store.now (modelEdge edge) wanted.gates wanted.from }
+    ensures { (N : Netlist) → read_netlist netlist.now ≡ value N
+        → longest_of result ≡ longest_on_of N store.now (model_edge edge) wanted.gates wanted.from }
 {
     let mut rows = [[0u64; 64]; 512];
     fill_rows(netlist, positions, shape, &mut rows);
@@ -75,7 +75,7 @@ pub fn longest_untested(
     gates: usize,
     from: PathNo,
 ) -> LongestAnswer
-    ensures { longestOf result ≡ longestCall netlist.now store.now (modelEdge edge) gates from.0 }
+    ensures { longest_of result ≡ longest_call netlist.now store.now (model_edge edge) gates from.0 }
 {
     if store.len() != STORE_WORDS {
         return LongestAnswer::Refused(Refusal::StoreLength);

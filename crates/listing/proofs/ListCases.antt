@@ -1,14 +1,14 @@
 -- What the listing program's functions need of each other: the first line with a legal netlist's tables, and an empty store.
 use Rattle.model.proofs.Prelude.{ℕ, ◌≤◌, ◌≡◌, sym, subst, true, List, length, take, replicate, needs}
-use Rattle.model.specs.Store.{storeWords, emptyStore}
-use Rattle.model.specs.Calls.{workWords}
+use Rattle.model.specs.Store.{store_words_count, empty_store}
+use Rattle.model.specs.Calls.{work_words_count}
 use Rattle.netlist.specs.Tables.{SomeTables}
 use Rattle.netlist.specs.declared.inner.Loaded.{Loaded}
 use Rattle.store_coverage.specs.Stage.{MemoryReady}
 use Rattle.audit_block.proofs.MemoryLaws.{emptied, empty-memory}
 use Rattle.listing_head.specs.ListingHead.{HeadTrue}
 use Rattle.listing_head.specs.declared.inner.Head.{Head}
-use Rattle.listing_text.specs.StoreText.{outBytes}
+use Rattle.listing_text.specs.StoreText.{out_bytes}
 use Rattle.listing_blocks.specs.Answers.{ListReady}
 use Rattle.testfile_reading.proofs.ReadPieceLaws.{part_length}
 
@@ -18,15 +18,15 @@ module _ {r : Head} {netlist : List ℕ} {class : ℕ} {out out' : List ℕ} (t 
   head-length = part_length r.end out' t.line.inside
 
   pub head-tables : r.passed ≡ true → SomeTables netlist r.tables.positions r.tables.counts r.tables.shape
-  head-tables p = t.tablesAre p
+  head-tables p = t.tables_are p
 
 -- a store that was emptied
-pub store-empty : (ws₀ ws : List ℕ) → length ws₀ ≡ storeWords → ws ≡ replicate (length ws₀) 0 → ws ≡ emptyStore
+pub store-empty : (ws₀ ws : List ℕ) → length ws₀ ≡ store_words_count → ws ≡ replicate (length ws₀) 0 → ws ≡ empty_store
 store-empty ws₀ ws long e = emptied ws (length ws₀) e long
 
 -- from an empty store on
 pub from_empty : (netlist : List ℕ) (t : Loaded) (ws₀ ws work out : List ℕ) → SomeTables netlist t.positions t.counts t.shape
-    → length ws₀ ≡ storeWords → ws ≡ replicate (length ws₀) 0 → workWords ≤ length work → outBytes ≤ length out → ListReady netlist t ws work out
+    → length ws₀ ≡ store_words_count → ws ≡ replicate (length ws₀) 0 → work_words_count ≤ length work → out_bytes ≤ length out → ListReady netlist t ws work out
 from_empty netlist t ws₀ ws work out l long e w o =
     record {
       circuit = l.circuit;

@@ -3,10 +3,10 @@
 // writes is made by `listing_head` and `listing_walk`, each part with a promise. Where the netlist or the class file can't be read whole it writes
 // nothing, and where the test file can't, neither runs nor totals.
 ghost use Rattle.std.specs.Prelude.{◌≡◌, ◌≤◌, length};
-ghost use Rattle.model.specs.Store.{storeWords};
-ghost use Rattle.model.specs.Calls.{workWords};
+ghost use Rattle.model.specs.Store.{store_words_count};
+ghost use Rattle.model.specs.Calls.{work_words_count};
 ghost use Rattle.netlist.specs.Tables.{SomeTables};
-ghost use Rattle.listing_text.specs.StoreText.{outBytes};
+ghost use Rattle.listing_text.specs.StoreText.{out_bytes};
 
 use libc::{STDERR_FILENO, STDOUT_FILENO};
 use listing_head::inner::put_head;
@@ -34,19 +34,19 @@ fn print_usage(fd: i32) {
 
 // Zeros for text, for a store and for working memory.
 fn text_bytes() -> [u8; OUT_BYTES]
-    ensures { outBytes ≡ length result }
+    ensures { out_bytes ≡ length result }
 {
     [0; OUT_BYTES]
 }
 
 fn store_words() -> [u64; STORE_WORDS]
-    ensures { storeWords ≡ length result }
+    ensures { store_words_count ≡ length result }
 {
     [0; STORE_WORDS]
 }
 
 fn work_words() -> [u64; WORK_WORDS]
-    ensures { workWords ≡ length result }
+    ensures { work_words_count ≡ length result }
 {
     [0; WORK_WORDS]
 }
@@ -61,7 +61,7 @@ fn list_tests(
     out: &mut [u8],
 )
     requires some_tables { SomeTables netlist.now tables.positions tables.counts tables.shape }
-    requires store_len { (length store.old ≡ storeWords) × (workWords ≤ length work.old) × (outBytes ≤ length out.old) }
+    requires store_len { (length store.old ≡ store_words_count) × (work_words_count ≤ length work.old) × (out_bytes ≤ length out.old) }
 {
     let mut name = io::buffer();
     let n = file_name(2, b"tests.tp", &mut name);
@@ -81,7 +81,7 @@ fn list_tests(
 
 // The lines after the first one: a store and working memory are made for them.
 fn list(netlist: &[u8], tables: Loaded, class: u32, out: &mut [u8])
-    requires { SomeTables netlist.now tables.positions tables.counts tables.shape × (outBytes ≤ length out.old) }
+    requires { SomeTables netlist.now tables.positions tables.counts tables.shape × (out_bytes ≤ length out.old) }
 {
     let mut store = store_words();
     let mut work = work_words();

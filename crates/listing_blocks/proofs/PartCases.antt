@@ -6,24 +6,24 @@ use lib.ListN.{length-take}
 use Rattle.model.specs.Base.{Answer, refused, checks}
 use Rattle.model.specs.Netlist.{Netlist}
 use Rattle.model.specs.Detect.{Class, Test}
-use Rattle.model.specs.Read.{class_of, testRules, recordLength, vectorBytes}
+use Rattle.model.specs.Read.{class_of, test_rules, record_length, vector_bytes_of}
 use Rattle.model.specs.Calls.{FaultCounts}
-use Rattle.model.specs.Refusals.{refusalNumber}
+use Rattle.model.specs.Refusals.{refusal_number_of}
 use Rattle.model.specs.declared.Refusal.{Refusal}
 use Rattle.model.specs.declared.Refusal.TheVariants as why
 use Rattle.record_test.specs.declared.inner.RecordAnswer.{RecordAnswer}
 use Rattle.record_test.specs.declared.inner.RecordAnswer.TheVariants as record-answer
-use Rattle.store_coverage.specs.Stage.{MemoryReady, workStage}
-use Rattle.store_coverage.specs.TestCall.{returnedBy}
+use Rattle.store_coverage.specs.Stage.{MemoryReady, work_stage}
+use Rattle.store_coverage.specs.TestCall.{returned_by}
 use Rattle.block_words.specs.Block.{BlockOf}
 use Rattle.block_words.specs.Table.{CircuitTable}
 use Rattle.block_activity.specs.EdgeMarks.{WorkKept}
-use Rattle.block_activity.specs.Marks.{OffsetTable, MarksTrue, VectorsOf, testAt, BlockRead}
-use Rattle.block_counting.specs.Counts.{Says, SaysAt, storeAt, BlockCounted}
+use Rattle.block_activity.specs.Marks.{OffsetTable, MarksTrue, VectorsOf, test_at, BlockRead}
+use Rattle.block_counting.specs.Counts.{Says, SaysAt, store_at, BlockCounted}
 use Rattle.block_stage.specs.BlockStage.{BlockAt, MemoryKept}
 use Rattle.audit_block.specs.FileBlocks.{BlockTables, BlocksReady, RoomKept}
 use Rattle.audit_block.specs.declared.inner.FileNumbers.{FileNumbers}
-use Rattle.audit_block.proofs.VectorCases.{marked-at, still-ready}
+use Rattle.audit_block.proofs.VectorCases.{marked-at, still_ready}
 use Rattle.audit_block.proofs.BlockTakeCases.{block-some, batch, read_of, block-records, read-tests, read-ready}
 use Rattle.listing_blocks.specs.BlockLines.{NextIs, PartListed, PartDone}
 use Rattle.listing_blocks.proofs.BlockLineLaws.{part-legal, part-refused, memory-at}
@@ -36,12 +36,12 @@ says-kept answers n k t x f h s =
     (subst (λ (j : ℕ). Says (get_or (set answers (128 + n) k) t 0) j (get_or answers (128 + t) 0) x) (other (64 + t) (λ e. omega (arith, e)))
     (subst (λ (j : ℕ). Says j (get_or answers (64 + t) 0) (get_or answers (128 + t) 0) x) (other t (λ e. omega (arith, e))) s))
 
-mul-add-one : (a b : ℕ) → a * (b + 1) ≡ a * b + a
-mul-add-one a b = ap (λ (k : ℕ). a * k) (add-one b) ∙ mul-suc a b
+mul_add_one : (a b : ℕ) → a * (b + 1) ≡ a * b + a
+mul_add_one a b = ap (λ (k : ℕ). a * k) (add-one b) ∙ mul-suc a b
 
 -- a record that is short
-short-refused : (N : Netlist) (rec : List ℕ) → length rec < recordLength N → checks (testRules N rec) ≡ refused 30
-short-refused N rec h = rw (ne_eqb (length rec) (recordLength N) (λ e. omega (arith, e))) refl
+short-refused : (N : Netlist) (rec : List ℕ) → length rec < record_length N → checks (test_rules N rec) ≡ refused 30
+short-refused N rec h = rw (ne_eqb (length rec) (record_length N) (λ e. omega (arith, e))) refl
 
 -- what is said of the record after those of a block
 clash : {w : Refusal} → ◌≡◌ {A = RecordAnswer} record-answer.Legal (record-answer.Refused w) → ⊥
@@ -68,12 +68,12 @@ module _ {table offsets : List ℕ} {numbers : FileNumbers} {risingLists falling
 
     -- what the place Work answers of record i
     abbrev answer_of : Netlist → ℕ → Answer FaultCounts
-    answer_of N i = returnedBy (workStage N (testAt N c part i) (storeAt N (testAt N c part) i ws))
+    answer_of N i = returned_by (work_stage N (test_at N c part i) (store_at N (test_at N c part) i ws))
 
     -- the bytes of its records
-    module _ {bytes : ℕ} (eb : bytes ≡ 2 + 2 * vectorBytes numbers.inputs) where
-      length-is : (N : Netlist) → BlockTables N table offsets numbers → bytes ≡ recordLength N
-      length-is N t = eb ∙ ap (λ (i : ℕ). 2 + 2 * vectorBytes i) t.circuit.inputsAre
+    module _ {bytes : ℕ} (eb : bytes ≡ 2 + 2 * vector_bytes_of numbers.inputs) where
+      length-is : (N : Netlist) → BlockTables N table offsets numbers → bytes ≡ record_length N
+      length-is N t = eb ∙ ap (λ (i : ℕ). 2 + 2 * vector_bytes_of i) t.circuit.inputs_are
 
       C : Netlist
       C = s.netlist
@@ -97,26 +97,26 @@ module _ {table offsets : List ℕ} {numbers : FileNumbers} {risingLists falling
       module _ {ws' work' answers : List ℕ} (kept : MemoryKept ws' work₁ work')
           (counted : (N : Netlist) (tests : ℕ → Test) → BlockAt N tests table offsets risingLists' fallingLists' marks (batch s read) → MemoryReady N ws work₁
           → BlockCounted N tests n ws ws' answers)
-          (sameRising : length risingLists' ≡ length risingLists) (sameFalling : length fallingLists' ≡ length fallingLists) {bytes : ℕ}
-          (eb : bytes ≡ 2 + 2 * vectorBytes numbers.inputs) where
+          (same_rising : length risingLists' ≡ length risingLists) (same_falling : length fallingLists' ≡ length fallingLists) {bytes : ℕ}
+          (eb : bytes ≡ 2 + 2 * vector_bytes_of numbers.inputs) where
         room : RoomKept risingLists risingLists' fallingLists fallingLists' work work'
-        room = record { sameRising = sameRising; sameFalling = sameFalling; sameLength = kept.sameLength ∙ lent.sameLength; pastWork = kept.pastWork ∙ lent.pastWork }
+        room = record { same_rising = same_rising; same_falling = same_falling; same_length_of = kept.same_length_of ∙ lent.same_length_of; past_work = kept.past_work ∙ lent.past_work }
 
         module _ (N : Netlist) (t : BlockTables N table offsets numbers) (m : MemoryReady N ws work) where
           b : BlockRead N part vectors n after
           b = read_of s read N t
 
-          k : BlockCounted N (testAt N c part) n ws ws' answers
+          k : BlockCounted N (test_at N c part) n ws ws' answers
           k =
               let ready = read-ready s read in
-              counted N (testAt N c part) (marked-at ready filled lent N (testAt N c part) (read-tests s read N t)) (still-ready ready filled lent N m)
+              counted N (test_at N c part) (marked-at ready filled lent N (test_at N c part) (read-tests s read N t)) (still_ready ready filled lent N m)
 
           memory-left : MemoryReady N ws' work'
           unfolding b k
           memory-left =
               let r = memory-at N c part ws m n b.whole b.legal answers k.each n in
               let here : MemoryReady N ws' work = subst (λ (x : List ℕ). MemoryReady N x work) (sym k.store) r in
-              record { storeLength = here.storeLength; sound = here.sound; workLength = omega (arith, here.workLength, kept.sameLength, lent.sameLength) }
+              record { store_length = here.store_length; sound = here.sound; work_length = omega (arith, here.work_length, kept.same_length_of, lent.same_length_of) }
 
           -- the records of the block, with the words of others after them
           listed-with : (answers' : List ℕ) → ((i : ℕ) → i < n → SaysAt answers' i (answer_of N i))
@@ -124,7 +124,7 @@ module _ {table offsets : List ℕ} {numbers : FileNumbers} {risingLists falling
           unfolding b k
           listed-with answers' each =
               subst (λ (x : List ℕ). PartListed N c part ws x answers' n (bytes * n)) (sym k.store)
-              (subst (λ (l : ℕ). PartListed N c part ws (storeAt N (testAt N c part) n ws) answers' n (l * n)) (sym (length-is eb N t))
+              (subst (λ (l : ℕ). PartListed N c part ws (store_at N (test_at N c part) n ws) answers' n (l * n)) (sym (length-is eb N t))
               (part-legal N c part ws m n b.whole b.legal answers' each n (omega arith)))
 
         module _ {next : RecordAnswer} (nx : NextIs after n (bytes * n) (length part) next) where
@@ -137,9 +137,9 @@ module _ {table offsets : List ℕ} {numbers : FileNumbers} {risingLists falling
             within = whole-bytes eb;
             some = λ h. ⊎_elim (λ (a : 64 ≤ n). omega (arith, four-each eb)) (λ (a : length part ≤ bytes * n). omega arith) (nx.none e);
             fewer = omega (arith, four-each eb);
-            storeLength = kept.storeLength ∙ sym s.memory.storeLength;
+            store_length = kept.store_length ∙ sym s.memory.store_length;
             kept = room;
-            ofCircuit = λ N t m. record { listed = listed-with N t m answers (k N t m).each; memory = memory-left N t m };
+            of_circuit = λ N t m. record { listed = listed-with N t m answers (k N t m).each; memory = memory-left N t m };
           }
 
           -- the one after them is refused
@@ -150,31 +150,31 @@ module _ {table offsets : List ℕ} {numbers : FileNumbers} {risingLists falling
             begins : bytes * n < length part
             begins =
                 ⊎_elim (λ (q : after ≡ record-answer.Refused w).
-                let l : recordLength s.netlist * (n + 1) ≤ length part = ((read_of s read s.netlist s.tables).refuses w q).0 in
-                let more : recordLength s.netlist * (n + 1) ≡ recordLength s.netlist * n + recordLength s.netlist = mul-add-one (recordLength s.netlist) n in
-                let same : bytes * n ≡ recordLength s.netlist * n = ap (λ (x : ℕ). x * n) (length-is eb s.netlist s.tables) in
+                let l : record_length s.netlist * (n + 1) ≤ length part = ((read_of s read s.netlist s.tables).refuses w q).0 in
+                let more : record_length s.netlist * (n + 1) ≡ record_length s.netlist * n + record_length s.netlist = mul_add_one (record_length s.netlist) n in
+                let same : bytes * n ≡ record_length s.netlist * n = ap (λ (x : ℕ). x * n) (length-is eb s.netlist s.tables) in
                 omega (arith, four eb, length-is eb s.netlist s.tables))
                 (λ (q : (after ≡ record-answer.Legal) × (bytes * n < length part) × (w ≡ why.RecordLength)). q.1) (nx.some w e).1
 
             module _ {used : ℕ} (eu : used ≡ min (bytes * n + bytes) (length part)) where
-              refuses : (N : Netlist) → BlockTables N table offsets numbers → checks (testRules N (take (used - bytes * n) (drop (bytes * n) part))) ≡ refused (refusalNumber w)
+              refuses : (N : Netlist) → BlockTables N table offsets numbers → checks (test_rules N (take (used - bytes * n) (drop (bytes * n) part))) ≡ refused (refusal_number_of w)
               refuses N t =
-                  let same : bytes * n ≡ recordLength N * n = ap (λ (x : ℕ). x * n) (length-is eb N t) in
-                  let more : recordLength N * (n + 1) ≡ recordLength N * n + recordLength N = mul-add-one (recordLength N) n in
-                  let l : bytes ≡ recordLength N = length-is eb N t in
+                  let same : bytes * n ≡ record_length N * n = ap (λ (x : ℕ). x * n) (length-is eb N t) in
+                  let more : record_length N * (n + 1) ≡ record_length N * n + record_length N = mul_add_one (record_length N) n in
+                  let l : bytes ≡ record_length N = length-is eb N t in
                   ⊎_elim (λ (q : after ≡ record-answer.Refused w).
                   let z = (read_of s read N t).refuses w q in
-                  let whole : used - bytes * n ≡ recordLength N = omega (arith, eu, z.0) in
-                  ap₂ (λ (x y : ℕ). checks (testRules N (take x (drop y part)))) whole same ∙ z.1)
+                  let whole : used - bytes * n ≡ record_length N = omega (arith, eu, z.0) in
+                  ap₂ (λ (x y : ℕ). checks (test_rules N (take x (drop y part)))) whole same ∙ z.1)
                   (λ (q : (after ≡ record-answer.Legal) × (bytes * n < length part) × (w ≡ why.RecordLength)).
-                  let short : length part < recordLength N * (n + 1) =
-                  ⊎_elim (λ (a : n ≡ 64). absurd (omega (arith, next-few, a))) (λ (a : length part < recordLength N * (n + 1)). a) ((read_of s read N t).ended q.0) in
+                  let short : length part < record_length N * (n + 1) =
+                  ⊎_elim (λ (a : n ≡ 64). absurd (omega (arith, next-few, a))) (λ (a : length part < record_length N * (n + 1)). a) ((read_of s read N t).ended q.0) in
                   let few : length (take (used - bytes * n) (drop (bytes * n) part)) ≤ used - bytes * n =
                   omega (arith, length-take (used - bytes * n) (drop (bytes * n) part), min-le_left (used - bytes * n) (length (drop (bytes * n) part))) in
-                  short-refused N (take (used - bytes * n) (drop (bytes * n) part)) (omega (arith, eu)) ∙ ap (λ (v : Refusal). refused (refusalNumber v)) (sym q.2))
+                  short-refused N (take (used - bytes * n) (drop (bytes * n) part)) (omega (arith, eu)) ∙ ap (λ (v : Refusal). refused (refusal_number_of v)) (sym q.2))
                   (nx.some w e).1
 
-              pub part-more : {number : ℕ} → number ≡ refusalNumber w
+              pub part-more : {number : ℕ} → number ≡ refusal_number_of w
                   → PartDone (record { lines = n + 1; used = used; answers = set answers (128 + n) number })
                   table offsets numbers part risingLists risingLists' fallingLists fallingLists' ws ws' work work'
               unfolding k
@@ -183,9 +183,9 @@ module _ {table offsets : List ℕ} {numbers : FileNumbers} {risingLists falling
                 within = omega (arith, eu, min-le_right (bytes * n + bytes) (length part));
                 some = λ h. omega (arith, eu, four eb, begins);
                 fewer = omega (arith, eu, four eb, four-each eb, begins);
-                storeLength = kept.storeLength ∙ sym s.memory.storeLength;
+                store_length = kept.store_length ∙ sym s.memory.store_length;
                 kept = room;
-                ofCircuit = λ N t m. record {
+                of_circuit = λ N t m. record {
                   listed =
                       subst (λ (j : ℕ). PartListed N c part ws ws' (set answers (128 + n) number) j used) (sym (add-one n))
                       (part-refused N c part ws (set answers (128 + n) number)

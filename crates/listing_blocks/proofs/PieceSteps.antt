@@ -4,7 +4,7 @@ use Rattle.model.proofs.Prelude.{length-drop, drop-drop, arith}
 use Rattle.model.specs.Netlist.{Netlist}
 use Rattle.model.specs.Detect.{Class}
 use Rattle.model.specs.Read.{class_of}
-use Rattle.model.specs.Calls.{workWords}
+use Rattle.model.specs.Calls.{work_words_count}
 use Rattle.model.proofs.AnswerLaws.{value_inj}
 use Rattle.model.proofs.BoolLaws.{cases}
 use Rattle.record_bytes.proofs.PartLaws.{part-rest}
@@ -15,16 +15,16 @@ use Rattle.text_buffer.specs.Written.{Written}
 use Rattle.text_buffer.proofs.WrittenLaws.{written-length, written-taken, written-past}
 use Rattle.audit_block.specs.FileBlocks.{BlockTables, BlocksReady, TablesMade}
 use Rattle.audit_block.specs.declared.inner.FileNumbers.{FileNumbers}
-use Rattle.listing_lines.specs.ListingLines.{answerLines}
-use Rattle.listing_text.specs.Listing.{recordLines, storeAfterAll, listedRecords}
-use Rattle.listing_blocks.specs.Answers.{blockBytes, ListedTo, PieceReady, PieceLines}
+use Rattle.listing_lines.specs.ListingLines.{answer_lines}
+use Rattle.listing_text.specs.Listing.{record_lines, store_after_all, listed_records}
+use Rattle.listing_blocks.specs.Answers.{block_bytes, ListedTo, PieceReady, PieceLines}
 use Rattle.listing_blocks.specs.BlockLines.{PartTrue, PartDone, ListBlocksReady, BlocksListed}
 use Rattle.listing_blocks.specs.declared.inner.Listed.{Listed}
 use Rattle.listing_blocks.specs.declared.blocks.PartAnswers.{PartAnswers}
-use Rattle.block_words.specs.Layout.{listsSize}
+use Rattle.block_words.specs.Layout.{lists_size}
 
-abbrev classIn : FileNumbers → Class
-classIn n = class_of n.class
+abbrev class_in : FileNumbers → Class
+class_in n = class_of n.class
 
 abbrev here : ℕ → ℕ → ℕ → Listed
 here place used bytes = record { place = place; used = used; bytes = bytes }
@@ -39,76 +39,76 @@ module _ (table offsets : List ℕ) (numbers : FileNumbers) (from : Listed) (pie
   -- the records before byte `used` are listed; where none is yet, no line is put
   pub record Listing (risingLists fallingLists ws work out : List ℕ) (place used bytes : ℕ) : Type 0 where
     pub ready : ListBlocksReady table offsets numbers from piece ws₀ work₀ out₀
-    pub upRoom : length risingLists ≡ listsSize
-    pub downRoom : length fallingLists ≡ listsSize
+    pub up_room_of : length risingLists ≡ lists_size
+    pub down_room : length fallingLists ≡ lists_size
     pub within : used ≤ length piece
     pub begun : from.used ≤ used
     pub none : used ≡ from.used → bytes ≡ from.bytes
-    pub fewPlaces : place + from.used ≤ from.place + used
+    pub few_places : place + from.used ≤ from.place + used
     pub room : length out ≡ length out₀
     pub inside : bytes ≤ length out
-    pub pastLines : drop bytes out ≡ drop bytes out₀
+    pub past_lines : drop bytes out ≡ drop bytes out₀
     pub same_store : length ws ≡ length ws₀
-    pub sameLength : length work ≡ length work₀
-    pub pastWork : drop workWords work ≡ drop workWords work₀
+    pub same_length_of : length work ≡ length work₀
+    pub past_work : drop work_words_count work ≡ drop work_words_count work₀
     pub listed : (N : Netlist) → BlockTables N table offsets numbers → MemoryReady N ws₀ work₀
-        → ListedTo N (classIn numbers) from (here place used bytes) piece ws₀ ws work out₀ out
+        → ListedTo N (class_in numbers) from (here place used bytes) piece ws₀ ws work out₀ out
 
 module _ {table offsets : List ℕ} {numbers : FileNumbers} {from : Listed} {piece ws₀ work₀ out₀ : List ℕ} where
-  pub listing_start : ListBlocksReady table offsets numbers from piece ws₀ work₀ out₀ → {risingLists fallingLists : List ℕ} → length risingLists ≡ listsSize
-      → length fallingLists ≡ listsSize
+  pub listing_start : ListBlocksReady table offsets numbers from piece ws₀ work₀ out₀ → {risingLists fallingLists : List ℕ} → length risingLists ≡ lists_size
+      → length fallingLists ≡ lists_size
       → Listing table offsets numbers from piece ws₀ work₀ out₀ risingLists fallingLists ws₀ work₀ out₀ from.place from.used from.bytes
   listing_start r u d = record {
     ready = r;
-    upRoom = u;
-    downRoom = d;
+    up_room_of = u;
+    down_room = d;
     within = r.begun.within;
     begun = omega arith;
     none = λ e. refl;
-    fewPlaces = omega arith;
+    few_places = omega arith;
     room = refl;
     inside = r.begun.inside;
-    pastLines = refl;
+    past_lines = refl;
     same_store = refl;
-    sameLength = refl;
-    pastWork = refl;
+    same_length_of = refl;
+    past_work = refl;
     listed = λ N t m. record { memory = m; lines = refl; store = refl; count = refl };
   }
 
   module _ {risingLists fallingLists ws work out : List ℕ} {place used bytes : ℕ}
       (g : Listing table offsets numbers from piece ws₀ work₀ out₀ risingLists fallingLists ws work out place used bytes) where
-    pub listing-ready : BlocksReady table offsets numbers risingLists fallingLists ws work
-    listing-ready = record {
+    pub listing_ready : BlocksReady table offsets numbers risingLists fallingLists ws work
+    listing_ready = record {
       netlist = g.ready.netlist;
       tables = g.ready.tables;
       memory = (g.listed g.ready.netlist g.ready.tables g.ready.memory).memory;
-      upRoom = omega (arith, g.upRoom);
-      downRoom = omega (arith, g.downRoom);
+      up_room_of = omega (arith, g.up_room_of);
+      down_room = omega (arith, g.down_room);
     }
 
-    listing-ended : (from.used < length piece → from.bytes + blockBytes ≤ length out₀ → from.used < used)
+    listing_ended : (from.used < length piece → from.bytes + block_bytes ≤ length out₀ → from.used < used)
         → BlocksListed from (here place used bytes) table offsets numbers piece ws₀ ws work₀ work out₀ out
-    listing-ended f = record {
+    listing_ended f = record {
       onward = record {
         within = g.within;
         inside = g.inside;
         further = f;
-        places = g.fewPlaces;
-        pastLines = g.pastLines;
-        sameLength = g.sameLength;
-        pastWork = g.pastWork;
+        places = g.few_places;
+        past_lines = g.past_lines;
+        same_length_of = g.same_length_of;
+        past_work = g.past_work;
       };
-      ofCircuit = g.listed;
+      of_circuit = g.listed;
     }
 
-    pub listing-end : length piece ≤ used → BlocksListed from (here place used bytes) table offsets numbers piece ws₀ ws work₀ work out₀ out
-    listing-end h = listing-ended (λ a b. omega arith)
+    pub listing_end : length piece ≤ used → BlocksListed from (here place used bytes) table offsets numbers piece ws₀ ws work₀ work out₀ out
+    listing_end h = listing_ended (λ a b. omega arith)
 
     -- no room for the lines of a block
-    pub listing_full : length out - bytes < blockBytes → BlocksListed from (here place used bytes) table offsets numbers piece ws₀ ws work₀ work out₀ out
-    listing_full h = listing-ended (λ a b. moved b)
+    pub listing_full : length out - bytes < block_bytes → BlocksListed from (here place used bytes) table offsets numbers piece ws₀ ws work₀ work out₀ out
+    listing_full h = listing_ended (λ a b. moved b)
       where
-        moved : from.bytes + blockBytes ≤ length out₀ → from.used < used
+        moved : from.bytes + block_bytes ≤ length out₀ → from.used < used
         moved b =
             cases used from.used (λ (e : used ≤ from.used). (let same : used ≡ from.used = omega (arith, g.begun) in absurd (omega (arith, g.none same, g.room))))
             (λ (e : from.used < used). e)
@@ -128,25 +128,25 @@ module _ {table offsets : List ℕ} {numbers : FileNumbers} {from : Listed} {pie
       block-some : 1 ≤ r.used
       block-some = d.some (omega (arith, part_length))
 
-      pub block_room : blockBytes ≤ length out - bytes → bytes + 63 * r.lines ≤ length out
+      pub block_room : block_bytes ≤ length out - bytes → bytes + 63 * r.lines ≤ length out
       block_room o = omega (arith, d.few)
 
       pub block-places : place + r.lines < 2 ^ 64
-      block-places = omega (arith, g.fewPlaces, g.ready.begun.places, d.fewer, block_within)
+      block-places = omega (arith, g.few_places, g.ready.begun.places, d.fewer, block_within)
 
       pub block-less : length piece - (used + r.used) < length piece - used
       block-less = omega (arith, block-some, block_within)
 
-      module _ {out' : List ℕ} {e : ℕ} (p : Written out out' bytes (answerLines place r.answers r.lines) e) where
+      module _ {out' : List ℕ} {e : ℕ} (p : Written out out' bytes (answer_lines place r.answers r.lines) e) where
         listed_next : (N : Netlist) → BlockTables N table offsets numbers → MemoryReady N ws₀ work₀
-            → ListedTo N (classIn numbers) from (here (place + r.lines) (used + r.used) e) piece ws₀ ws' work' out₀ out'
+            → ListedTo N (class_in numbers) from (here (place + r.lines) (used + r.used) e) piece ws₀ ws' work' out₀ out'
         listed_next N t m =
             let l = g.listed N t m in
-            let b : PartTrue r N (classIn numbers) (drop used piece) ws ws' work' =
-            subst (λ (x : List ℕ). PartTrue r N (classIn numbers) x ws ws' work') part-is (d.ofCircuit N t l.memory) in
+            let b : PartTrue r N (class_in numbers) (drop used piece) ws ws' work' =
+            subst (λ (x : List ℕ). PartTrue r N (class_in numbers) x ws ws' work') part-is (d.of_circuit N t l.memory) in
             let far : drop r.used (drop used piece) ≡ drop (used + r.used) piece = drop-drop r.used used piece in
-            let text : List ℕ = answerLines place r.answers r.lines in
-            let others : List ℕ → List ℕ = λ x. recordLines N (classIn numbers) (place + r.lines) (listedRecords N x) ws' in
+            let text : List ℕ = answer_lines place r.answers r.lines in
+            let others : List ℕ → List ℕ = λ x. record_lines N (class_in numbers) (place + r.lines) (listed_records N x) ws' in
             record {
               memory = b.memory;
               lines =
@@ -155,25 +155,25 @@ module _ {table offsets : List ℕ} {numbers : FileNumbers} {from : Listed} {pie
                   ∙ ap (λ (x : List ℕ). take bytes out ++ (text ++ others x)) (sym far)
                   ∙ ap (λ (x : List ℕ). take bytes out ++ x) (b.listed.lines place)
                   ∙ l.lines;
-              store = ap (λ (x : List ℕ). storeAfterAll N (classIn numbers) (listedRecords N x) ws') (sym far) ∙ b.listed.store ∙ l.store;
-              count = omega (arith, l.count, b.listed.count, ap (λ (x : List ℕ). length (listedRecords N x)) far);
+              store = ap (λ (x : List ℕ). store_after_all N (class_in numbers) (listed_records N x) ws') (sym far) ∙ b.listed.store ∙ l.store;
+              count = omega (arith, l.count, b.listed.count, ap (λ (x : List ℕ). length (listed_records N x)) far);
             }
 
-        pub listing-next : Listing table offsets numbers from piece ws₀ work₀ out₀ risingLists' fallingLists' ws' work' out' (place + r.lines) (used + r.used) e
-        listing-next = record {
+        pub listing_next : Listing table offsets numbers from piece ws₀ work₀ out₀ risingLists' fallingLists' ws' work' out' (place + r.lines) (used + r.used) e
+        listing_next = record {
           ready = g.ready;
-          upRoom = d.kept.sameRising ∙ g.upRoom;
-          downRoom = d.kept.sameFalling ∙ g.downRoom;
+          up_room_of = d.kept.same_rising ∙ g.up_room_of;
+          down_room = d.kept.same_falling ∙ g.down_room;
           within = block_within;
           begun = omega (arith, g.begun);
           none = λ q. absurd (omega (arith, q, g.begun, block-some));
-          fewPlaces = omega (arith, g.fewPlaces, d.fewer);
+          few_places = omega (arith, g.few_places, d.fewer);
           room = written-length p ∙ g.room;
           inside = p.inside;
-          pastLines = written-past p ∙ past-later out out₀ {a = bytes} {b = e} (omega (arith, p.place)) g.pastLines;
-          same_store = d.storeLength ∙ g.same_store;
-          sameLength = d.kept.sameLength ∙ g.sameLength;
-          pastWork = d.kept.pastWork ∙ g.pastWork;
+          past_lines = written-past p ∙ past-later out out₀ {a = bytes} {b = e} (omega (arith, p.place)) g.past_lines;
+          same_store = d.store_length ∙ g.same_store;
+          same_length_of = d.kept.same_length_of ∙ g.same_length_of;
+          past_work = d.kept.past_work ∙ g.past_work;
           listed = listed_next;
         }
 
@@ -190,8 +190,8 @@ module _ {netlist : List ℕ} {t : Loaded} {from : Listed} {piece ws work out : 
         → PieceLines from r netlist t class piece ws ws' work work' out out'
     piece-listed {r} {ws'} {work'} {out'} b = record {
       onward = b.onward;
-      ofCircuit = λ N k.
+      of_circuit = λ N k.
           let memory = subst (λ (M : Netlist). MemoryReady M ws work) (value_inj (sym p.tables.legal ∙ k.legal)) p.memory in
-          subst (λ (numbers : FileNumbers). ListedTo N (class_of numbers.class) from r piece ws ws' work' out out') made.numbersAre
-          (b.ofCircuit N (made.tables N k) memory);
+          subst (λ (numbers : FileNumbers). ListedTo N (class_of numbers.class) from r piece ws ws' work' out out') made.numbers_are
+          (b.of_circuit N (made.tables N k) memory);
     }

@@ -10,8 +10,8 @@ use Rattle.record_test.specs.declared.inner.RecordAnswer.TheVariants as record-a
 use Rattle.store_coverage.specs.Stage.{MemoryReady}
 use Rattle.audit_block.specs.FileBlocks.{BlockTables, RoomKept}
 use Rattle.audit_block.specs.declared.inner.FileNumbers.{FileNumbers}
-use Rattle.listing_lines.specs.ListingLines.{answerLines}
-use Rattle.listing_text.specs.Listing.{recordLines, storeAfterAll, listedRecords}
+use Rattle.listing_lines.specs.ListingLines.{answer_lines}
+use Rattle.listing_text.specs.Listing.{record_lines, store_after_all, listed_records}
 use Rattle.listing_blocks.specs.Answers.{Begun, WentOn, ListedTo}
 use Rattle.listing_blocks.specs.declared.inner.Listed.{Listed}
 use Rattle.listing_blocks.specs.declared.blocks.PartAnswers.{PartAnswers}
@@ -25,9 +25,9 @@ pub record NextIs (after : RecordAnswer) (records used len : ℕ) (r : RecordAns
 -- the first n records of a part are in its bytes before byte `used`: their lines, then those of the others on the store so far, give the whole
 pub record PartListed (N : Netlist) (c : Class) (part ws ws' answers : List ℕ) (n used : ℕ) : Type 0 where
   pub lines : (place : ℕ)
-      → answerLines place answers n ++ recordLines N c (place + n) (listedRecords N (drop used part)) ws' ≡ recordLines N c place (listedRecords N part) ws
-  pub store : storeAfterAll N c (listedRecords N (drop used part)) ws' ≡ storeAfterAll N c (listedRecords N part) ws
-  pub count : n + length (listedRecords N (drop used part)) ≡ length (listedRecords N part)
+      → answer_lines place answers n ++ record_lines N c (place + n) (listed_records N (drop used part)) ws' ≡ record_lines N c place (listed_records N part) ws
+  pub store : store_after_all N c (listed_records N (drop used part)) ws' ≡ store_after_all N c (listed_records N part) ws
+  pub count : n + length (listed_records N (drop used part)) ≡ length (listed_records N part)
 
 pub record PartTrue (r : PartAnswers) (N : Netlist) (c : Class) (part ws ws' work' : List ℕ) : Type 0 where
   pub listed : PartListed N c part ws ws' r.answers r.lines r.used
@@ -38,9 +38,9 @@ pub record PartDone (r : PartAnswers) (table offsets : List ℕ) (n : FileNumber
   pub within : r.used ≤ length part
   pub some : 0 < length part → 1 ≤ r.used
   pub fewer : r.lines ≤ r.used
-  pub storeLength : length ws' ≡ length ws
+  pub store_length : length ws' ≡ length ws
   pub kept : RoomKept risingLists risingLists' fallingLists fallingLists' work work'
-  pub ofCircuit : (N : Netlist) → BlockTables N table offsets n → MemoryReady N ws work → PartTrue r N (class_of n.class) part ws ws' work'
+  pub of_circuit : (N : Netlist) → BlockTables N table offsets n → MemoryReady N ws work → PartTrue r N (class_of n.class) part ws ws' work'
 
 -- the tables of some netlist, a store that passes its rules, and a piece that is listed so far
 pub record ListBlocksReady (table offsets : List ℕ) (n : FileNumbers) (from : Listed) (piece ws work out : List ℕ) : Type 0 where
@@ -52,4 +52,4 @@ pub record ListBlocksReady (table offsets : List ℕ) (n : FileNumbers) (from : 
 -- what is listed of the piece from there on
 pub record BlocksListed (from r : Listed) (table offsets : List ℕ) (n : FileNumbers) (piece ws ws' work work' out out' : List ℕ) : Type 0 where
   pub onward : WentOn from r piece work work' out out'
-  pub ofCircuit : (N : Netlist) → BlockTables N table offsets n → MemoryReady N ws work → ListedTo N (class_of n.class) from r piece ws ws' work' out out'
+  pub of_circuit : (N : Netlist) → BlockTables N table offsets n → MemoryReady N ws work → ListedTo N (class_of n.class) from r piece ws ws' work' out out'

@@ -1,7 +1,7 @@
 // A caller proves what a function requires.
 ghost use Rattle.std.specs.Prelude.{◌≡◌, ◌≤◌, length};
 ghost use Rattle.netlist.specs.Answers.{answer_of};
-ghost use Rattle.listing_head.specs.ListingHead.{classAnswer, in_turn, HeadTrue};
+ghost use Rattle.listing_head.specs.ListingHead.{class_answer_of, in_turn, HeadTrue};
 
 use listing_lines::inner::{put_paths, put_refusal};
 use model::{Refusal, known_class};
@@ -18,7 +18,7 @@ pub struct Head {
 
 // Class 1 or 2, or the refusal of any other.
 fn class_answer(class: u32) -> SurveyAnswer
-    ensures { answer_of result ≡ classAnswer class }
+    ensures { answer_of result ≡ class_answer_of class }
 {
     let known = known_class(class);
     if known {

@@ -1,8 +1,8 @@
 // Each caller proves what a function requires. A function puts lines from a place on, and returns the place after them.
 ghost use Rattle.std.specs.Prelude.{◌+◌, ◌*◌, ◌^◌, ◌≤◌, ◌<◌, length};
-ghost use Rattle.model.specs.Refusals.{refusalNumber};
+ghost use Rattle.model.specs.Refusals.{refusal_number_of};
 ghost use Rattle.text_buffer.specs.Written.{Written};
-ghost use Rattle.listing_lines.specs.ListingLines.{pairText, pathsLine, refusedLine, recordLine, answer_in, answerLines};
+ghost use Rattle.listing_lines.specs.ListingLines.{pair_text, paths_line, refused_line_of, record_line, answer_in, answer_lines};
 
 use model::Refusal;
 use model_refusals::refusal_number;
@@ -12,7 +12,7 @@ use text_line::inner::{put_number, put_text};
 // Two numbers and the end of their line.
 pub fn put_pair(out: &mut [u8], at: usize, first: u64, second: u64) -> usize
     requires { at + 42 ≤ length out.old }
-    ensures { Written out.old out.new at (pairText first second) result }
+    ensures { Written out.old out.new at (pair_text first second) result }
 {
     let space = put_number(out, at, first);
     let number = put_text(out, space, b" ");
@@ -23,7 +23,7 @@ pub fn put_pair(out: &mut [u8], at: usize, first: u64, second: u64) -> usize
 // The line `refused` and the number of a refusal.
 pub fn put_refusal(out: &mut [u8], at: usize, why: Refusal) -> usize
     requires { at + 29 ≤ length out.old }
-    ensures { Written out.old out.new at (refusedLine (refusalNumber why)) result }
+    ensures { Written out.old out.new at (refused_line_of (refusal_number_of why)) result }
 {
     put_numbered(out, at, b"refused ", refusal_number(why) as u64, b"")
 }
@@ -31,7 +31,7 @@ pub fn put_refusal(out: &mut [u8], at: usize, why: Refusal) -> usize
 // The line `paths` and their number.
 pub fn put_paths(out: &mut [u8], paths: u64) -> usize
     requires { 27 ≤ length out.old }
-    ensures { Written out.old out.new 0 (pathsLine paths) result }
+    ensures { Written out.old out.new 0 (paths_line paths) result }
 {
     put_numbered(out, 0, b"paths ", paths, b"")
 }
@@ -46,7 +46,7 @@ fn put_line(
     refusal: u64,
 ) -> usize
     requires { at + 63 ≤ length out.old }
-    ensures { Written out.old out.new at (recordLine place (answer_in new_rising new_falling refusal)) result }
+    ensures { Written out.old out.new at (record_line place (answer_in new_rising new_falling refusal)) result }
 {
     let space = put_number(out, at, place);
     let rest = put_text(out, space, b" ");
@@ -65,7 +65,7 @@ pub fn put_lines(
     lines: usize,
 ) -> usize
     requires { (lines ≤ 64) × (start + 63 * lines ≤ length out.old) × (first + lines < 2 ^ 64) }
-    ensures { Written out.old out.new start (answerLines first answers.now lines) result }
+    ensures { Written out.old out.new start (answer_lines first answers.now lines) result }
 {
     let mut at = start;
     let mut place = first;

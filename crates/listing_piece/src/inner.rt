@@ -1,6 +1,6 @@
 // The lines of a piece, which go to a descriptor: a caller proves what a function requires.
 ghost use Rattle.std.specs.Prelude.{◌≤◌, length};
-ghost use Rattle.listing_blocks.specs.Answers.{blockBytes};
+ghost use Rattle.listing_blocks.specs.Answers.{block_bytes};
 ghost use Rattle.listing_piece.specs.PieceListing.{WrittenFull, ReadReady, ReadListed};
 
 use listing_blocks::inner::{BLOCK_BYTES, Listed, list_piece};
@@ -16,7 +16,7 @@ pub struct Lines {
 
 // Writes the lines in the buffer where those of another block might not fit after them.
 fn write_full(to: i32, listed: Listed, out: &[u8]) -> Listed
-    requires { (listed.bytes ≤ length out.now) × (blockBytes ≤ length out.now) }
+    requires { (listed.bytes ≤ length out.now) × (block_bytes ≤ length out.now) }
     ensures { WrittenFull listed result out.now }
 {
     let Listed { place, used, bytes } = listed;

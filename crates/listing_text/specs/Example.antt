@@ -1,13 +1,13 @@
 -- Document 01's listing for Q and its three tests, one with two refused records, one of a robust test, and one with a pair that changes nothing.
 use Rattle.std.specs.Prelude.{List, [], ◌∷◌, ◌++◌, ℕ}
-use Rattle.model.specs.Examples.{detectsNone, detectsFalling, detectsRising, equalPair}
+use Rattle.model.specs.Examples.{detects_none, detects_falling, detects_rising, equal_pair}
 
-unfoldable pub threeTests : List ℕ
-threeTests = detectsNone ++ detectsFalling ++ detectsRising
+unfoldable pub three_tests : List ℕ
+three_tests = detects_none ++ detects_falling ++ detects_rising
 
 -- the eight lines of document 01, a row for each
-unfoldable pub eightLines : List ℕ
-eightLines =
+unfoldable pub eight_lines : List ℕ
+eight_lines =
     0x70 ∷ 0x61 ∷ 0x74 ∷ 0x68 ∷ 0x73 ∷ 0x20 ∷ 0x33 ∷ 0x0A
     ∷ 0x31 ∷ 0x20 ∷ 0x30 ∷ 0x20 ∷ 0x30 ∷ 0x0A
     ∷ 0x32 ∷ 0x20 ∷ 0x30 ∷ 0x20 ∷ 0x32 ∷ 0x0A
@@ -18,12 +18,12 @@ eightLines =
     ∷ 0x66 ∷ 0x61 ∷ 0x6C ∷ 0x6C ∷ 0x69 ∷ 0x6E ∷ 0x67 ∷ 0x20 ∷ 0x32 ∷ 0x0A ∷ []
 
 -- a spare bit set, a taken test, and a record of one byte
-unfoldable pub twoRefused : List ℕ
-twoRefused = 0x54 ∷ 0x50 ∷ 0x07 ∷ 0x01 ∷ detectsFalling ++ 0x54 ∷ []
+unfoldable pub two_refused : List ℕ
+two_refused = 0x54 ∷ 0x50 ∷ 0x07 ∷ 0x01 ∷ detects_falling ++ 0x54 ∷ []
 
 -- `1 refused 32`, `2 0 2`, `3 refused 30`: the place counts on, and the store is kept
-unfoldable pub refusedLines : List ℕ
-refusedLines =
+unfoldable pub refused_lines : List ℕ
+refused_lines =
     0x70 ∷ 0x61 ∷ 0x74 ∷ 0x68 ∷ 0x73 ∷ 0x20 ∷ 0x33 ∷ 0x0A
     ∷ 0x31 ∷ 0x20 ∷ 0x72 ∷ 0x65 ∷ 0x66 ∷ 0x75 ∷ 0x73 ∷ 0x65 ∷ 0x64 ∷ 0x20 ∷ 0x33 ∷ 0x32 ∷ 0x0A
     ∷ 0x32 ∷ 0x20 ∷ 0x30 ∷ 0x20 ∷ 0x32 ∷ 0x0A
@@ -33,8 +33,8 @@ refusedLines =
     ∷ 0x66 ∷ 0x61 ∷ 0x6C ∷ 0x6C ∷ 0x69 ∷ 0x6E ∷ 0x67 ∷ 0x20 ∷ 0x32 ∷ 0x0A ∷ []
 
 -- document 02, ticket 6, on the circuit `hazard` with a rising and b falling: `paths 3`, `1 0 1`, `F 3 3`, `rising 0`, `falling 1` in class 2
-unfoldable pub robustLines : List ℕ
-robustLines =
+unfoldable pub robust_lines : List ℕ
+robust_lines =
     0x70 ∷ 0x61 ∷ 0x74 ∷ 0x68 ∷ 0x73 ∷ 0x20 ∷ 0x33 ∷ 0x0A
     ∷ 0x31 ∷ 0x20 ∷ 0x30 ∷ 0x20 ∷ 0x31 ∷ 0x0A
     ∷ 0x46 ∷ 0x20 ∷ 0x33 ∷ 0x20 ∷ 0x33 ∷ 0x0A
@@ -42,16 +42,16 @@ robustLines =
     ∷ 0x66 ∷ 0x61 ∷ 0x6C ∷ 0x6C ∷ 0x69 ∷ 0x6E ∷ 0x67 ∷ 0x20 ∷ 0x31 ∷ 0x0A ∷ []
 
 -- `refused 83`
-unfoldable pub otherClassLine : List ℕ
-otherClassLine = 0x72 ∷ 0x65 ∷ 0x66 ∷ 0x75 ∷ 0x73 ∷ 0x65 ∷ 0x64 ∷ 0x20 ∷ 0x38 ∷ 0x33 ∷ 0x0A ∷ []
+unfoldable pub other_class_line : List ℕ
+other_class_line = 0x72 ∷ 0x65 ∷ 0x66 ∷ 0x75 ∷ 0x73 ∷ 0x65 ∷ 0x64 ∷ 0x20 ∷ 0x38 ∷ 0x33 ∷ 0x0A ∷ []
 
 -- document 02, ticket 8: a test that detects none, a pair without a changed input, and a test that detects faults 4 and 6
-unfoldable pub onePadded : List ℕ
-onePadded = detectsNone ++ equalPair 2 ++ detectsFalling
+unfoldable pub one_padded : List ℕ
+one_padded = detects_none ++ equal_pair 2 ++ detects_falling
 
 -- `2 refused 85`, and the listing goes on
-unfoldable pub paddedLines : List ℕ
-paddedLines =
+unfoldable pub padded_lines : List ℕ
+padded_lines =
     0x70 ∷ 0x61 ∷ 0x74 ∷ 0x68 ∷ 0x73 ∷ 0x20 ∷ 0x33 ∷ 0x0A
     ∷ 0x31 ∷ 0x20 ∷ 0x30 ∷ 0x20 ∷ 0x30 ∷ 0x0A
     ∷ 0x32 ∷ 0x20 ∷ 0x72 ∷ 0x65 ∷ 0x66 ∷ 0x75 ∷ 0x73 ∷ 0x65 ∷ 0x64 ∷ 0x20 ∷ 0x38 ∷ 0x35 ∷ 0x0A

@@ -1,8 +1,8 @@
 // The listing's walk over a test file, for the listing program: a caller proves what a function requires.
 ghost use Rattle.std.specs.Prelude.{◌≡◌, ◌≤◌, length};
-ghost use Rattle.model.specs.Store.{emptyStore};
+ghost use Rattle.model.specs.Store.{empty_store};
 ghost use Rattle.listing_blocks.specs.Answers.{ListReady};
-ghost use Rattle.listing_walk.specs.ListingWalk.{pieceBytes, LinesWaiting, FileListed};
+ghost use Rattle.listing_walk.specs.ListingWalk.{piece_bytes, LinesWaiting, FileListed};
 
 use libc::STDERR_FILENO;
 use listing_piece::inner::{Lines, list_read};
@@ -64,7 +64,7 @@ fn list_pieces(
     work: &mut [u64],
     out: &mut [u8],
 ) -> ListedPieces
-    requires { ListReady netlist.now loaded store.old work.old out.old × (store.old ≡ emptyStore) × (length space.old ≤ pieceBytes) }
+    requires { ListReady netlist.now loaded store.old work.old out.old × (store.old ≡ empty_store) × (length space.old ≤ piece_bytes) }
     ensures { LinesWaiting result.bytes result.place result.waiting netlist.now loaded class space.new store.new
         work.old work.new out.new }
 {
@@ -111,7 +111,7 @@ pub fn list_file(
     work: &mut [u64],
     out: &mut [u8],
 ) -> ListedFile
-    requires { ListReady netlist.now loaded store.old work.old out.old × (store.old ≡ emptyStore) × (length space.old ≤ pieceBytes) }
+    requires { ListReady netlist.now loaded store.old work.old out.old × (store.old ≡ empty_store) × (length space.old ≤ piece_bytes) }
     ensures { FileListed result netlist.now loaded class space.new store.new work.old work.new out.new }
 {
     let listed = list_pieces(files, netlist, loaded, class, space, store, work, out);

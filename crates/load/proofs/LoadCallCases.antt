@@ -4,12 +4,12 @@ use Rattle.model.proofs.Prelude.{drop, sets, sets-eq, leb, leb→le, suc-mul, ar
 use Rattle.model.specs.Read.{within}
 use Rattle.model.specs.declared.Refusal.TheVariants as why
 use Rattle.model.proofs.BoolLaws.{and_left, and_right, true→T}
-use Rattle.record_bytes.proofs.ByteLaws.{sets-append}
-use Rattle.load_vectors.specs.Drawing.{stateAfter}
+use Rattle.record_bytes.proofs.ByteLaws.{sets_append}
+use Rattle.load_vectors.specs.Drawing.{state_after}
 use Rattle.load_vectors.proofs.DrawSteps.{no_steps}
-use Rattle.load.specs.Load.{loadRecords, vectorRecords}
-use Rattle.load.specs.Calls.{loadBufferBytes, loadCall, loadAnswer, loadBuffer}
-use Rattle.load.specs.Answers.{LoadTrue, vectorSize}
+use Rattle.load.specs.Load.{load_records_of, vector_records}
+use Rattle.load.specs.Calls.{load_buffer_bytes, load_call, load_answer, load_buffer}
+use Rattle.load.specs.Answers.{LoadTrue, vector_size_of}
 use Rattle.load.specs.declared.LoadAnswer.TheVariants as load
 use Rattle.load.proofs.SizeLaws.{length-load, size-most, after-add, vectors-next, no-vectors}
 
@@ -29,22 +29,22 @@ range-rest n h = rw (le-leb 1 n h) refl
 pub ruleset range-cases = (range_none, range-rest, needs)
 
 module _ (state inputs : ℕ) (buffer : List ℕ) where
-  pub load-short : length buffer < loadBufferBytes
+  pub load-short : length buffer < load_buffer_bytes
       → LoadTrue (load.Refused why.ReportBufferLength) state inputs buffer buffer
-  unfolding loadCall loadAnswer loadBuffer
+  unfolding load_call load_answer load_buffer
   load-short h = record {
-    answer = rw (lt-leb loadBufferBytes (length buffer) h) refl;
-    buffer = rw (lt-leb loadBufferBytes (length buffer) h) refl;
+    answer = rw (lt-leb load_buffer_bytes (length buffer) h) refl;
+    buffer = rw (lt-leb load_buffer_bytes (length buffer) h) refl;
   }
 
-  module _ (h : loadBufferBytes ≤ length buffer) (fit : Bool) (is : fit ≡ within 1 64 inputs) where
+  module _ (h : load_buffer_bytes ≤ length buffer) (fit : Bool) (is : fit ≡ within 1 64 inputs) where
     pub load-range : not fit ≡ true → LoadTrue (load.Refused why.HeaderRange) state inputs buffer buffer
-    unfolding loadCall loadAnswer loadBuffer
+    unfolding load_call load_answer load_buffer
     load-range n =
         let r : within 1 64 inputs ≡ false = sym is ∙ not-true fit n in
         record {
-          answer = rw (le-leb loadBufferBytes (length buffer) h, r) refl;
-          buffer = rw (le-leb loadBufferBytes (length buffer) h, r) refl;
+          answer = rw (le-leb load_buffer_bytes (length buffer) h, r) refl;
+          buffer = rw (le-leb load_buffer_bytes (length buffer) h, r) refl;
         }
 
     module _ (n : not fit ≡ false) where
@@ -54,24 +54,24 @@ module _ (state inputs : ℕ) (buffer : List ℕ) where
       pub load-few : inputs ≤ 64
       load-few = range-most inputs r
 
-      pub load-room : 0 + vectorSize inputs ≤ length buffer
+      pub load-room : 0 + vector_size_of inputs ≤ length buffer
       load-room = omega (arith, size-most inputs load-few)
 
-      pub load-written : (s k : ℕ) (left : List ℕ) → s ≡ stateAfter inputs state
-          → left ≡ sets buffer 0 (loadRecords inputs state) → k ≡ vectorSize inputs
+      pub load-written : (s k : ℕ) (left : List ℕ) → s ≡ state_after inputs state
+          → left ≡ sets buffer 0 (load_records_of inputs state) → k ≡ vector_size_of inputs
           → LoadTrue (load.Written s k) state inputs buffer left
-      unfolding loadCall loadAnswer loadBuffer
+      unfolding load_call load_answer load_buffer
       load-written s k left p q e =
-          let R : List ℕ = loadRecords inputs state in
-          let size : length R ≡ vectorSize inputs = length-load inputs state in
+          let R : List ℕ = load_records_of inputs state in
+          let size : length R ≡ vector_size_of inputs = length-load inputs state in
           let start : 0 + length R ≡ length R = omega arith in
           let fits : 0 + length R ≤ length buffer = omega (arith, size-most inputs load-few) in
           let put : left ≡ R ++ drop (length R) buffer =
           q ∙ sets-eq R buffer 0 fits ∙ ap (λ (i : ℕ). R ++ drop i buffer) start in
           let m : k ≡ length R = e ∙ sym size in
           record {
-            answer = rw (p, m) (rw (le-leb loadBufferBytes (length buffer) h, r) refl);
-            buffer = put ∙ rw (le-leb loadBufferBytes (length buffer) h, r) refl;
+            answer = rw (p, m) (rw (le-leb load_buffer_bytes (length buffer) h, r) refl);
+            buffer = put ∙ rw (le-leb load_buffer_bytes (length buffer) h, r) refl;
           }
 
 pub ruleset load-cases = (load-short, load-range, load-few, load-room, load-written, needs)
@@ -80,12 +80,12 @@ pub ruleset load-cases = (load-short, load-range, load-few, load-room, load-writ
 pub record Gathering (inputs state vectors size : ℕ) (found records : List ℕ) (last place left : ℕ) : Type 0 where
   pub long : length records ≡ length found
   pub stands : place + left * size ≡ vectors * size
-  pub whole : sets records place (vectorRecords inputs left last) ≡ sets found 0 (vectorRecords inputs vectors state)
-  pub steps : stateAfter (left * inputs) last ≡ stateAfter (vectors * inputs) state
+  pub whole : sets records place (vector_records inputs left last) ≡ sets found 0 (vector_records inputs vectors state)
+  pub steps : state_after (left * inputs) last ≡ state_after (vectors * inputs) state
 
-pub gather-first : (inputs state vectors size : ℕ) (found : List ℕ)
+pub gather_first : (inputs state vectors size : ℕ) (found : List ℕ)
     → Gathering inputs state vectors size found found state 0 vectors
-gather-first inputs state vectors size found = record { long = refl; stands = omega arith; whole = refl; steps = refl }
+gather_first inputs state vectors size found = record { long = refl; stands = omega arith; whole = refl; steps = refl }
 
 less_one : (k n : ℕ) → 0 < k → k * n ≡ n + (k - 1) * n
 less_one zero n h = absurd (omega arith)
@@ -95,54 +95,54 @@ less_one (suc k) n h =
     let p : (suc k - 1) * n ≡ k * n = ap (λ i. i * n) e in
     omega arith
 
-module _ (inputs state vectors size : ℕ) (sized : size ≡ vectorSize inputs) (found records : List ℕ) (last place left : ℕ)
+module _ (inputs state vectors size : ℕ) (sized : size ≡ vector_size_of inputs) (found records : List ℕ) (last place left : ℕ)
     (g : Gathering inputs state vectors size found records last place left) where
-  module _ (more : 0 < left) (fits : vectors * vectorSize inputs ≤ length found) where
+  module _ (more : 0 < left) (fits : vectors * vector_size_of inputs ≤ length found) where
     room : place + size ≤ length found
     room =
         let m : left * size ≡ size + (left - 1) * size = less_one left size more in
-        let v : vectors * size ≡ vectors * vectorSize inputs = ap (λ k. vectors * k) sized in
+        let v : vectors * size ≡ vectors * vector_size_of inputs = ap (λ k. vectors * k) sized in
         omega (arith, g.stands)
 
-    pub gather-room : place + vectorSize inputs ≤ length records
-    gather-room = omega (arith, room, g.long)
+    pub gather_room : place + vector_size_of inputs ≤ length records
+    gather_room = omega (arith, room, g.long)
 
-    pub gather-fits : length found < 2 ^ 64 → place + size < 2 ^ 64
-    gather-fits l = omega (arith, room)
+    pub gather_fits : length found < 2 ^ 64 → place + size < 2 ^ 64
+    gather_fits l = omega (arith, room)
 
-  pub gather-next : 0 < left → (after : ℕ) (b : List ℕ) → after ≡ stateAfter inputs last
-      → b ≡ sets records place (loadRecords inputs last)
+  pub gather_next : 0 < left → (after : ℕ) (b : List ℕ) → after ≡ state_after inputs last
+      → b ≡ sets records place (load_records_of inputs last)
       → length b ≡ length records → Gathering inputs state vectors size found b after (place + size) (left - 1)
-  gather-next more after b p q same =
-      let e : vectorRecords inputs left last ≡ loadRecords inputs last ++ vectorRecords inputs (left - 1) after =
-      vectors-next inputs left last more ∙ ap (λ s. loadRecords inputs last ++ vectorRecords inputs (left - 1) s) (sym p) in
-      let i : place + size ≡ place + length (loadRecords inputs last) = ap (λ k. place + k) (sized ∙ sym (length-load inputs last)) in
+  gather_next more after b p q same =
+      let e : vector_records inputs left last ≡ load_records_of inputs last ++ vector_records inputs (left - 1) after =
+      vectors-next inputs left last more ∙ ap (λ s. load_records_of inputs last ++ vector_records inputs (left - 1) s) (sym p) in
+      let i : place + size ≡ place + length (load_records_of inputs last) = ap (λ k. place + k) (sized ∙ sym (length-load inputs last)) in
       let m : left * size ≡ size + (left - 1) * size = less_one left size more in
       let n : left * inputs ≡ inputs + (left - 1) * inputs = less_one left inputs more in
       record {
         long = same ∙ g.long;
         stands = omega (arith, g.stands);
         whole =
-            ap (λ (z : List ℕ). sets z (place + size) (vectorRecords inputs (left - 1) after)) q
-            ∙ sets-append (loadRecords inputs last) (vectorRecords inputs (left - 1) after) records place (place + size) i
+            ap (λ (z : List ℕ). sets z (place + size) (vector_records inputs (left - 1) after)) q
+            ∙ sets_append (load_records_of inputs last) (vector_records inputs (left - 1) after) records place (place + size) i
             ∙ sym (ap (λ (z : List ℕ). sets records place z) e)
             ∙ g.whole;
         steps =
-            ap (λ s. stateAfter ((left - 1) * inputs) s) p ∙ sym (after-add inputs ((left - 1) * inputs) last) ∙ sym (ap (λ k. stateAfter k last) n) ∙ g.steps;
+            ap (λ s. state_after ((left - 1) * inputs) s) p ∙ sym (after-add inputs ((left - 1) * inputs) last) ∙ sym (ap (λ k. state_after k last) n) ∙ g.steps;
       }
 
   module _ (done : left ≤ 0) where
     none : left ≡ 0
     none = omega arith
 
-    pub gather-state : last ≡ stateAfter (vectors * inputs) state
-    gather-state =
+    pub gather_state : last ≡ state_after (vectors * inputs) state
+    gather_state =
         let z : 0 * inputs ≡ 0 = omega arith in
-        sym (no_steps last) ∙ sym (ap (λ k. stateAfter k last) z) ∙ sym (ap (λ k. stateAfter (k * inputs) last) none) ∙ g.steps
+        sym (no_steps last) ∙ sym (ap (λ k. state_after k last) z) ∙ sym (ap (λ k. state_after (k * inputs) last) none) ∙ g.steps
 
-    pub gather-bytes : records ≡ sets found 0 (vectorRecords inputs vectors state)
-    gather-bytes =
-        let e : vectorRecords inputs left last ≡ [] = ap (λ k. vectorRecords inputs k last) none ∙ no-vectors inputs last in
+    pub gather_bytes : records ≡ sets found 0 (vector_records inputs vectors state)
+    gather_bytes =
+        let e : vector_records inputs left last ≡ [] = ap (λ k. vector_records inputs k last) none ∙ no-vectors inputs last in
         sym (ap (λ (z : List ℕ). sets records place z) e) ∙ g.whole
 
-pub ruleset gather-cases = (gather-first, gather-room, gather-fits, gather-next, gather-state, gather-bytes, needs)
+pub ruleset gather-cases = (gather_first, gather_room, gather_fits, gather_next, gather_state, gather_bytes, needs)

@@ -5,35 +5,35 @@ use Rattle.std.proofs.Math.Option.{Option, none, some}
 use Rattle.model.specs.Base.{Answer, value, ◌into◌, ◌then◌, Rule, checks, after}
 use Rattle.model.specs.Read.{within}
 use Rattle.load_request.specs.Requests.{Request}
-use Rattle.load_vectors.specs.Drawing.{stateAfter}
-use Rattle.load.specs.Load.{loadRecords, vectorRecords}
+use Rattle.load_vectors.specs.Drawing.{state_after}
+use Rattle.load.specs.Load.{load_records_of, vector_records}
 
 -- bytes of a buffer for one vector's records, at the least: 128 records of 18 bytes
-abbrev pub loadBufferBytes : ℕ
-loadBufferBytes = 2304
+abbrev pub load_buffer_bytes : ℕ
+load_buffer_bytes = 2304
 
 -- a buffer under 2,304 bytes is 4, then an input count outside 1 to 64 is 11
-abbrev pub loadRules : ℕ → List ℕ → List Rule
-loadRules inputs buffer = (4, leb loadBufferBytes (length buffer)) ∷ (11, within 1 64 inputs) ∷ []
+abbrev pub load_rules : ℕ → List ℕ → List Rule
+load_rules inputs buffer = (4, leb load_buffer_bytes (length buffer)) ∷ (11, within 1 64 inputs) ∷ []
 
 -- One call writes one vector's records
-unfoldable pub loadCall : ℕ → ℕ → List ℕ → Answer (List ℕ)
-loadCall state inputs buffer = checks (loadRules inputs buffer) then value (loadRecords inputs state)
+unfoldable pub load_call : ℕ → ℕ → List ℕ → Answer (List ℕ)
+load_call state inputs buffer = checks (load_rules inputs buffer) then value (load_records_of inputs state)
 
 -- What a call that is not refused hands back: the state afterwards, and the length of the records
 pub record Handed : Type 0 where
   pub state : ℕ
   pub written : ℕ
 
-unfoldable pub loadAnswer : ℕ → ℕ → List ℕ → Answer Handed
-loadAnswer state inputs buffer =
-    loadCall state inputs buffer into λ r. value (record { state = stateAfter inputs state; written = length r })
+unfoldable pub load_answer : ℕ → ℕ → List ℕ → Answer Handed
+load_answer state inputs buffer =
+    load_call state inputs buffer into λ r. value (record { state = state_after inputs state; written = length r })
 
 -- nothing past the records is written, and nothing when refused
-unfoldable pub loadBuffer : ℕ → ℕ → List ℕ → List ℕ
-loadBuffer state inputs buffer = after (loadCall state inputs buffer) buffer (λ r. r ++ drop (length r) buffer)
+unfoldable pub load_buffer : ℕ → ℕ → List ℕ → List ℕ
+load_buffer state inputs buffer = after (load_call state inputs buffer) buffer (λ r. r ++ drop (length r) buffer)
 
 -- What the program writes: the records of all vectors, the first from the seed; another length or a refusal writes nothing
-unfoldable pub programBytes : Option Request → List ℕ
-programBytes none = []
-programBytes (some r) = elim (within 1 64 r.inputs) [ true ↦ vectorRecords r.inputs r.vectors r.seed | false ↦ [] ]
+unfoldable pub program_bytes : Option Request → List ℕ
+program_bytes none = []
+program_bytes (some r) = elim (within 1 64 r.inputs) [ true ↦ vector_records r.inputs r.vectors r.seed | false ↦ [] ]

@@ -1,8 +1,8 @@
 // The record of a test written: a caller proves what a function requires.
 ghost use Rattle.std.specs.Prelude.{[], ◌∷◌, ◌≡◌, ◌+◌, ◌*◌, ◌≤◌, length};
 ghost use Rattle.std.proofs.lemmas.List.Edits.{sets};
-ghost use Rattle.model.specs.Base.{littleEndian};
-ghost use Rattle.model.specs.Encode.{testBytes};
+ghost use Rattle.model.specs.Base.{little_endian};
+ghost use Rattle.model.specs.Encode.{test_bytes};
 
 use record_bytes::inner::put;
 
@@ -19,7 +19,7 @@ fn put_mark(records: &mut [u8], at: usize)
 pub fn put_test(records: &mut [u8], at: usize, bytes: usize, first: u64, second: u64)
     requires { at + 2 + 2 * bytes ≤ length records.old }
     ensures { records.new ≡ sets records.old at
-        (testBytes (littleEndian bytes first) (littleEndian bytes second)) }
+        (test_bytes (little_endian bytes first) (little_endian bytes second)) }
 {
     put_mark(records, at);
     put(records, at + 2, bytes, first);

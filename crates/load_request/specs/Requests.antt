@@ -9,13 +9,13 @@ pub record Request : Type 0 where
   pub vectors : ℕ
   pub inputs : ℕ
 
-abbrev pub requestBytes : ℕ
-requestBytes = 10
+abbrev pub request_bytes : ℕ
+request_bytes = 10
 
 -- what load.bin asks for: nothing where it has another length
-unfoldable pub requestOf : List ℕ → Option Request
-requestOf bs =
-    elim (eqb (length bs) requestBytes) [
+unfoldable pub request_of : List ℕ → Option Request
+request_of bs =
+    elim (eqb (length bs) request_bytes) [
       | true ↦ some (record { seed = field 0 4 bs; vectors = field 4 4 bs; inputs = field 8 2 bs })
       | false ↦ none
     ]

@@ -1,7 +1,7 @@
 // What load.bin asks for.
 ghost use Rattle.std.specs.Prelude.{◌≡◌, ◌+◌, ◌<◌, length};
 ghost use Rattle.model.specs.Base.{field};
-ghost use Rattle.load_request.specs.Requests.{requestOf};
+ghost use Rattle.load_request.specs.Requests.{request_of};
 ghost use Rattle.load_request.specs.AskedLoads.{asked_of};
 
 use record_bytes::inner::u16_at;
@@ -22,7 +22,7 @@ pub enum Asked {
 
 // What the bytes of load.bin ask for.
 pub fn read_request(bytes: &[u8]) -> Asked
-    ensures { asked_of result ≡ requestOf bytes.now }
+    ensures { asked_of result ≡ request_of bytes.now }
 {
     if bytes.len() != REQUEST_BYTES {
         return Asked::Nothing;

@@ -1,6 +1,6 @@
 // A vector drawn, for our own crates: a caller proves what a function requires.
 ghost use Rattle.std.specs.Prelude.{◌≡◌, ◌*◌, ◌^◌, ◌≤◌, ◌<◌};
-ghost use Rattle.gate_packed_pins.specs.Packed.{oneWhere};
+ghost use Rattle.gate_packed_pins.specs.Packed.{one_where_of};
 ghost use Rattle.load_vectors.specs.Drawing.{top_bit};
 ghost use Rattle.load_vectors.specs.DrawnVector.{DrawnTrue};
 
@@ -16,7 +16,7 @@ pub struct Drawn {
 // A state's top bit as the value of an input.
 fn top_bit_at(state: u32, input: usize) -> u64
     requires { input < 64 }
-    ensures { result ≡ oneWhere (top_bit state) * 2 ^ input }
+    ensures { result ≡ one_where_of (top_bit state) * 2 ^ input }
 {
     (((state >> 31) & 1) as u64) << (input as u64)
 }

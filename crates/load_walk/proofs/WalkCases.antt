@@ -4,37 +4,37 @@ use Rattle.model.proofs.Prelude.{mul-le-mul_right, arith, needs, not-true, not-f
 use mathlib.Core.Option.{Option, none, some}
 use native.Mathlib.Nat.{div-mul-le_self, le-div_iff_mul-le}
 use Rattle.model.specs.Read.{within}
-use Rattle.load_vectors.specs.Drawing.{stateAfter}
-use Rattle.load_request.specs.Requests.{Request, requestOf}
+use Rattle.load_vectors.specs.Drawing.{state_after}
+use Rattle.load_request.specs.Requests.{Request, request_of}
 use Rattle.load_request.specs.AskedLoads.{asked_of}
 use Rattle.load_request.specs.declared.Asked.{Asked}
 use Rattle.load_request.specs.declared.Asked.TheVariants as asked
-use Rattle.load.specs.Load.{vectorRecords}
-use Rattle.load.specs.Answers.{vectorSize}
+use Rattle.load.specs.Load.{vector_records}
+use Rattle.load.specs.Answers.{vector_size_of}
 use Rattle.load.proofs.SizeLaws.{size-most, size-positive}
 use Rattle.load.proofs.LoadCallCases.{range-least, range-most}
-use Rattle.load_walk.specs.LoadWalk.{start_of, lesser, vectorsNext, piece_of, nextWalk, walkAfter, Walked}
+use Rattle.load_walk.specs.LoadWalk.{start_of, lesser, vectors_next, piece_of, next_walk, walk_after, Walked}
 use Rattle.load_walk.specs.declared.inner.Walk.{Walk}
 use Rattle.load_walk.specs.declared.Start.{Start}
 use Rattle.load_walk.specs.declared.Start.TheVariants as start
 use Rattle.load_walk.proofs.WalkHolds.{lesser-left, length-vectors}
 
 -- What load.bin starts
-module _ (bs : List ℕ) (a : Asked) (e : asked_of a ≡ requestOf bs) where
-  pub begin-none : a ≡ asked.Nothing → start.OtherLength ≡ start_of (requestOf bs)
+module _ (bs : List ℕ) (a : Asked) (e : asked_of a ≡ request_of bs) where
+  pub begin_none : a ≡ asked.Nothing → start.OtherLength ≡ start_of (request_of bs)
   unfolding start_of
-  begin-none n = rw (sym e, n, start_of) refl
+  begin_none n = rw (sym e, n, start_of) refl
 
   module _ (s n i : ℕ) (l : a ≡ asked.Load s n i) (fit : Bool) (is : fit ≡ within 1 64 i) where
-    pub begin-refused : not fit ≡ true → start.InputsRefused ≡ start_of (requestOf bs)
+    pub begin_refused : not fit ≡ true → start.InputsRefused ≡ start_of (request_of bs)
     unfolding start_of
-    begin-refused f = let r : within 1 64 i ≡ false = sym is ∙ not-true fit f in rw (sym e, l, start_of) (rw r refl)
+    begin_refused f = let r : within 1 64 i ≡ false = sym is ∙ not-true fit f in rw (sym e, l, start_of) (rw r refl)
 
-    pub begin-load : not fit ≡ false → start.Load (record { state = s; left = n; inputs = i; size = 0 }) ≡ start_of (requestOf bs)
+    pub begin_load : not fit ≡ false → start.Load (record { state = s; left = n; inputs = i; size = 0 }) ≡ start_of (request_of bs)
     unfolding start_of
-    begin-load f = let r : within 1 64 i ≡ true = sym is ∙ not-false fit f in rw (sym e, l, start_of) (rw r refl)
+    begin_load f = let r : within 1 64 i ≡ true = sym is ∙ not-false fit f in rw (sym e, l, start_of) (rw r refl)
 
-pub ruleset begin-cases = (begin-none, begin-refused, begin-load, needs)
+pub ruleset begin-cases = (begin_none, begin_refused, begin_load, needs)
 
 -- The smaller of two numbers
 pub lesser-first : (a b : ℕ) → a < b → a ≡ lesser a b
@@ -67,15 +67,15 @@ fit-bytes room each vectors few =
     omega arith
 
 -- The next piece
-module _ (w : Walk) (each vectors : ℕ) (found : List ℕ) (sized : each ≡ vectorSize w.inputs) (is : vectors ≡ lesser w.left (length found / each)) where
-  next-vectors : vectors ≡ vectorsNext (length found) w
+module _ (w : Walk) (each vectors : ℕ) (found : List ℕ) (sized : each ≡ vector_size_of w.inputs) (is : vectors ≡ lesser w.left (length found / each)) where
+  next-vectors : vectors ≡ vectors_next (length found) w
   next-vectors = is ∙ ap (λ (k : ℕ). lesser w.left (length found / k)) sized
 
   fits : vectors * each ≤ length found
   fits = fit-bytes (length found) each vectors (omega (arith, lesser-right w.left (length found / each)))
 
-  pub next-room : vectors * vectorSize w.inputs ≤ length found
-  next-room = let e : vectors * each ≡ vectors * vectorSize w.inputs = ap (λ k. vectors * k) sized in omega (arith, fits)
+  pub next-room : vectors * vector_size_of w.inputs ≤ length found
+  next-room = let e : vectors * each ≡ vectors * vector_size_of w.inputs = ap (λ k. vectors * k) sized in omega (arith, fits)
 
   pub next-size : length found < 2 ^ 64 → vectors * each < 2 ^ 64
   next-size l = omega (arith, fits)
@@ -83,20 +83,20 @@ module _ (w : Walk) (each vectors : ℕ) (found : List ℕ) (sized : each ≡ ve
   pub next-few : vectors ≤ w.left
   next-few = omega (arith, lesser-left w.left (length found / each))
 
-  pub next-walk : (after : ℕ) → after ≡ stateAfter (vectors * w.inputs) w.state
-      → record { state = after; left = w.left - vectors; inputs = w.inputs; size = vectors * each } ≡ nextWalk (length found) w
-  unfolding nextWalk piece_of
+  pub next-walk : (after : ℕ) → after ≡ state_after (vectors * w.inputs) w.state
+      → record { state = after; left = w.left - vectors; inputs = w.inputs; size = vectors * each } ≡ next_walk (length found) w
+  unfolding next_walk piece_of
   next-walk after e =
-      let made : ℕ → ℕ → Walk = λ v size. record { state = stateAfter (v * w.inputs) w.state; left = w.left - v; inputs = w.inputs; size = size } in
-      let size : vectors * each ≡ length (vectorRecords w.inputs vectors w.state) =
+      let made : ℕ → ℕ → Walk = λ v size. record { state = state_after (v * w.inputs) w.state; left = w.left - v; inputs = w.inputs; size = size } in
+      let size : vectors * each ≡ length (vector_records w.inputs vectors w.state) =
       ap (λ k. vectors * k) sized ∙ sym (length-vectors w.inputs vectors w.state) in
       ap (λ (s : ℕ). record { state = s; left = w.left - vectors; inputs = w.inputs; size = vectors * each }) e
       ∙ ap (λ (k : ℕ). made vectors k) size
-      ∙ ap (λ (v : ℕ). made v (length (vectorRecords w.inputs v w.state))) next-vectors
+      ∙ ap (λ (v : ℕ). made v (length (vector_records w.inputs v w.state))) next-vectors
 
-  pub next-bytes : (bytes : List ℕ) → bytes ≡ sets found 0 (vectorRecords w.inputs vectors w.state) → bytes ≡ sets found 0 (piece_of (length found) w)
+  pub next-bytes : (bytes : List ℕ) → bytes ≡ sets found 0 (vector_records w.inputs vectors w.state) → bytes ≡ sets found 0 (piece_of (length found) w)
   unfolding piece_of
-  next-bytes bytes e = e ∙ ap (λ (v : ℕ). sets found 0 (vectorRecords w.inputs v w.state)) next-vectors
+  next-bytes bytes e = e ∙ ap (λ (v : ℕ). sets found 0 (vector_records w.inputs v w.state)) next-vectors
 
 pub ruleset piece-cases = (next-room, next-size, next-few, next-walk, next-bytes, needs)
 
@@ -125,32 +125,32 @@ module _ (x : Option Request) (r : Start) (is : r ≡ start_of x) (w : Walk) (l 
 
 -- From piece to piece
 pub walked-first : (room : ℕ) (w : Walk) → Walked room w w
-unfolding walkAfter
+unfolding walk_after
 walked-first room w = record { pieces = 0; is = refl }
 
-pub walked_next : {room : ℕ} {w v v' : Walk} → Walked room w v → v' ≡ nextWalk room v → Walked room w v'
-unfolding walkAfter
-walked_next {room} {w} {v} {v'} g e = record { pieces = suc g.pieces; is = e ∙ ap (nextWalk room) g.is }
+pub walked_next : {room : ℕ} {w v v' : Walk} → Walked room w v → v' ≡ next_walk room v → Walked room w v'
+unfolding walk_after
+walked_next {room} {w} {v} {v'} g e = record { pieces = suc g.pieces; is = e ∙ ap (next_walk room) g.is }
 
-pub next-inputs : (room : ℕ) (v : Walk) → (nextWalk room v).inputs ≡ v.inputs
-unfolding nextWalk
+pub next-inputs : (room : ℕ) (v : Walk) → (next_walk room v).inputs ≡ v.inputs
+unfolding next_walk
 next-inputs room v = refl
 
 module _ (room : ℕ) (v : Walk) where
   -- a piece lies in the buffer
-  pub piece-size : (nextWalk room v).size ≤ room
-  unfolding nextWalk piece_of
+  pub piece-size : (next_walk room v).size ≤ room
+  unfolding next_walk piece_of
   piece-size =
-      let k : ℕ = vectorsNext room v in
-      let few : vectorsNext room v ≤ room / vectorSize v.inputs = lesser-right v.left (room / vectorSize v.inputs) in
-      omega (arith, length-vectors v.inputs (vectorsNext room v) v.state, fit-bytes room (vectorSize v.inputs) (vectorsNext room v) few)
+      let k : ℕ = vectors_next room v in
+      let few : vectors_next room v ≤ room / vector_size_of v.inputs = lesser-right v.left (room / vector_size_of v.inputs) in
+      omega (arith, length-vectors v.inputs (vectors_next room v) v.state, fit-bytes room (vector_size_of v.inputs) (vectors_next room v) few)
 
   -- and leaves fewer vectors
-  pub piece-less : 1 ≤ v.inputs → v.inputs ≤ 64 → 2304 ≤ room → 0 < v.left → (nextWalk room v).left < v.left
-  unfolding nextWalk
+  pub piece-less : 1 ≤ v.inputs → v.inputs ≤ 64 → 2304 ≤ room → 0 < v.left → (next_walk room v).left < v.left
+  unfolding next_walk
   piece-less least few long more =
-      let each : ℕ = vectorSize v.inputs in
-      let s : vectorSize v.inputs ≤ 2304 = size-most v.inputs few in
-      let any : 0 < room / vectorSize v.inputs =
-      (le-div_iff_mul-le {k = vectorSize v.inputs} {x = 1} {y = room} (size-positive v.inputs least)).1 (omega arith) in
-      omega (arith, lesser-some v.left (room / vectorSize v.inputs) more any)
+      let each : ℕ = vector_size_of v.inputs in
+      let s : vector_size_of v.inputs ≤ 2304 = size-most v.inputs few in
+      let any : 0 < room / vector_size_of v.inputs =
+      (le-div_iff_mul-le {k = vector_size_of v.inputs} {x = 1} {y = room} (size-positive v.inputs least)).1 (omega arith) in
+      omega (arith, lesser-some v.left (room / vector_size_of v.inputs) more any)

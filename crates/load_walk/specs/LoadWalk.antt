@@ -3,10 +3,10 @@
 use Rattle.std.specs.Prelude.{◌≡◌, true, false, List, [], ◌++◌, ℕ, zero, suc, ◌-◌, ◌*◌, ◌/◌, ltb, length}
 use Rattle.std.proofs.Math.Option.{Option, none, some}
 use Rattle.model.specs.Read.{within}
-use Rattle.load_vectors.specs.Drawing.{stateAfter}
+use Rattle.load_vectors.specs.Drawing.{state_after}
 use Rattle.load_request.specs.Requests.{Request}
-use Rattle.load.specs.Load.{vectorRecords}
-use Rattle.load.specs.Answers.{vectorSize}
+use Rattle.load.specs.Load.{vector_records}
+use Rattle.load.specs.Answers.{vector_size_of}
 use Rattle.load_walk.specs.declared.inner.Walk.{Walk}
 use Rattle.load_walk.specs.declared.Start.{Start}
 use Rattle.load_walk.specs.declared.Start.TheVariants as start
@@ -21,46 +21,46 @@ start_of (some r) =
     ]
 
 -- the records that a walk has still to write
-abbrev pub toWrite : Walk → List ℕ
-toWrite w = vectorRecords w.inputs w.left w.state
+abbrev pub to_write : Walk → List ℕ
+to_write w = vector_records w.inputs w.left w.state
 
 -- the bytes of what load.bin starts
-abbrev pub startedBytes : Start → List ℕ
-startedBytes (start.Load w) = toWrite w
-startedBytes start.OtherLength = []
-startedBytes start.InputsRefused = []
+abbrev pub started_bytes : Start → List ℕ
+started_bytes (start.Load w) = to_write w
+started_bytes start.OtherLength = []
+started_bytes start.InputsRefused = []
 
 abbrev pub lesser : ℕ → ℕ → ℕ
 lesser a b = elim (ltb a b) [ true ↦ a | false ↦ b ]
 
 -- the vectors of the next piece: as many as are left, or as the buffer has room for
-abbrev pub vectorsNext : ℕ → Walk → ℕ
-vectorsNext room w = lesser w.left (room / vectorSize w.inputs)
+abbrev pub vectors_next : ℕ → Walk → ℕ
+vectors_next room w = lesser w.left (room / vector_size_of w.inputs)
 
 -- The next piece: the records of so many vectors, the first drawn from the walk's state
 unfoldable pub piece_of : ℕ → Walk → List ℕ
-piece_of room w = vectorRecords w.inputs (vectorsNext room w) w.state
+piece_of room w = vector_records w.inputs (vectors_next room w) w.state
 
 -- The walk after it: the state goes on
-unfoldable pub nextWalk : ℕ → Walk → Walk
-nextWalk room w =
+unfoldable pub next_walk : ℕ → Walk → Walk
+next_walk room w =
     record {
-      state = stateAfter (vectorsNext room w * w.inputs) w.state;
-      left = w.left - vectorsNext room w;
+      state = state_after (vectors_next room w * w.inputs) w.state;
+      left = w.left - vectors_next room w;
       inputs = w.inputs;
       size = length (piece_of room w);
     }
 
 -- the walk after n pieces, and their bytes end to end
-unfoldable pub walkAfter : ℕ → ℕ → Walk → Walk
-walkAfter room zero w = w
-walkAfter room (suc n) w = nextWalk room (walkAfter room n w)
+unfoldable pub walk_after : ℕ → ℕ → Walk → Walk
+walk_after room zero w = w
+walk_after room (suc n) w = next_walk room (walk_after room n w)
 
 unfoldable pub pieces_of : ℕ → ℕ → Walk → List ℕ
 pieces_of room zero w = []
-pieces_of room (suc n) w = pieces_of room n w ++ piece_of room (walkAfter room n w)
+pieces_of room (suc n) w = pieces_of room n w ++ piece_of room (walk_after room n w)
 
 -- a walk after some pieces, each from where the one before it ended
 pub record Walked (room : ℕ) (w w' : Walk) : Type 0 where
   pub pieces : ℕ
-  pub is : w' ≡ walkAfter room pieces w
+  pub is : w' ≡ walk_after room pieces w

@@ -1,7 +1,7 @@
 // A load in pieces. Each caller proves what a function requires.
 ghost use Rattle.std.specs.Prelude.{◌≡◌, ◌≤◌, length};
 ghost use Rattle.std.proofs.lemmas.List.Edits.{sets};
-ghost use Rattle.load_walk.specs.LoadWalk.{lesser, piece_of, nextWalk};
+ghost use Rattle.load_walk.specs.LoadWalk.{lesser, piece_of, next_walk};
 
 use load::inner::{put_vectors, vector_size};
 
@@ -24,7 +24,7 @@ fn least(a: usize, b: usize) -> usize
 // Writes the next piece at the start of a buffer: the records of as many vectors as are left, or as fit. The walk after it.
 pub fn next_piece(walk: Walk, records: &mut [u8]) -> Walk
     requires { (1 ≤ walk.inputs) × (walk.inputs ≤ 64) × (2304 ≤ length records.old) }
-    ensures value { result ≡ nextWalk (length records.old) walk }
+    ensures value { result ≡ next_walk (length records.old) walk }
     ensures records_after { records.new ≡ sets records.old 0 (piece_of (length records.old) walk) }
 {
     let Walk {

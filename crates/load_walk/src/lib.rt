@@ -2,7 +2,7 @@
 pub mod inner;
 
 ghost use Rattle.std.specs.Prelude.{◌≡◌};
-ghost use Rattle.load_request.specs.Requests.{requestOf};
+ghost use Rattle.load_request.specs.Requests.{request_of};
 ghost use Rattle.load_walk.specs.LoadWalk.{start_of};
 
 use crate::inner::Walk;
@@ -19,7 +19,7 @@ pub enum Start {
 
 // What the bytes of load.bin start.
 pub fn begin(bytes: &[u8]) -> Start
-    ensures { result ≡ start_of (requestOf bytes.now) }
+    ensures { result ≡ start_of (request_of bytes.now) }
 {
     let asked = read_request(bytes);
     match asked {

@@ -44,8 +44,8 @@ pub false→not : (b : Bool) → b ≡ false → T (not b)
 false→not true e = absurd (mathlib.Core.Bool.true≢false e)
 false→not false e = tt
 
-pub le-or-lt : (m n : ℕ) → (m ≤ n) ⊎ (n < m)
-le-or-lt m n = go (leb m n) refl
+pub le_or_lt : (m n : ℕ) → (m ≤ n) ⊎ (n < m)
+le_or_lt m n = go (leb m n) refl
   where
     go : (b : Bool) → leb m n ≡ b → (m ≤ n) ⊎ (n < m)
     go true e = inl (leb→le m n (true→T _ e))
@@ -53,7 +53,7 @@ le-or-lt m n = go (leb m n) refl
 
 -- by cases on the order of two numbers
 pub cases : (m n : ℕ) {C : Type 0} → (m ≤ n → C) → (n < m → C) → C
-cases m n f g = ⊎_elim f g (le-or-lt m n)
+cases m n f g = ⊎_elim f g (le_or_lt m n)
 
 pub and3 : (a b c : Bool) → T (a && b && c) → T a × T b × T c
 and3 true true c t = (tt, tt, t)

@@ -1,37 +1,37 @@
 -- Lists: tests of all and of some of their elements, elements by place, parts, and consecutive numbers.
 use Rattle.model.proofs.Prelude.{ℕ, ◌≤◌, ◌<◌, ◌+◌, suc, zero, ◌≡◌, ◌∙◌, ap, refl, sym, subst, ⊎_elim, true, Bool, ◌||◌, List, [], ◌∷◌, ◌++◌}
-use Rattle.model.proofs.Prelude.{map, length, get_or, drop, take, replicate, T, not-suc-le-zero, le_of_suc-le-suc, zero-add, suc-add, arith}
+use Rattle.model.proofs.Prelude.{map, length, get_or, drop, take, replicate, T, not-suc-le-zero, le_of_suc-le-suc, zero_add, suc-add, arith}
 use lib.Seq.{take-nil}
-use Rattle.model.specs.Base.{all_of, any_of, numbersFrom}
+use Rattle.model.specs.Base.{all_of, any_of, numbers_from}
 use Rattle.model.proofs.BoolLaws.{and_left, and_right, both, or_cases, or_left, or_right}
 
 module _ {A : Type 0} (P : A → Bool) (x : A) (xs : List A) where
-  pub allOf-head : T (all_of P (x ∷ xs)) → T (P x)
-  allOf-head t = and_left (P x) (all_of P xs) t
+  pub all_of_head : T (all_of P (x ∷ xs)) → T (P x)
+  all_of_head t = and_left (P x) (all_of P xs) t
 
-  pub allOf-tail : T (all_of P (x ∷ xs)) → T (all_of P xs)
-  allOf-tail t = and_right (P x) (all_of P xs) t
+  pub all_of_tail : T (all_of P (x ∷ xs)) → T (all_of P xs)
+  all_of_tail t = and_right (P x) (all_of P xs) t
 
-pub getD-map-in : {A B : Type 0} (f : A → B) (xs : List A) (p : ℕ) (d : A) (e : B) → p < length xs → get_or (map f xs) p e ≡ f (get_or xs p d)
-getD-map-in f [] p d e h = absurd (not-suc-le-zero h)
-getD-map-in f (x ∷ xs) zero d e h = refl
-getD-map-in f (x ∷ xs) (suc p) d e h = getD-map-in f xs p d e (le_of_suc-le-suc h)
+pub get_d_map-in : {A B : Type 0} (f : A → B) (xs : List A) (p : ℕ) (d : A) (e : B) → p < length xs → get_or (map f xs) p e ≡ f (get_or xs p d)
+get_d_map-in f [] p d e h = absurd (not-suc-le-zero h)
+get_d_map-in f (x ∷ xs) zero d e h = refl
+get_d_map-in f (x ∷ xs) (suc p) d e h = get_d_map-in f xs p d e (le_of_suc-le-suc h)
 
-pub allOf-at : {A : Type 0} (P : A → Bool) (xs : List A) (d : A) → T (all_of P xs) → (p : ℕ) → p < length xs → T (P (get_or xs p d))
-allOf-at P [] d t p h = absurd (not-suc-le-zero h)
-allOf-at P (x ∷ xs) d t zero h = allOf-head P x xs t
-allOf-at P (x ∷ xs) d t (suc p) h = allOf-at P xs d (allOf-tail P x xs t) p (le_of_suc-le-suc h)
+pub all_of_at : {A : Type 0} (P : A → Bool) (xs : List A) (d : A) → T (all_of P xs) → (p : ℕ) → p < length xs → T (P (get_or xs p d))
+all_of_at P [] d t p h = absurd (not-suc-le-zero h)
+all_of_at P (x ∷ xs) d t zero h = all_of_head P x xs t
+all_of_at P (x ∷ xs) d t (suc p) h = all_of_at P xs d (all_of_tail P x xs t) p (le_of_suc-le-suc h)
 
-pub allOf-append : {A : Type 0} (P : A → Bool) (xs : List A) (y : A) → T (all_of P xs) → T (P y) → T (all_of P (xs ++ (y ∷ [])))
-allOf-append P [] y t u = both (P y) true u tt
-allOf-append P (x ∷ xs) y t u = both (P x) (all_of P (xs ++ (y ∷ []))) (allOf-head P x xs t) (allOf-append P xs y (allOf-tail P x xs t) u)
+pub all_of_append : {A : Type 0} (P : A → Bool) (xs : List A) (y : A) → T (all_of P xs) → T (P y) → T (all_of P (xs ++ (y ∷ [])))
+all_of_append P [] y t u = both (P y) true u tt
+all_of_append P (x ∷ xs) y t u = both (P x) (all_of P (xs ++ (y ∷ []))) (all_of_head P x xs t) (all_of_append P xs y (all_of_tail P x xs t) u)
 
-pub any-map : {A B : Type 0} (f : B → Bool) (g : A → B) (xs : List A) → any_of (λ x. f (g x)) xs ≡ any_of f (map g xs)
-any-map f g [] = refl
-any-map f g (x ∷ xs) = ap (λ b. f (g x) || b) (any-map f g xs)
+pub any_map : {A B : Type 0} (f : B → Bool) (g : A → B) (xs : List A) → any_of (λ x. f (g x)) xs ≡ any_of f (map g xs)
+any_map f g [] = refl
+any_map f g (x ∷ xs) = ap (λ b. f (g x) || b) (any_map f g xs)
 
 pub drop-take : (n m : ℕ) (l : List ℕ) → drop n (take (n + m) l) ≡ take m (drop n l)
-drop-take zero m l = ap (λ (k : ℕ). take k l) (zero-add m)
+drop-take zero m l = ap (λ (k : ℕ). take k l) (zero_add m)
 drop-take (suc n) m [] = ap (drop (suc n)) (take-nil {A = ℕ} (suc n + m)) ∙ sym (take-nil {A = ℕ} m)
 drop-take (suc n) m (x ∷ xs) = ap (λ (k : ℕ). drop (suc n) (take k (x ∷ xs))) (suc-add n m) ∙ drop-take n m xs
 
@@ -47,14 +47,14 @@ zeros-at zero i = refl
 zeros-at (suc n) zero = refl
 zeros-at (suc n) (suc i) = zeros-at n i
 
-pub length-numbersFrom : (k n : ℕ) → length (numbersFrom k n) ≡ n
-length-numbersFrom k zero = refl
-length-numbersFrom k (suc n) = ap suc (length-numbersFrom (suc k) n)
+pub length-numbers_from : (k n : ℕ) → length (numbers_from k n) ≡ n
+length-numbers_from k zero = refl
+length-numbers_from k (suc n) = ap suc (length-numbers_from (suc k) n)
 
-pub numbersFrom-at : (n k i : ℕ) → i < n → get_or (numbersFrom k n) i 0 ≡ k + i
-numbersFrom-at zero k i h = absurd (not-suc-le-zero h)
-numbersFrom-at (suc n) k zero h = omega arith
-numbersFrom-at (suc n) k (suc i) h = omega (arith, numbersFrom-at n (suc k) i (le_of_suc-le-suc h))
+pub numbers_from-at : (n k i : ℕ) → i < n → get_or (numbers_from k n) i 0 ≡ k + i
+numbers_from-at zero k i h = absurd (not-suc-le-zero h)
+numbers_from-at (suc n) k zero h = omega arith
+numbers_from-at (suc n) k (suc i) h = omega (arith, numbers_from-at n (suc k) i (le_of_suc-le-suc h))
 
 -- some number of a stretch passes the test
 pub record Some (f : ℕ → Bool) (k n : ℕ) : Type 0 where
@@ -63,19 +63,19 @@ pub record Some (f : ℕ → Bool) (k n : ℕ) : Type 0 where
   pub high : place < k + n
   pub passes : T (f place)
 
-pub some_of : (f : ℕ → Bool) (n k : ℕ) → T (any_of f (numbersFrom k n)) → Some f k n
+pub some_of : (f : ℕ → Bool) (n k : ℕ) → T (any_of f (numbers_from k n)) → Some f k n
 some_of f zero k t = absurd t
 some_of f (suc n) k t =
     ⊎_elim (λ u. record { place = k; low = omega arith; high = omega arith; passes = u })
     (λ u. let s = some_of f n (suc k) u in record { place = s.place; low = omega (arith, s.low); high = omega (arith, s.high); passes = s.passes })
-    (or_cases (f k) (any_of f (numbersFrom (suc k) n)) t)
+    (or_cases (f k) (any_of f (numbers_from (suc k) n)) t)
 
-pub any-of : (f : ℕ → Bool) (n k i : ℕ) → k ≤ i → i < k + n → T (f i) → T (any_of f (numbersFrom k n))
-any-of f zero k i a b t = absurd (none k i a b)
+pub any_of_lem : (f : ℕ → Bool) (n k i : ℕ) → k ≤ i → i < k + n → T (f i) → T (any_of f (numbers_from k n))
+any_of_lem f zero k i a b t = absurd (none k i a b)
   where
     none : (k i : ℕ) → k ≤ i → i < k + 0 → ⊥
     none k i a b = omega arith
-any-of f (suc n) k i a b t =
-    ⊎_elim (λ e. or_left (f k) (any_of f (numbersFrom (suc k) n)) (subst (λ j. T (f j)) (sym e) t))
-    (λ l. or_right (f k) (any_of f (numbersFrom (suc k) n)) (any-of f n (suc k) i l (omega arith) t))
+any_of_lem f (suc n) k i a b t =
+    ⊎_elim (λ e. or_left (f k) (any_of f (numbers_from (suc k) n)) (subst (λ j. T (f j)) (sym e) t))
+    (λ l. or_right (f k) (any_of f (numbers_from (suc k) n)) (any_of_lem f n (suc k) i l (omega arith) t))
     (native.Mathlib.Nat.eq-or-lt_of_le a)

@@ -9,11 +9,11 @@ lower net [] = true
 lower net (g ∷ gs) = all_of (λ n. ltb n net) g.pins && lower (suc net) gs
 
 -- an ascending list of nets from `least` to below `n`
-unfoldable pub ascendingNets : ℕ → ℕ → List ℕ → Bool
-ascendingNets n least [] = true
-ascendingNets n least (o ∷ os) = leb least o && ltb o n && ascendingNets n (suc o) os
+unfoldable pub ascending_nets : ℕ → ℕ → List ℕ → Bool
+ascending_nets n least [] = true
+ascending_nets n least (o ∷ os) = leb least o && ltb o n && ascending_nets n (suc o) os
 
 pub record WellFormed (N : Netlist) : Type 0 where
-  pub someInput : T (ltb 0 N.inputs)
-  pub lowerPins : T (lower N.inputs N.gates)
-  pub outputsOk : T (ascendingNets (nets N) 0 N.outputs)
+  pub some_input : T (ltb 0 N.inputs)
+  pub lower_pins : T (lower N.inputs N.gates)
+  pub outputs_ok : T (ascending_nets (nets N) 0 N.outputs)

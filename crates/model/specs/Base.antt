@@ -1,5 +1,5 @@
 -- What a call answers, its rules in their order, fields of bytes, and small functions on lists.
--- In all of these files `T b` says that the test `b` is true; document 01's T, the number of paths, is `pathTotal`.
+-- In all of these files `T b` says that the test `b` is true; document 01's T, the number of paths, is `path_total`.
 use Rattle.std.specs.Prelude.{Bool, true, false, ◌&&◌, ◌||◌, List, [], ◌∷◌, ℕ, zero, suc, ◌+◌, ◌*◌, ◌/◌, ◌%◌, ◌^◌, eqb, take, drop}
 
 -- What a call answers: the number of a refusal, or its value
@@ -55,23 +55,23 @@ any_of f [] = false
 any_of f (x ∷ xs) = f x || any_of f xs
 
 -- the numbers from `k` on, `n` of them
-abbrev pub numbersFrom : ℕ → ℕ → List ℕ
-numbersFrom k zero = []
-numbersFrom k (suc n) = k ∷ numbersFrom (suc k) n
+abbrev pub numbers_from : ℕ → ℕ → List ℕ
+numbers_from k zero = []
+numbers_from k (suc n) = k ∷ numbers_from (suc k) n
 
 -- a number from its bytes, low byte first
-abbrev pub fromLittleEndian : List ℕ → ℕ
-fromLittleEndian [] = 0
-fromLittleEndian (b ∷ bs) = b + 256 * fromLittleEndian bs
+abbrev pub from_little_endian : List ℕ → ℕ
+from_little_endian [] = 0
+from_little_endian (b ∷ bs) = b + 256 * from_little_endian bs
 
 -- the field of `n` bytes at place `at`
 abbrev pub field : ℕ → ℕ → List ℕ → ℕ
-field at n bs = fromLittleEndian (take n (drop at bs))
+field at n bs = from_little_endian (take n (drop at bs))
 
 -- a number as `n` bytes, low byte first
-abbrev pub littleEndian : ℕ → ℕ → List ℕ
-littleEndian zero k = []
-littleEndian (suc n) k = k % 256 ∷ littleEndian n (k / 256)
+abbrev pub little_endian : ℕ → ℕ → List ℕ
+little_endian zero k = []
+little_endian (suc n) k = k % 256 ∷ little_endian n (k / 256)
 
 -- bit `i` of a number, counted from the least significant
 abbrev pub bit : ℕ → ℕ → Bool

@@ -4,101 +4,101 @@
 use Rattle.std.specs.Prelude.{Bool, ◌&&◌, ◌||◌, List, [], ◌∷◌, ◌++◌, ℕ, zero, suc, ◌+◌, ◌-◌, ◌*◌, leb, eqb, length, get_or, take, drop, replicate}
 use Rattle.model.specs.Base.{Rule, all_of}
 use Rattle.model.specs.Path.{Edge, rising, falling}
-use Rattle.model.specs.Runs.{Run, separatedRuns}
+use Rattle.model.specs.Runs.{Run, separated_runs_of}
 
 -- one thing for each edge
 pub record ByEdge (A : Type 0) : Type 0 where
-  pub onRising : A
-  pub onFalling : A
+  pub on_rising : A
+  pub on_falling : A
 
-abbrev pub byEdge : {A : Type 0} → (Edge → A) → ByEdge A
-byEdge f = record { onRising = f rising; onFalling = f falling }
+abbrev pub by_edge : {A : Type 0} → (Edge → A) → ByEdge A
+by_edge f = record { on_rising = f rising; on_falling = f falling }
 
-abbrev pub ofEdge : {A : Type 0} → ByEdge A → Edge → A
-ofEdge p rising = p.onRising
-ofEdge p falling = p.onFalling
+abbrev pub of_edge : {A : Type 0} → ByEdge A → Edge → A
+of_edge p rising = p.on_rising
+of_edge p falling = p.on_falling
 
 -- a test at both edges
-abbrev pub bothEdges : (Edge → Bool) → Bool
-bothEdges f = f rising && f falling
+abbrev pub both_edges : (Edge → Bool) → Bool
+both_edges f = f rising && f falling
 
 -- the most runs of an edge, the words of its places, and the words before the places
-abbrev pub maxRuns : ℕ
-maxRuns = 1024
+abbrev pub max_runs : ℕ
+max_runs = 1024
 
-abbrev pub placeWords : ℕ
-placeWords = 2 * maxRuns
+abbrev pub place_words : ℕ
+place_words = 2 * max_runs
 
-abbrev pub headWords : ℕ
-headWords = 3
+abbrev pub head_words : ℕ
+head_words = 3
 
-abbrev pub storeWords : ℕ
-storeWords = headWords + 2 * placeWords
+abbrev pub store_words_count : ℕ
+store_words_count = head_words + 2 * place_words
 
 -- the word with the number of an edge's runs, and the word where its places begin
-abbrev pub countWord : Edge → ℕ
-countWord rising = 0
-countWord falling = 1
+abbrev pub count_word_of : Edge → ℕ
+count_word_of rising = 0
+count_word_of falling = 1
 
 abbrev pub first_word : Edge → ℕ
-first_word rising = headWords
-first_word falling = headWords + placeWords
+first_word rising = head_words
+first_word falling = head_words + place_words
 
 -- the word with the number of tests taken, and the most that it may be
-abbrev pub testsWord : ℕ
-testsWord = 2
+abbrev pub tests_word : ℕ
+tests_word = 2
 
-abbrev pub maxTests : ℕ
-maxTests = 4294967295
+abbrev pub max_tests : ℕ
+max_tests = 4294967295
 
 -- Empty is all zeros
-abbrev pub emptyStore : List ℕ
-emptyStore = replicate storeWords 0
+abbrev pub empty_store : List ℕ
+empty_store = replicate store_words_count 0
 
 -- `n` runs from word `at` on
-abbrev pub runsAt : List ℕ → ℕ → ℕ → List Run
-runsAt ws at zero = []
-runsAt ws at (suc n) = record { low = get_or ws at 0; high = get_or ws (suc at) 0 } ∷ runsAt ws (suc (suc at)) n
+abbrev pub runs_at : List ℕ → ℕ → ℕ → List Run
+runs_at ws at zero = []
+runs_at ws at (suc n) = record { low = get_or ws at 0; high = get_or ws (suc at) 0 } ∷ runs_at ws (suc (suc at)) n
 
-abbrev pub runCount : List ℕ → Edge → ℕ
-runCount ws e = get_or ws (countWord e) 0
+abbrev pub run_count : List ℕ → Edge → ℕ
+run_count ws e = get_or ws (count_word_of e) 0
 
-abbrev pub testsTaken : List ℕ → ℕ
-testsTaken ws = get_or ws testsWord 0
+abbrev pub tests_taken_of : List ℕ → ℕ
+tests_taken_of ws = get_or ws tests_word 0
 
 -- The runs of an edge in a store's words. A store holds a fault when its path's number lies in one of the runs of its edge
-unfoldable pub storeRuns : List ℕ → Edge → List Run
-storeRuns ws e = runsAt ws (first_word e) (runCount ws e)
+unfoldable pub store_runs : List ℕ → Edge → List Run
+store_runs ws e = runs_at ws (first_word e) (run_count ws e)
 
-abbrev pub runsByEdge : List ℕ → ByEdge (List Run)
-runsByEdge ws = byEdge (storeRuns ws)
+abbrev pub runs_by_edge : List ℕ → ByEdge (List Run)
+runs_by_edge ws = by_edge (store_runs ws)
 
-abbrev pub lowsHighs : List Run → List ℕ
-lowsHighs [] = []
-lowsHighs (r ∷ rs) = r.low ∷ r.high ∷ lowsHighs rs
+abbrev pub lows_highs : List Run → List ℕ
+lows_highs [] = []
+lows_highs (r ∷ rs) = r.low ∷ r.high ∷ lows_highs rs
 
 -- an edge's places
 abbrev pub places : List Run → List ℕ
-places rs = lowsHighs rs ++ replicate (placeWords - 2 * length rs) 0
+places rs = lows_highs rs ++ replicate (place_words - 2 * length rs) 0
 
 -- The words of a store with this number of tests taken and these runs
 unfoldable pub store_of : ℕ → ByEdge (List Run) → List ℕ
-store_of tests s = length s.onRising ∷ length s.onFalling ∷ tests ∷ places s.onRising ++ places s.onFalling
+store_of tests s = length s.on_rising ∷ length s.on_falling ∷ tests ∷ places s.on_rising ++ places s.on_falling
 
 -- the words past an edge's last run
-abbrev pub wordsAfter : List ℕ → Edge → List ℕ
-wordsAfter ws e = take (placeWords - 2 * runCount ws e) (drop (first_word e + 2 * runCount ws e) ws)
+abbrev pub words_after : List ℕ → Edge → List ℕ
+words_after ws e = take (place_words - 2 * run_count ws e) (drop (first_word e + 2 * run_count ws e) ws)
 
 -- no tests taken, no runs
-abbrev pub runsOfTests : List ℕ → Bool
-runsOfTests ws = leb 1 (testsTaken ws) || bothEdges (λ e. eqb (runCount ws e) 0)
+abbrev pub runs_of_tests_of : List ℕ → Bool
+runs_of_tests_of ws = leb 1 (tests_taken_of ws) || both_edges (λ e. eqb (run_count ws e) 0)
 
 -- Store: the rules of a store's words, for path numbers 1 to `paths`
-abbrev pub storeRules : ℕ → List ℕ → List Rule
-storeRules paths ws =
-    (40, bothEdges (λ e. leb (runCount ws e) maxRuns))
-    ∷ (40, leb (testsTaken ws) maxTests)
-    ∷ (41, bothEdges (λ e. separatedRuns paths 1 (storeRuns ws e)))
-    ∷ (41, runsOfTests ws)
-    ∷ (42, bothEdges (λ e. all_of (λ w. eqb w 0) (wordsAfter ws e)))
+abbrev pub store_rules : ℕ → List ℕ → List Rule
+store_rules paths ws =
+    (40, both_edges (λ e. leb (run_count ws e) max_runs))
+    ∷ (40, leb (tests_taken_of ws) max_tests)
+    ∷ (41, both_edges (λ e. separated_runs_of paths 1 (store_runs ws e)))
+    ∷ (41, runs_of_tests_of ws)
+    ∷ (42, both_edges (λ e. all_of (λ w. eqb w 0) (words_after ws e)))
     ∷ []

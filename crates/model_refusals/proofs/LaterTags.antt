@@ -3,7 +3,7 @@ use Rattle.model.proofs.Prelude.{ℕ, suc, zero, ◌≡◌, refl, sym, subst, in
 use types.Run.{OneOf}
 use denote.Enum.Declared.{tag_of}
 use Rattle.model.specs.Base.{all_of}
-use Rattle.model.specs.Refusals.{refusalNumber}
+use Rattle.model.specs.Refusals.{refusal_number_of}
 use Rattle.model.specs.contracts.Refusal as enum
 use Rattle.model.specs.declared.Refusal.{Refusal}
 use Rattle.model.specs.declared.Refusal.TheVariants as why
@@ -16,11 +16,11 @@ one_of_all f k (k' ∷ ks) x t (inl e) = subst (λ (y : ℕ). T (f y)) (sym e) (
 one_of_all f k (k' ∷ ks) x t (inr e) = one_of_all f k' ks x (and_right (f k) (all_of f (k' ∷ ks)) t) e
 
 -- the `n` tags from `k` on
-abbrev pub tagsFrom : ℕ → ℕ → List ℕ
-tagsFrom k zero = []
-tagsFrom k (suc n) = k ∷ tagsFrom (suc k) n
+abbrev pub tags_from : ℕ → ℕ → List ℕ
+tags_from k zero = []
+tags_from k (suc n) = k ∷ tags_from (suc k) n
 
-pub later-tags : (w : Refusal) → leb 30 (tag_of enum.the_type w) ≡ leb 80 (refusalNumber w)
+pub later-tags : (w : Refusal) → leb 30 (tag_of enum.the_type w) ≡ leb 80 (refusal_number_of w)
 later-tags why.StoreLength = refl
 later-tags why.WorkLength = refl
 later-tags why.PathBufferLength = refl

@@ -1,12 +1,12 @@
 // The papers' number of each refusal: one table, in two functions.
 ghost use Rattle.std.specs.Prelude.{◌≡◌, T, leb};
-ghost use Rattle.model.specs.Refusals.{refusalNumber};
+ghost use Rattle.model.specs.Refusals.{refusal_number_of};
 
 use model::Refusal;
 
 // The papers' number of a refusal.
 pub fn refusal_number(why: Refusal) -> u32
-    ensures { result ≡ refusalNumber why }
+    ensures { result ≡ refusal_number_of why }
 {
     match why {
         Refusal::StoreLength => 1,
@@ -45,7 +45,7 @@ pub fn refusal_number(why: Refusal) -> u32
 
 // The number of a refusal from 80 on; 0 for any other.
 fn later_number(why: Refusal) -> u32
-    ensures { T (leb 80 (refusalNumber why)) → result ≡ refusalNumber why }
+    ensures { T (leb 80 (refusal_number_of why)) → result ≡ refusal_number_of why }
 {
     match why {
         Refusal::BenchLine => 80,

@@ -2,20 +2,20 @@
 use Rattle.model.proofs.Prelude.{ℕ, ◌≤◌, ◌<◌, ◌+◌, ◌-◌, ◌≡◌, ◌∙◌, ap, refl, sym, List, [], ◌∷◌, ◌++◌, map, length, drop, replicate, length-drop}
 use Rattle.model.proofs.Prelude.{length-replicate, leb, eqb, leb→le, arith, needs, ne_eqb, eq-eqb}
 use Rattle.model.specs.Base.{Answer, refused, value, ◌into◌, ◌then◌, checks, sum_of}
-use Rattle.model.specs.Netlist.{Netlist, netByNet, gateCount, counts, outputCount, pathTotal}
-use Rattle.model.specs.Read.{readNetlist, readGates, readOutputs, headerRules, marked, within, inputsIn, gatesIn, outputsIn}
-use Rattle.model.specs.Refusals.{refusalNumber}
-use Rattle.model.specs.Calls.{padded, surveyCall, surveyOf}
+use Rattle.model.specs.Netlist.{Netlist, net_by_net, gate_count, counts, output_count, path_total}
+use Rattle.model.specs.Read.{read_netlist, read_gates, read_outputs_of, header_rules, marked, within, inputs_in, gates_in, outputs_in}
+use Rattle.model.specs.Refusals.{refusal_number_of}
+use Rattle.model.specs.Calls.{padded, survey_call, survey_of}
 use Rattle.model.specs.declared.Refusal.{Refusal}
-use Rattle.model.proofs.AnswerLaws.{then-first, then-second, checks→, value_inj, not-refused}
+use Rattle.model.proofs.AnswerLaws.{then-first, then-second, checks→, value_inj, not_refused}
 use Rattle.model.proofs.BoolLaws.{and_left, and4}
-use Rattle.model.proofs.NetLaws.{length-netByNet}
+use Rattle.model.proofs.NetLaws.{length-net_by_net}
 use Rattle.model.proofs.ReadLaws.{gates-length, outputs-ok, outputs-fit}
 use Rattle.netlist.specs.Answers.{SurveyTrue, LegalLoad, LoadTrue, LoadedTrue}
 use Rattle.netlist_gates.specs.GateReading.{starts, zeros, GatesAre, GatesEnd}
 use Rattle.netlist_outputs.specs.OutputReading.{OutputsAre, OutputsEnd}
 use Rattle.netlist.specs.Places.{positions}
-use Rattle.netlist.specs.Reading.{headerStep, HeaderRead, headerIn, headerOf, refusedBy}
+use Rattle.netlist.specs.Reading.{header_step, HeaderRead, header_in, header_of, refused_by}
 use Rattle.netlist_gates.specs.declared.inner.GatesAnswer.{GatesAnswer}
 use Rattle.netlist_gates.specs.declared.inner.GatesAnswer.TheVariants as gates
 use Rattle.netlist_outputs.specs.declared.inner.OutputsAnswer.{OutputsAnswer}
@@ -29,35 +29,35 @@ use Rattle.netlist.specs.declared.header.HeaderAnswer.{HeaderAnswer}
 use Rattle.netlist.specs.declared.header.HeaderAnswer.TheVariants as header
 use Rattle.netlist.specs.declared.header.Header.{Header}
 use Rattle.netlist.proofs.OutputLaws.{below}
-use Rattle.netlist.proofs.PaddedOutputs.{pad-counts, outputs-pad}
+use Rattle.netlist.proofs.PaddedOutputs.{pad_counts, outputs-pad}
 use Rattle.netlist.proofs.TableLaws.{inputs-below}
 
 -- what follows a header
 unfoldable pub body : List ℕ → ℕ → ℕ → ℕ → Answer Netlist
 body s i g u =
-    readGates g (replicate i 1) (drop 8 s)
-    into λ x. readOutputs u i (i + g) (netByNet gateCount 0 (replicate i 1) x.0) 0 0 x.1
+    read_gates g (replicate i 1) (drop 8 s)
+    into λ x. read_outputs_of u i (i + g) (net_by_net gate_count 0 (replicate i 1) x.0) 0 0 x.1
     into λ o. checks ((20, eqb (length o.1) 0) ∷ [])
     then value (record { inputs = i; gates = x.0; outputs = o.0 })
 
-from-array : (u i n : ℕ) (array cs bs : List ℕ) → array ≡ padded cs → length cs ≡ n → readOutputs u i n array 0 0 bs ≡ readOutputs u i n cs 0 0 bs
+from-array : (u i n : ℕ) (array cs bs : List ℕ) → array ≡ padded cs → length cs ≡ n → read_outputs_of u i n array 0 0 bs ≡ read_outputs_of u i n cs 0 0 bs
 from-array u i n array cs bs p e = rw (p, ← e) (outputs-pad u i cs 0 0 bs)
 
 -- the sum over the outputs, out of the array
-total-from : (u i n : ℕ) (array cs bs us rest : List ℕ) → array ≡ padded cs → length cs ≡ n → readOutputs u i n cs 0 0 bs ≡ value (us, rest)
-    → sum_of (map (outputCount i array) us) ≡ sum_of (map (outputCount i cs) us)
+total-from : (u i n : ℕ) (array cs bs us rest : List ℕ) → array ≡ padded cs → length cs ≡ n → read_outputs_of u i n cs 0 0 bs ≡ value (us, rest)
+    → sum_of (map (output_count i array) us) ≡ sum_of (map (output_count i cs) us)
 total-from u i n array cs bs us rest p e r =
-    rw p (ap sum_of (pad-counts i cs us (below (length cs) 0 us (rw (← e) at (outputs-ok u i n cs 0 0 bs (us, rest) r)))))
+    rw p (ap sum_of (pad_counts i cs us (below (length cs) 0 us (rw (← e) at (outputs-ok u i n cs 0 0 bs (us, rest) r)))))
 
 module _ (s array places : List ℕ) (i g u : ℕ) (h : HeaderRead s i g u) (a : GatesAnswer) (ga : GatesAre a array places s i g) where
-  opened : readNetlist s ≡ body s i g u
-  unfolding readNetlist body
-  opened = rw (h.passed, h.inputsAre, h.gatesAre, h.outputsAre) refl
+  opened : read_netlist s ≡ body s i g u
+  unfolding read_netlist body
+  opened = rw (h.passed, h.inputs_are, h.gates_are, h.outputs_are) refl
 
-  pub body-gates : (w : Refusal) → a ≡ gates.Refused w → readNetlist s ≡ refused (refusalNumber w)
+  pub body-gates : (w : Refusal) → a ≡ gates.Refused w → read_netlist s ≡ refused (refusal_number_of w)
   unfolding body
   body-gates w h =
-      let x : readGates g (replicate i 1) (drop 8 s) ≡ refused (refusalNumber w) = rw h at ga in
+      let x : read_gates g (replicate i 1) (drop 8 s) ≡ refused (refusal_number_of w) = rw h at ga in
       opened ∙ rw x refl
 
   module _ (at : ℕ) (d : a ≡ gates.Done at) where
@@ -71,39 +71,39 @@ module _ (s array places : List ℕ) (i g u : ℕ) (h : HeaderRead s i g u) (a :
     many = gates-length g (replicate i 1) (drop 8 s) (done.gates, drop at s) done.read
 
     cs : List ℕ
-    cs = netByNet gateCount 0 (replicate i 1) done.gates
+    cs = net_by_net gate_count 0 (replicate i 1) done.gates
 
     count-many : length cs ≡ i + g
     unfolding cs
-    count-many = omega (arith, length-netByNet gateCount 0 done.gates (replicate i 1), length-replicate {A = ℕ} i 1, many)
+    count-many = omega (arith, length-net_by_net gate_count 0 done.gates (replicate i 1), length-replicate {A = ℕ} i 1, many)
 
     -- the outputs, as the code reads them out of the array
-    same : readOutputs u i (i + g) array 0 0 (drop at s) ≡ readOutputs u i (i + g) cs 0 0 (drop at s)
+    same : read_outputs_of u i (i + g) array 0 0 (drop at s) ≡ read_outputs_of u i (i + g) cs 0 0 (drop at s)
     unfolding cs
     same = from-array u i (i + g) array cs (drop at s) done.counts-are count-many
 
-    module _ (o : OutputsAnswer) (oa : OutputsAre o s i array (readOutputs u i (i + g) array 0 0 (drop at s))) where
-      pub body-outputs : (w : Refusal) → o ≡ outputs.Refused w → readNetlist s ≡ refused (refusalNumber w)
+    module _ (o : OutputsAnswer) (oa : OutputsAre o s i array (read_outputs_of u i (i + g) array 0 0 (drop at s))) where
+      pub body-outputs : (w : Refusal) → o ≡ outputs.Refused w → read_netlist s ≡ refused (refusal_number_of w)
       unfolding body cs
       body-outputs w h =
-          let x : readOutputs u i (i + g) array 0 0 (drop at s) ≡ refused (refusalNumber w) = rw h at oa in
+          let x : read_outputs_of u i (i + g) array 0 0 (drop at s) ≡ refused (refusal_number_of w) = rw h at oa in
           opened ∙ rw (done.read, sym same ∙ x) refl
 
       module _ (end total : ℕ) (f : o ≡ outputs.Done end total) where
-        last : OutputsEnd end total s i array (readOutputs u i (i + g) array 0 0 (drop at s))
+        last : OutputsEnd end total s i array (read_outputs_of u i (i + g) array 0 0 (drop at s))
         last = rw f at oa
 
-        pub body-left : end < length s → readNetlist s ≡ refused 20
+        pub body-left : end < length s → read_netlist s ≡ refused 20
         unfolding body cs
         body-left h =
             let z : length (drop end s) ≡ 0 → ⊥ = λ k. omega (arith, length-drop end s) in
             opened ∙ rw (done.read, sym same ∙ last.read, ne_eqb (length (drop end s)) 0 z) refl
 
         pub body-legal : length s ≤ end → LegalLoad s array places (record { inputs = i; nets = i + g; outputs = u }) total
-        unfolding body cs positions counts pathTotal
+        unfolding body cs positions counts path_total
         body-legal h =
             let z : length (drop end s) ≡ 0 = omega (arith, length-drop end s) in
-            let read : readNetlist s ≡ value (record { inputs = i; gates = done.gates; outputs = last.outputs }) =
+            let read : read_netlist s ≡ value (record { inputs = i; gates = done.gates; outputs = last.outputs }) =
             opened ∙ rw (done.read, sym same ∙ last.read, eq-eqb (length (drop end s)) 0 z) refl in
             let total-is = last.total-is
             ∙ total-from u i (i + g) array cs (drop at s) last.outputs (drop end s) done.counts-are count-many (sym same ∙ last.read) in
@@ -111,49 +111,49 @@ module _ (s array places : List ℕ) (i g u : ℕ) (h : HeaderRead s i g u) (a :
               circuit = record { inputs = i; gates = done.gates; outputs = last.outputs };
               tables = record {
                 legal = read;
-                positionsAre = done.positions-are ∙ ap (λ n. padded (replicate i 0 ++ starts n 8 s)) (sym many);
-                countsAre = done.counts-are;
-                inputsAre = refl;
-                netsAre = ap (λ n. i + n) (sym many);
-                outputsAre = sym (outputs-fit u i (i + g) array 0 0 (drop at s) (last.outputs, drop end s) last.read (omega arith)).0;
+                positions_are = done.positions-are ∙ ap (λ n. padded (replicate i 0 ++ starts n 8 s)) (sym many);
+                counts_are = done.counts-are;
+                inputs_are = refl;
+                nets_are = ap (λ n. i + n) (sym many);
+                outputs_are = sym (outputs-fit u i (i + g) array 0 0 (drop at s) (last.outputs, drop end s) last.read (omega arith)).0;
               };
-              totalIs = total-is;
+              total_is = total-is;
             }
 
-refused-first : (s : List ℕ) (n : ℕ) → checks (headerRules s) ≡ refused n → readNetlist s ≡ refused n
-unfolding readNetlist
+refused-first : (s : List ℕ) (n : ℕ) → checks (header_rules s) ≡ refused n → read_netlist s ≡ refused n
+unfolding read_netlist
 refused-first s n e = rw e refl
 
-header_refused : (s : List ℕ) (n : ℕ) → refused n ≡ headerStep s → checks (headerRules s) ≡ refused n
-unfolding headerStep
-header_refused s n e = go (checks (headerRules s)) (headerIn s) e
+header_refused : (s : List ℕ) (n : ℕ) → refused n ≡ header_step s → checks (header_rules s) ≡ refused n
+unfolding header_step
+header_refused s n e = go (checks (header_rules s)) (header_in s) e
   where
     go : (c : Answer (Unit {0})) (v : Header) → refused n ≡ (c then value v) → c ≡ refused n
     go (refused k) v e = let z : k ≡ n = cc in ap (λ m. refused m) z
-    go (value u) v e = absurd (not-refused e)
+    go (value u) v e = absurd (not_refused e)
 
-header-legal : (s : List ℕ) (h : Header) → value h ≡ headerStep s → HeaderRead s h.inputs h.gates h.outputs
-unfolding headerStep
+header-legal : (s : List ℕ) (h : Header) → value h ≡ header_step s → HeaderRead s h.inputs h.gates h.outputs
+unfolding header_step
 header-legal s h e =
-    let v : Answer Header = value (headerIn s) in
-    let p = then-first (checks (headerRules s)) v (sym e) in
-    let is : h ≡ headerIn s = sym (value_inj (then-second (checks (headerRules s)) v (sym e))) in
-    let a = checks→ (headerRules s) p in
-    let q = and4 (within 1 64 (inputsIn s)) (leb (gatesIn s) 511) (leb (inputsIn s + gatesIn s) 512) (within 1 64 (outputsIn s)) a.1.0 in
+    let v : Answer Header = value (header_in s) in
+    let p = then-first (checks (header_rules s)) v (sym e) in
+    let is : h ≡ header_in s = sym (value_inj (then-second (checks (header_rules s)) v (sym e))) in
+    let a = checks→ (header_rules s) p in
+    let q = and4 (within 1 64 (inputs_in s)) (leb (gates_in s) 511) (leb (inputs_in s + gates_in s) 512) (within 1 64 (outputs_in s)) a.1.0 in
     let i = ap (λ (x : Header). x.inputs) is in
     let g = ap (λ (x : Header). x.gates) is in
     record {
       passed = p.is;
-      inputsAre = i;
-      gatesAre = g;
-      outputsAre = ap (λ (x : Header). x.outputs) is;
+      inputs_are = i;
+      gates_are = g;
+      outputs_are = ap (λ (x : Header). x.outputs) is;
       long = leb→le 8 (length s) (and_left (leb 8 (length s)) (marked 0x4E 0x4C s) a.0);
-      fewNets = omega (arith, i, g, leb→le (inputsIn s + gatesIn s) 512 q.2);
+      few_nets = omega (arith, i, g, leb→le (inputs_in s + gates_in s) 512 q.2);
     }
 
-module _ (s : List ℕ) (a : HeaderAnswer) (ha : headerOf a ≡ headerStep s) where
-  pub load-header : (w : Refusal) → a ≡ header.Refused w → readNetlist s ≡ refused (refusalNumber w)
-  load-header w h = refused-first s (refusalNumber w) (header_refused s (refusalNumber w) (rw h at ha))
+module _ (s : List ℕ) (a : HeaderAnswer) (ha : header_of a ≡ header_step s) where
+  pub load-header : (w : Refusal) → a ≡ header.Refused w → read_netlist s ≡ refused (refusal_number_of w)
+  load-header w h = refused-first s (refusal_number_of w) (header_refused s (refusal_number_of w) (rw h at ha))
 
   pub load_found : (h : Header) → a ≡ header.Found h → HeaderRead s h.inputs h.gates h.outputs
   load_found h f = header-legal s h (rw f at ha)
@@ -168,10 +168,10 @@ unfolding zeros
 zeros-are = refl
 
 module _ (s counts positions : List ℕ) (a : LoadAnswer) (la : LoadTrue a s counts positions) where
-  pub survey-refused : (r : Surveyed) (w : Refusal) → a ≡ load.Refused w → r ≡ refusedBy w → SurveyTrue r s
-  unfolding surveyCall
+  pub survey-refused : (r : Surveyed) (w : Refusal) → a ≡ load.Refused w → r ≡ refused_by w → SurveyTrue r s
+  unfolding survey_call
   survey-refused r w h e =
-      let n : readNetlist s ≡ refused (refusalNumber w) = rw h at la in
+      let n : read_netlist s ≡ refused (refusal_number_of w) = rw h at la in
       record { answer = rw (e, n) refl; survey = rw (e, n) refl }
 
   pub by-value-refused : (w : Refusal) (shape : Shape) (total : ℕ) → a ≡ load.Refused w
@@ -189,14 +189,14 @@ module _ (s counts positions : List ℕ) (a : LoadAnswer) (la : LoadTrue a s cou
       answer = survey.Legal;
       survey = record { counts = counts; inputs = shape.inputs; gates = shape.nets - shape.inputs; outputs = shape.outputs; total = total };
     }) s
-    unfolding surveyCall surveyOf
+    unfolding survey_call survey_of
     survey-legal =
         let t = legal.tables in
-        let g : shape.nets - shape.inputs ≡ length legal.circuit.gates = omega (arith, t.netsAre, t.inputsAre) in
+        let g : shape.nets - shape.inputs ≡ length legal.circuit.gates = omega (arith, t.nets_are, t.inputs_are) in
         record {
           answer = rw t.legal refl;
           survey = rw t.legal
-              (λ k. record { counts = t.countsAre k; inputs = t.inputsAre k; gates = g k; outputs = t.outputsAre k; total = legal.totalIs k });
+              (λ k. record { counts = t.counts_are k; inputs = t.inputs_are k; gates = g k; outputs = t.outputs_are k; total = legal.total_is k });
         }
 
     pub by-value-legal : LoadedTrue (record { answer = survey.Legal; shape = shape; total = total; counts = counts; positions = positions }) s

@@ -10,6 +10,6 @@ unfoldable pub positions : List ℕ → Netlist → List ℕ
 positions file N = padded (replicate N.inputs 0 ++ starts (length N.gates) 8 file)
 
 -- the nets that `n` outputs' records (4F 55) name, the first record at the beginning of `bs`
-unfoldable pub outputsFrom : ℕ → List ℕ → List ℕ
-outputsFrom zero bs = []
-outputsFrom (suc n) bs = field 2 2 bs ∷ outputsFrom n (drop 4 bs)
+unfoldable pub outputs_from : ℕ → List ℕ → List ℕ
+outputs_from zero bs = []
+outputs_from (suc n) bs = field 2 2 bs ∷ outputs_from n (drop 4 bs)

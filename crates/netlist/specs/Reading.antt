@@ -1,11 +1,11 @@
 -- What reading the header of a netlist file answers, and the survey of a refused netlist.
 use Rattle.std.specs.Prelude.{ℕ, ◌+◌, ◌≤◌, ◌≡◌, List, length}
 use Rattle.model.specs.Base.{Answer, refused, value, checks, ◌then◌}
-use Rattle.model.specs.Netlist.{maxNets}
-use Rattle.model.specs.Read.{headerRules, inputsIn, gatesIn, outputsIn}
-use Rattle.model.specs.Refusals.{refusalNumber}
+use Rattle.model.specs.Netlist.{max_nets}
+use Rattle.model.specs.Read.{header_rules, inputs_in, gates_in, outputs_in}
+use Rattle.model.specs.Refusals.{refusal_number_of}
 use Rattle.model.specs.declared.Refusal.{Refusal}
-use Rattle.netlist.specs.Answers.{noSurvey}
+use Rattle.netlist.specs.Answers.{no_survey}
 use Rattle.netlist.specs.declared.header.Header.{Header}
 use Rattle.netlist.specs.declared.header.HeaderAnswer.{HeaderAnswer}
 use Rattle.netlist.specs.declared.header.HeaderAnswer.TheVariants as header
@@ -13,26 +13,26 @@ use Rattle.netlist.specs.declared.SurveyAnswer.TheVariants as survey
 use Rattle.netlist.specs.declared.Surveyed.{Surveyed}
 
 -- I, G and U as the header has them
-abbrev pub headerIn : List ℕ → Header
-headerIn bs = record { inputs = inputsIn bs; gates = gatesIn bs; outputs = outputsIn bs }
+abbrev pub header_in : List ℕ → Header
+header_in bs = record { inputs = inputs_in bs; gates = gates_in bs; outputs = outputs_in bs }
 
-abbrev pub headerOf : HeaderAnswer → Answer Header
-headerOf (header.Found h) = value h
-headerOf (header.Refused w) = refused (refusalNumber w)
+abbrev pub header_of : HeaderAnswer → Answer Header
+header_of (header.Found h) = value h
+header_of (header.Refused w) = refused (refusal_number_of w)
 
 -- Header: its rules, then what it has
-unfoldable pub headerStep : List ℕ → Answer Header
-headerStep bs = checks (headerRules bs) then value (headerIn bs)
+unfoldable pub header_step : List ℕ → Answer Header
+header_step bs = checks (header_rules bs) then value (header_in bs)
 
 -- I, G and U of a header that passed
 pub record HeaderRead (file : List ℕ) (inputs gates outputs : ℕ) : Type 0 where
-  pub passed : checks (headerRules file) ≡ value tt
-  pub inputsAre : inputs ≡ inputsIn file
-  pub gatesAre : gates ≡ gatesIn file
-  pub outputsAre : outputs ≡ outputsIn file
+  pub passed : checks (header_rules file) ≡ value tt
+  pub inputs_are : inputs ≡ inputs_in file
+  pub gates_are : gates ≡ gates_in file
+  pub outputs_are : outputs ≡ outputs_in file
   pub long : 8 ≤ length file
-  pub fewNets : inputs + gates ≤ maxNets
+  pub few_nets : inputs + gates ≤ max_nets
 
 -- the answer to a refused netlist
-abbrev pub refusedBy : Refusal → Surveyed
-refusedBy w = record { answer = survey.Refused w; survey = noSurvey }
+abbrev pub refused_by : Refusal → Surveyed
+refused_by w = record { answer = survey.Refused w; survey = no_survey }

@@ -1,7 +1,7 @@
 // The header record of a netlist file.
 ghost use Rattle.std.specs.Prelude.{◌≡◌};
-ghost use Rattle.model.specs.Read.{headerRange};
-ghost use Rattle.netlist.specs.Reading.{headerOf, headerStep};
+ghost use Rattle.model.specs.Read.{header_range};
+ghost use Rattle.netlist.specs.Reading.{header_of, header_step};
 
 use model::Refusal;
 use record_bytes::inner::{begins_with, u16_at};
@@ -20,7 +20,7 @@ pub(crate) enum HeaderAnswer {
 }
 
 pub(crate) fn read_header(netlist: &[u8]) -> HeaderAnswer
-    ensures { headerOf result ≡ headerStep netlist.now }
+    ensures { header_of result ≡ header_step netlist.now }
 {
     let marked = begins_with(netlist, 8, 0x4E, 0x4C);
     if !marked {
@@ -43,7 +43,7 @@ pub(crate) fn read_header(netlist: &[u8]) -> HeaderAnswer
 
 // Whether a header's numbers are within their limits.
 fn in_range(inputs: usize, gates: usize, outputs: usize) -> bool
-    ensures { result ≡ headerRange inputs gates outputs }
+    ensures { result ≡ header_range inputs gates outputs }
 {
     if inputs < 1 {
         return false;

@@ -4,7 +4,7 @@ ghost use Rattle.model.specs.Calls.{padded};
 ghost use Rattle.netlist_gates.specs.GateReading.{zeros};
 ghost use Rattle.netlist.specs.Answers.{LoadTrue, LoadedTrue};
 ghost use Rattle.netlist.specs.Reading.{HeaderRead};
-ghost use Rattle.netlist.specs.Tables.{pinIn, gatePart, outputIn};
+ghost use Rattle.netlist.specs.Tables.{pin_in, gate_part_of, output_in};
 
 use crate::SurveyAnswer;
 use crate::header::{HeaderAnswer, read_header};
@@ -138,7 +138,7 @@ pub fn load_by_value(netlist: &[u8]) -> Loaded
 // The part of the file that begins at the record of the gate that drives `net`.
 pub fn gate_part<'a>(netlist: &'a [u8], positions: &[u16; 512], net: usize) -> &'a [u8]
     requires { (net < 512) × (get_or positions.now net 0 ≤ length netlist.now) }
-    ensures { result.now ≡ gatePart netlist.now positions.now net }
+    ensures { result.now ≡ gate_part_of netlist.now positions.now net }
 {
     let at = wide_word(positions[net]);
     &netlist[at..]
@@ -147,7 +147,7 @@ pub fn gate_part<'a>(netlist: &'a [u8], positions: &[u16; 512], net: usize) -> &
 // The net at a pin of the gate's record with which the part begins.
 pub fn pin_net(part: &[u8], pin: usize) -> usize
     requires { 4 + 2 * pin + 2 ≤ length part.now }
-    ensures { result ≡ pinIn part.now pin }
+    ensures { result ≡ pin_in part.now pin }
 {
     u16_at(part, 4 + 2 * pin)
 }
@@ -163,7 +163,7 @@ pub fn outputs_part(netlist: &[u8], outputs: usize) -> &[u8]
 // The net of the output's record with which the part begins.
 pub fn output_net(part: &[u8]) -> usize
     requires { 4 ≤ length part.now }
-    ensures { result ≡ outputIn part.now }
+    ensures { result ≡ output_in part.now }
 {
     u16_at(part, 2)
 }

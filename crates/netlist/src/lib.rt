@@ -4,7 +4,7 @@ pub mod inner;
 
 ghost use Rattle.std.specs.Prelude.{◌≡◌};
 ghost use Rattle.netlist.specs.Answers.{SurveyTrue};
-ghost use Rattle.netlist.specs.Reading.{refusedBy};
+ghost use Rattle.netlist.specs.Reading.{refused_by};
 
 use crate::inner::{LoadAnswer, load};
 use model::Refusal;
@@ -60,7 +60,7 @@ pub fn survey(netlist: &[u8]) -> Surveyed
 
 // The answer to a refused netlist.
 fn refuse(why: Refusal) -> Surveyed
-    ensures { result ≡ refusedBy why }
+    ensures { result ≡ refused_by why }
 {
     let counts = [0u64; 512];
     let survey = NetlistSurvey {

@@ -4,13 +4,13 @@ use Rattle.model.proofs.Prelude.{length-append, set, replicate, length-replicate
 use lib.ListN.{replicate-append-replicate}
 use Rattle.model.specs.Calls.{padded}
 use Rattle.netlist_gates.specs.GateReading.{size_at, starts, zeros}
-use Rattle.netlist_gates.proofs.PaddedLaws.{pad-set}
+use Rattle.netlist_gates.proofs.PaddedLaws.{pad_set}
 
 -- the positions found so far, with those that are left
 pub record PositionsLeft (left net at : ℕ) (array s whole : List ℕ) : Type 0 where
   pub done : List ℕ
   pub nets : length done ≡ net
-  pub array-is : array ≡ padded done
+  pub array_is : array ≡ padded done
   pub rest-is : done ++ starts left at s ≡ whole
 
 pub positions-start : (gates inputs : ℕ) (array s : List ℕ) → inputs + gates ≤ 512 → array ≡ zeros
@@ -21,14 +21,14 @@ positions-start gates inputs array s h e =
     record {
       done = replicate inputs 0;
       nets = length-replicate inputs 0;
-      array-is = e ∙ ap (λ n. replicate n 0) (sym z) ∙ sym (replicate-append-replicate {A = ℕ} inputs (512 - inputs) 0)
+      array_is = e ∙ ap (λ n. replicate n 0) (sym z) ∙ sym (replicate-append-replicate {A = ℕ} inputs (512 - inputs) 0)
           ∙ ap (λ n. replicate inputs 0 ++ replicate (512 - n) 0) (sym (length-replicate {A = ℕ} inputs 0));
       rest-is = refl;
     }
 
 pub positions-end : (left net at : ℕ) (array s whole : List ℕ) → left ≤ 0 → PositionsLeft left net at array s whole → array ≡ padded whole
 unfolding starts
-positions-end zero net at array s whole h l = l.array-is ∙ ap padded (sym (append-nil l.done) ∙ l.rest-is)
+positions-end zero net at array s whole h l = l.array_is ∙ ap padded (sym (append-nil l.done) ∙ l.rest-is)
 positions-end (suc left) net at array s whole h l = absurd (omega arith)
 
 starts-step : (left at : ℕ) (s : List ℕ) → 0 < left → starts left at s ≡ at ∷ starts (left - 1) (at + size_at s at) s
@@ -41,7 +41,7 @@ pub positions-again : (left net at size : ℕ) (array s whole : List ℕ) → 0 
 positions-again left net at size array s whole more b e l = record {
   done = l.done ++ (at ∷ []);
   nets = simp length-append (omega (arith, l.nets));
-  array-is = rw l.array-is (pad-set l.done net at l.nets (omega arith));
+  array_is = rw l.array_is (pad_set l.done net at l.nets (omega arith));
   rest-is = append_assoc l.done (at ∷ []) (starts (left - 1) (at + size) s)
       ∙ ap (λ (x : List ℕ). l.done ++ x) (ap (λ k. at ∷ starts (left - 1) (at + k) s) (sym e) ∙ sym (starts-step left at s more)) ∙ l.rest-is;
 }

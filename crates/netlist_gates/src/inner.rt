@@ -2,7 +2,7 @@
 // Each caller proves what a function requires.
 ghost use Rattle.std.specs.Prelude.{◌≡◌, true, ◌+◌, ◌*◌, ◌≤◌, length, replicate};
 ghost use Rattle.model.specs.Calls.{padded};
-ghost use Rattle.netlist_gates.specs.GateReading.{zeros, gateOf, gateStep, pinsLower, pinSum, SumIs, GatesAre};
+ghost use Rattle.netlist_gates.specs.GateReading.{zeros, gate_of, gate_step, pins_lower_of, pin_sum_of, SumIs, GatesAre};
 
 use model::{MAX_COUNT, Refusal};
 use netlist_pin_counts::pin_count_fits;
@@ -64,7 +64,7 @@ pub fn read_gates(
 // One gate, from the part of the file that begins at its mark. It drives `net`.
 fn read_gate(part: &[u8], net: usize, counts: &[u64; 512]) -> GateAnswer
     requires { net ≤ 512 }
-    ensures { gateOf result ≡ gateStep net counts.now part.now }
+    ensures { gate_of result ≡ gate_step net counts.now part.now }
 {
     let marked = begins_with(part, 4, 0x47, 0x54);
     if !marked {
@@ -100,7 +100,7 @@ fn read_gate(part: &[u8], net: usize, counts: &[u64; 512]) -> GateAnswer
 // Whether both pins of a gate of two name a net lower than the gate's.
 fn two_lower(part: &[u8], net: usize) -> bool
     requires { 8 ≤ length part.now }
-    ensures { result ≡ pinsLower net 2 4 part.now }
+    ensures { result ≡ pins_lower_of net 2 4 part.now }
 {
     let first = u16_at(part, 4);
     let second = u16_at(part, 6);
@@ -113,7 +113,7 @@ fn two_lower(part: &[u8], net: usize) -> bool
 // Whether every pin names a net lower than the gate's. Most gates have two pins: of these without a loop.
 fn pins_lower(part: &[u8], pins: usize, net: usize) -> bool
     requires { 4 + 2 * pins ≤ length part.now }
-    ensures { result ≡ pinsLower net pins 4 part.now }
+    ensures { result ≡ pins_lower_of net pins 4 part.now }
 {
     if pins == 2 {
         return two_lower(part, net);
@@ -133,8 +133,8 @@ fn pins_lower(part: &[u8], pins: usize, net: usize) -> bool
 
 // The sum of the counts of the nets at the pins of a gate of two, unless it is over the limit.
 fn two_sum(part: &[u8], counts: &[u64; 512]) -> SumAnswer
-    requires { (8 ≤ length part.now) × (pinsLower 512 2 4 part.now ≡ true) }
-    ensures { SumIs result (pinSum counts.now 2 4 part.now) }
+    requires { (8 ≤ length part.now) × (pins_lower_of 512 2 4 part.now ≡ true) }
+    ensures { SumIs result (pin_sum_of counts.now 2 4 part.now) }
 {
     let first = counts[u16_at(part, 4)];
     let second = counts[u16_at(part, 6)];
@@ -149,8 +149,8 @@ fn two_sum(part: &[u8], counts: &[u64; 512]) -> SumAnswer
 
 // The sum of the counts of the nets at the pins, unless it is over the limit. Again, two pins are summed without a loop.
 fn pin_sum(part: &[u8], pins: usize, counts: &[u64; 512]) -> SumAnswer
-    requires { (4 + 2 * pins ≤ length part.now) × (pinsLower 512 pins 4 part.now ≡ true) }
-    ensures { SumIs result (pinSum counts.now pins 4 part.now) }
+    requires { (4 + 2 * pins ≤ length part.now) × (pins_lower_of 512 pins 4 part.now ≡ true) }
+    ensures { SumIs result (pin_sum_of counts.now pins 4 part.now) }
 {
     if pins == 2 {
         return two_sum(part, counts);

@@ -1,9 +1,9 @@
 // The output records of a netlist file, each read from the part that begins at its mark.
 // Each caller proves what a function requires.
 ghost use Rattle.std.specs.Prelude.{◌≡◌, ◌^◌, ◌≤◌, ◌<◌, length, drop};
-ghost use Rattle.model.specs.Netlist.{outputCount};
-ghost use Rattle.model.specs.Read.{readOutputs};
-ghost use Rattle.netlist_outputs.specs.OutputReading.{outputOf, outputStep, OutputsAre};
+ghost use Rattle.model.specs.Netlist.{output_count};
+ghost use Rattle.model.specs.Read.{read_outputs_of};
+ghost use Rattle.netlist_outputs.specs.OutputReading.{output_of, output_step, OutputsAre};
 
 use model::{MAX_COUNT, Refusal};
 use record_bytes::inner::{begins_with, u16_at};
@@ -32,7 +32,7 @@ pub fn read_outputs(
     counts: &[u64; 512],
 ) -> OutputsAnswer
     requires { (from ≤ length netlist.now) × (nets ≤ 512) }
-    ensures { OutputsAre result netlist.now inputs counts.now (readOutputs outputs inputs nets counts.now 0 0 (drop from netlist.now)) }
+    ensures { OutputsAre result netlist.now inputs counts.now (read_outputs_of outputs inputs nets counts.now 0 0 (drop from netlist.now)) }
 {
     let mut left = outputs;
     let mut at = from;
@@ -66,7 +66,7 @@ fn read_output(
     counts: &[u64; 512],
 ) -> OutputAnswer
     requires { (nets ≤ 512) × (total ≤ 2 ^ 62) }
-    ensures { outputOf result ≡ outputStep inputs nets counts.now low total part.now }
+    ensures { output_of result ≡ output_step inputs nets counts.now low total part.now }
 {
     let marked = begins_with(part, 4, 0x4F, 0x55);
     if !marked {
@@ -92,7 +92,7 @@ fn read_output(
 // How many paths end at an output at this net: none at an input, where the output is a wire without a gate.
 pub fn output_paths(counts: &[u64; 512], inputs: usize, net: usize) -> u64
     requires { net < 512 }
-    ensures { result ≡ outputCount inputs counts.now net }
+    ensures { result ≡ output_count inputs counts.now net }
 {
     if net < inputs {
         return 0;

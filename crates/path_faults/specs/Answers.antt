@@ -1,25 +1,25 @@
 -- What the calls on fault numbers answer, by document 01's numbers and values.
 use Rattle.std.specs.Prelude.{[], ◌∷◌, ℕ}
 use Rattle.model.specs.Base.{Answer, refused, value, checks, ◌then◌}
-use Rattle.model.specs.Netlist.{maxCount}
-use Rattle.model.specs.Path.{rising, falling, faultNumber}
+use Rattle.model.specs.Netlist.{max_count}
+use Rattle.model.specs.Path.{rising, falling, fault_number}
 use Rattle.model.specs.Path as model
 use Rattle.model.specs.Read.{within}
-use Rattle.model.specs.Refusals.{refusalNumber}
+use Rattle.model.specs.Refusals.{refusal_number_of}
 use Rattle.path_faults.specs.declared.Edge.{Edge}
 use Rattle.path_faults.specs.declared.Edge.TheVariants as edge
 use Rattle.path_faults.specs.declared.FaultAnswer.{FaultAnswer}
 use Rattle.path_faults.specs.declared.FaultAnswer.TheVariants as fault
 
 -- the edge that the code's `Edge` stands for
-abbrev pub modelEdge : Edge → model.Edge
-modelEdge edge.Rising = rising
-modelEdge edge.Falling = falling
+abbrev pub model_edge : Edge → model.Edge
+model_edge edge.Rising = rising
+model_edge edge.Falling = falling
 
 -- Path i has faults 2i - 1 (rising) and 2i (falling); 60 for a number that is no path's, not 1 to 2^62
-unfoldable pub faultCallOf : model.Edge → ℕ → Answer ℕ
-faultCallOf e i = checks ((60, within 1 maxCount i) ∷ []) then value (faultNumber e i)
+unfoldable pub fault_call_of : model.Edge → ℕ → Answer ℕ
+fault_call_of e i = checks ((60, within 1 max_count i) ∷ []) then value (fault_number e i)
 
-abbrev pub faultAnswer : FaultAnswer → Answer ℕ
-faultAnswer (fault.Fault f) = value f.0
-faultAnswer (fault.Refused w) = refused (refusalNumber w)
+abbrev pub fault_answer : FaultAnswer → Answer ℕ
+fault_answer (fault.Fault f) = value f.0
+fault_answer (fault.Refused w) = refused (refusal_number_of w)

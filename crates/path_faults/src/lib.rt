@@ -1,7 +1,7 @@
 // Numbers of paths and of faults: they count unlike things, and only these functions lead from one to the other.
 ghost use Rattle.std.specs.Prelude.{◌≡◌};
-ghost use Rattle.model.specs.Path.{pathOfFault, edgeOfFault};
-ghost use Rattle.path_faults.specs.Answers.{modelEdge, faultCallOf, faultAnswer};
+ghost use Rattle.model.specs.Path.{path_of_fault, edge_of_fault};
+ghost use Rattle.path_faults.specs.Answers.{model_edge, fault_call_of, fault_answer};
 
 use model::{MAX_COUNT, Refusal};
 
@@ -28,7 +28,7 @@ pub enum FaultAnswer {
 
 // The fault of a path and an edge: 2i - 1 or 2i. No netlist has a path number that is not 1 to 2^62.
 pub fn fault_of(path: PathNo, edge: Edge) -> FaultAnswer
-    ensures { faultAnswer result ≡ faultCallOf (modelEdge edge) path.0 }
+    ensures { fault_answer result ≡ fault_call_of (model_edge edge) path.0 }
 {
     let i = path.0;
     if i < 1 {
@@ -45,7 +45,7 @@ pub fn fault_of(path: PathNo, edge: Edge) -> FaultAnswer
 
 // The path of a fault.
 pub fn path_of(fault: FaultNo) -> PathNo
-    ensures { result.0 ≡ pathOfFault fault.0 }
+    ensures { result.0 ≡ path_of_fault fault.0 }
 {
     let n = fault.0;
     PathNo(n / 2 + n % 2)
@@ -53,7 +53,7 @@ pub fn path_of(fault: FaultNo) -> PathNo
 
 // The edge of a fault.
 pub fn edge_of(fault: FaultNo) -> Edge
-    ensures { modelEdge result ≡ edgeOfFault fault.0 }
+    ensures { model_edge result ≡ edge_of_fault fault.0 }
 {
     let n = fault.0;
     if n % 2 == 1 {

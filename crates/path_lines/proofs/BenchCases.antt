@@ -2,21 +2,21 @@
 use Rattle.model.proofs.Prelude.{ℕ, ◌≤◌, ◌<◌, ◌≡◌, ◌∙◌, ap, refl, sym, List, ◌++◌, length, drop, take, length-append, length-take-le, take_at, arith}
 use Rattle.model.proofs.Prelude.{needs}
 use Rattle.model.specs.Base.{Answer, refused, value, ◌into◌, after}
-use Rattle.model.specs.Refusals.{refusalNumber}
+use Rattle.model.specs.Refusals.{refusal_number_of}
 use Rattle.model.specs.declared.Refusal.{Refusal}
-use Rattle.model.proofs.AnswerLaws.{not-refused, value_inj}
+use Rattle.model.proofs.AnswerLaws.{not_refused, value_inj}
 use Rattle.bench_text.specs.NetlistFile.{converted}
-use Rattle.bench_text.specs.Calls.{convertAnswer, convertBuffer, benchOf}
+use Rattle.bench_text.specs.Calls.{convert_answer, convert_buffer, bench_of}
 use Rattle.bench_text.specs.Converting.{ConvertTrue}
 use Rattle.bench_text.proofs.ConvertCases.{call-is}
 use Rattle.bench_text.specs.declared.BenchAnswer.{BenchAnswer}
 use Rattle.bench_text.specs.declared.BenchAnswer.TheVariants as bench
 use Rattle.bench_net_names.specs.NetNames.{name_of}
-use Rattle.bench_net_names.specs.Table.{nameIn, NamesTold}
-use Rattle.listing_lines.specs.ListingLines.{refusedLine}
-use Rattle.text_buffer.specs.Written.{Written, inRoom}
+use Rattle.bench_net_names.specs.Table.{name_in_of, NamesTold}
+use Rattle.listing_lines.specs.ListingLines.{refused_line_of}
+use Rattle.text_buffer.specs.Written.{Written, in_room}
 use Rattle.text_buffer.proofs.WrittenLaws.{no_room, room-there, written_as}
-use Rattle.path_lines.specs.PathText.{path_text, benchShown, benchPathText}
+use Rattle.path_lines.specs.PathText.{path_text, bench_shown, bench_path_text}
 
 abbrev sized : Answer (List ℕ) → Answer ℕ
 sized y = y into λ bs. value (length bs)
@@ -25,64 +25,64 @@ abbrev number_in : Answer ℕ → ℕ
 number_in (refused n) = n
 number_in (value u) = 0
 
-as-refused : (y : Answer (List ℕ)) (n : ℕ) → refused n ≡ sized y → y ≡ refused n
-as-refused (refused m) n e = ap (λ (k : ℕ). refused k) (sym (ap number_in e))
-as-refused (value bs) n e = absurd (not-refused e)
+as_refused : (y : Answer (List ℕ)) (n : ℕ) → refused n ≡ sized y → y ≡ refused n
+as_refused (refused m) n e = ap (λ (k : ℕ). refused k) (sym (ap number_in e))
+as_refused (value bs) n e = absurd (not_refused e)
 
 pub record Sized (y : Answer (List ℕ)) (n : ℕ) : Type 0 where
   pub bytes : List ℕ
   pub is : y ≡ value bytes
   pub long : length bytes ≡ n
 
-as-value : (y : Answer (List ℕ)) (n : ℕ) → value n ≡ sized y → Sized y n
-as-value (refused m) n e = absurd (not-refused (sym e))
-as-value (value bs) n e = record { bytes = bs; is = refl; long = sym (value_inj e) }
+as_value : (y : Answer (List ℕ)) (n : ℕ) → value n ≡ sized y → Sized y n
+as_value (refused m) n e = absurd (not_refused (sym e))
+as_value (value bs) n e = record { bytes = bs; is = refl; long = sym (value_inj e) }
 
 -- names that are told alike give the same text
-same_names : (file text names : List ℕ) (k : ℕ) → NamesTold names text → path_text file (nameIn names) k ≡ path_text file (name_of text) k
+same_names : (file text names : List ℕ) (k : ℕ) → NamesTold names text → path_text file (name_in_of names) k ≡ path_text file (name_of text) k
 same_names file text names k t = ap (λ (f : ℕ → List ℕ). path_text file f k) (λ i net. t.told net i)
 
 module _ (out text : List ℕ) (k : ℕ) where
-  pub bench-short : length out < 65536 → Written out out 0 (inRoom 65536 out (benchPathText text k)) 0
-  bench-short h = no_room 65536 out (benchPathText text k) h
+  pub bench_short : length out < 65536 → Written out out 0 (in_room 65536 out (bench_path_text text k)) 0
+  bench_short h = no_room 65536 out (bench_path_text text k) h
 
   module _ (buf buf' : List ℕ) (big : length buf ≡ 10484) (a : BenchAnswer) (t : ConvertTrue a text buf buf') where
-    answer-is : benchOf a ≡ sized (converted text)
-    unfolding convertAnswer
+    answer-is : bench_of a ≡ sized (converted text)
+    unfolding convert_answer
     answer-is = t.answer ∙ ap (λ (x : Answer (List ℕ)). sized x) (call-is text buf (omega arith))
 
-    pub bench-refused : 65536 ≤ length out → (w : Refusal) (line : ℕ) → a ≡ bench.Refused w line → (o : List ℕ) (r : ℕ)
-        → Written out o 0 (refusedLine (refusalNumber w)) r → Written out o 0 (inRoom 65536 out (benchPathText text k)) r
-    unfolding benchPathText
-    bench-refused room w line e o r p =
-        let z = as-refused (converted text) (refusalNumber w) (ap benchOf (sym e) ∙ answer-is) in
-        room-there 65536 out (benchPathText text k) room (written_as (ap (benchShown (name_of text) k) (sym z)) p)
+    pub bench_refused : 65536 ≤ length out → (w : Refusal) (line : ℕ) → a ≡ bench.Refused w line → (o : List ℕ) (r : ℕ)
+        → Written out o 0 (refused_line_of (refusal_number_of w)) r → Written out o 0 (in_room 65536 out (bench_path_text text k)) r
+    unfolding bench_path_text
+    bench_refused room w line e o r p =
+        let z = as_refused (converted text) (refusal_number_of w) (ap bench_of (sym e) ∙ answer-is) in
+        room-there 65536 out (bench_path_text text k) room (written_as (ap (bench_shown (name_of text) k) (sym z)) p)
 
     module _ (n : ℕ) (e : a ≡ bench.Written n) where
       got : Sized (converted text) n
-      got = as-value (converted text) n (ap benchOf (sym e) ∙ answer-is)
+      got = as_value (converted text) n (ap bench_of (sym e) ∙ answer-is)
 
       buffer-is : buf' ≡ got.bytes ++ drop (length got.bytes) buf
-      unfolding convertBuffer
+      unfolding convert_buffer
       buffer-is =
           t.buffer ∙ ap (λ (x : Answer (List ℕ)). after x buf (λ bs. bs ++ drop (length bs) buf)) (call-is text buf (omega arith) ∙ got.is)
 
-      pub bench-inside : n ≤ length buf'
-      bench-inside =
+      pub bench_inside : n ≤ length buf'
+      bench_inside =
           omega (arith, got.long, ap (length {A = ℕ}) buffer-is, length-append got.bytes (drop (length got.bytes) buf))
 
-      pub bench-taken : n ≡ length (take n buf')
-      bench-taken = sym (length-take-le n buf' bench-inside)
+      pub bench_taken : n ≡ length (take n buf')
+      bench_taken = sym (length-take-le n buf' bench_inside)
 
       file-is : take n buf' ≡ got.bytes
       file-is = ap (take n) buffer-is ∙ take_at got.bytes (drop (length got.bytes) buf) n got.long
 
-      pub bench-told : 65536 ≤ length out → (names : List ℕ) → NamesTold names text → (o : List ℕ) (r : ℕ)
-          → Written out o 0 (inRoom 65536 out (path_text (take n buf') (nameIn names) k)) r → Written out o 0 (inRoom 65536 out (benchPathText text k)) r
-      unfolding benchPathText
-      bench-told room names s o r p =
-          let whole : path_text (take n buf') (nameIn names) k ≡ benchPathText text k =
-          ap (λ (f : List ℕ). path_text f (nameIn names) k) file-is ∙ same_names got.bytes text names k s ∙ ap (benchShown (name_of text) k) (sym got.is) in
-          written_as (ap (inRoom 65536 out) whole) p
+      pub bench_told : 65536 ≤ length out → (names : List ℕ) → NamesTold names text → (o : List ℕ) (r : ℕ)
+          → Written out o 0 (in_room 65536 out (path_text (take n buf') (name_in_of names) k)) r → Written out o 0 (in_room 65536 out (bench_path_text text k)) r
+      unfolding bench_path_text
+      bench_told room names s o r p =
+          let whole : path_text (take n buf') (name_in_of names) k ≡ bench_path_text text k =
+          ap (λ (f : List ℕ). path_text f (name_in_of names) k) file-is ∙ same_names got.bytes text names k s ∙ ap (bench_shown (name_of text) k) (sym got.is) in
+          written_as (ap (in_room 65536 out) whole) p
 
-pub ruleset bench-cases = (bench-short, bench-refused, bench-inside, bench-taken, bench-told, needs)
+pub ruleset bench-cases = (bench_short, bench_refused, bench_inside, bench_taken, bench_told, needs)

@@ -3,9 +3,9 @@ mod nets;
 mod walk;
 
 ghost use Rattle.std.specs.Prelude.{◌≡◌, length};
-ghost use Rattle.text_buffer.specs.Written.{Written, inRoom};
-ghost use Rattle.bench_net_names.specs.Table.{nameIn};
-ghost use Rattle.path_lines.specs.PathText.{path_text, benchPathText, pathBytes};
+ghost use Rattle.text_buffer.specs.Written.{Written, in_room};
+ghost use Rattle.bench_net_names.specs.Table.{name_in_of};
+ghost use Rattle.path_lines.specs.PathText.{path_text, bench_path_text, path_bytes};
 
 use crate::walk::put_loaded;
 use bench_net_names::net_names;
@@ -22,7 +22,7 @@ pub const PATH_BYTES: usize = 65536;
 // words has none. A buffer under 65,536 bytes is left as it is, and the length is 0.
 pub fn put_path(netlist: &[u8], names: &[u64], number: PathNo, out: &mut [u8]) -> usize
     ensures { Written out.old out.new 0
-        (inRoom pathBytes out.old (path_text netlist.now (nameIn names.now) number.0)) result }
+        (in_room path_bytes out.old (path_text netlist.now (name_in_of names.now) number.0)) result }
 {
     if out.len() < PATH_BYTES {
         return 0;
@@ -46,7 +46,7 @@ fn no_bytes() -> [u8; NETLIST_BYTES]
 // under 65,536 bytes is left as it is, and the length is 0.
 pub fn put_bench_path(text: &[u8], number: PathNo, out: &mut [u8]) -> usize
     ensures { Written out.old out.new 0
-        (inRoom pathBytes out.old (benchPathText text.now number.0)) result }
+        (in_room path_bytes out.old (bench_path_text text.now number.0)) result }
 {
     if out.len() < PATH_BYTES {
         return 0;

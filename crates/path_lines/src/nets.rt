@@ -1,11 +1,11 @@
 // Parts of a path's lines, put into a buffer from a place on; each returns the place after it.
 ghost use Rattle.std.specs.Prelude.{◌≡◌, ◌+◌, ◌*◌, ◌≤◌, ◌<◌, length, get_or};
 ghost use Rattle.model.specs.Read.{kind_of};
-ghost use Rattle.netlist.specs.Tables.{kindIn, pinIn};
-ghost use Rattle.text_line.specs.Decimal.{decimalText};
+ghost use Rattle.netlist.specs.Tables.{kind_in, pin_in};
+ghost use Rattle.text_line.specs.Decimal.{decimal_text};
 ghost use Rattle.text_buffer.specs.Written.{Written};
-ghost use Rattle.bench_net_names.specs.Table.{nameIn};
-ghost use Rattle.path_lines.specs.PathText.{inBrackets, bracketed, netText, kindText, gateStart, gateEnd, gateLine, inputLine, outputLine};
+ghost use Rattle.bench_net_names.specs.Table.{name_in_of};
+ghost use Rattle.path_lines.specs.PathText.{in_brackets, bracketed, net_text, kind_text, gate_start, gate_end, gate_line, input_line, output_line};
 
 use bench_net_names::put_name;
 use netlist::inner::pin_net;
@@ -22,7 +22,7 @@ fn put_part(out: &mut [u8], at: usize, part: &[u8]) -> usize
 // A number.
 fn put_decimal(out: &mut [u8], at: usize, number: usize) -> usize
     requires { at + 20 ≤ length out.old }
-    ensures { Written out.old out.new at (decimalText number) result × (result ≤ at + 20) }
+    ensures { Written out.old out.new at (decimal_text number) result × (result ≤ at + 20) }
 {
     put_number(out, at, number as u64)
 }
@@ -30,7 +30,7 @@ fn put_decimal(out: &mut [u8], at: usize, number: usize) -> usize
 // A text in brackets, after a space.
 fn put_in_brackets(out: &mut [u8], at: usize, text: &[u8]) -> usize
     requires { at + length text.now + 3 ≤ length out.old }
-    ensures { Written out.old out.new at (inBrackets text.now) result × (result ≡ at + length text.now + 3) }
+    ensures { Written out.old out.new at (in_brackets text.now) result × (result ≡ at + length text.now + 3) }
 {
     let inside = put_part(out, at, b" (");
     let end = put_part(out, inside, text);
@@ -40,7 +40,7 @@ fn put_in_brackets(out: &mut [u8], at: usize, text: &[u8]) -> usize
 // The name of a net in brackets, after a space; nothing where it has no name.
 fn put_bracketed(out: &mut [u8], at: usize, names: &[u64], net: usize) -> usize
     requires { at + 19 ≤ length out.old }
-    ensures { Written out.old out.new at (bracketed (nameIn names.now net)) result × (result ≤ at + 19) }
+    ensures { Written out.old out.new at (bracketed (name_in_of names.now net)) result × (result ≤ at + 19) }
 {
     let mut name = [0u8; 16];
     let bytes = put_name(names, net, &mut name);
@@ -53,7 +53,7 @@ fn put_bracketed(out: &mut [u8], at: usize, names: &[u64], net: usize) -> usize
 // A net: its number, and its name.
 fn put_net(out: &mut [u8], at: usize, names: &[u64], net: usize) -> usize
     requires { at + 39 ≤ length out.old }
-    ensures { Written out.old out.new at (netText (nameIn names.now) net) result × (result ≤ at + 39) }
+    ensures { Written out.old out.new at (net_text (name_in_of names.now) net) result × (result ≤ at + 39) }
 {
     let end = put_decimal(out, at, net);
     put_bracketed(out, end, names, net)
@@ -63,7 +63,7 @@ fn put_net(out: &mut [u8], at: usize, names: &[u64], net: usize) -> usize
 fn put_kind(out: &mut [u8], at: usize, kind: u8) -> usize
     requires at_in_bounds { at + 6 ≤ length out.old }
     requires le_kind { (1 ≤ kind) × (kind ≤ 8) }
-    ensures { Written out.old out.new at (kindText (kind_of kind)) result × (result ≤ at + 6) }
+    ensures { Written out.old out.new at (kind_text (kind_of kind)) result × (result ≤ at + 6) }
 {
     match kind {
         1 => put_part(out, at, b"BUFFER"),
@@ -81,7 +81,7 @@ fn put_kind(out: &mut [u8], at: usize, kind: u8) -> usize
 fn put_gate_start(out: &mut [u8], at: usize, names: &[u64], net: usize, kind: u8) -> usize
     requires at_in_bounds { at + 51 ≤ length out.old }
     requires le_kind { (1 ≤ kind) × (kind ≤ 8) }
-    ensures { Written out.old out.new at (gateStart (nameIn names.now) net (kind_of kind)) result × (result ≤ at + 51) }
+    ensures { Written out.old out.new at (gate_start (name_in_of names.now) net (kind_of kind)) result × (result ≤ at + 51) }
 {
     let first = put_part(out, at, b"net ");
     let colon = put_net(out, first, names, net);
@@ -92,7 +92,7 @@ fn put_gate_start(out: &mut [u8], at: usize, names: &[u64], net: usize, kind: u8
 // The end of a gate's line: the pin taken, and the net at that pin.
 fn put_gate_end(out: &mut [u8], at: usize, names: &[u64], pin: usize, next: usize) -> usize
     requires { at + 76 ≤ length out.old }
-    ensures { Written out.old out.new at (gateEnd (nameIn names.now) pin next) result × (result ≤ at + 76) }
+    ensures { Written out.old out.new at (gate_end (name_in_of names.now) pin next) result × (result ≤ at + 76) }
 {
     let number = put_part(out, at, b", pin ");
     let from = put_decimal(out, number, pin);
@@ -112,9 +112,9 @@ pub(crate) fn put_gate(
 ) -> usize
     requires at_in_bounds { at + 127 ≤ length out.old }
     requires pin_in_bounds { 4 + 2 * pin + 2 ≤ length part.now }
-    requires bound { (1 ≤ kindIn part.now) × (kindIn part.now ≤ 8) }
+    requires bound { (1 ≤ kind_in part.now) × (kind_in part.now ≤ 8) }
     ensures { Written out.old out.new at
-        (gateLine (nameIn names.now) net (kind_of (kindIn part.now)) pin (pinIn part.now pin)) result × (result ≤ at + 127) }
+        (gate_line (name_in_of names.now) net (kind_of (kind_in part.now)) pin (pin_in part.now pin)) result × (result ≤ at + 127) }
 {
     let next = pin_net(part, pin);
     let middle = put_gate_start(out, at, names, net, part[2]);
@@ -124,7 +124,7 @@ pub(crate) fn put_gate(
 // The line of the input at which a path begins.
 pub(crate) fn put_input(out: &mut [u8], at: usize, names: &[u64], net: usize) -> usize
     requires { at + 127 ≤ length out.old }
-    ensures { Written out.old out.new at (inputLine (nameIn names.now) net) result }
+    ensures { Written out.old out.new at (input_line (name_in_of names.now) net) result }
 {
     let first = put_part(out, at, b"net ");
     let colon = put_net(out, first, names, net);
@@ -134,7 +134,7 @@ pub(crate) fn put_input(out: &mut [u8], at: usize, names: &[u64], net: usize) ->
 // The line of an output at the start of a buffer: its place and its net.
 pub(crate) fn put_output(out: &mut [u8], names: &[u64], place: usize, net: usize) -> usize
     requires { 127 ≤ length out.old }
-    ensures { Written out.old out.new 0 (outputLine (nameIn names.now) place net) result × (result ≤ 127) }
+    ensures { Written out.old out.new 0 (output_line (name_in_of names.now) place net) result × (result ≤ 127) }
 {
     let first = put_part(out, 0, b"output ");
     let colon = put_decimal(out, first, place);

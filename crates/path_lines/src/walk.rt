@@ -1,7 +1,7 @@
 // The lines of a path, whose words name the pin taken at each gate.
 ghost use Rattle.std.specs.Prelude.{◌≡◌, ◌+◌, ◌*◌, ◌≤◌, ◌<◌, length};
 ghost use Rattle.netlist.specs.Tables.{SomeCircuit};
-ghost use Rattle.bench_net_names.specs.Table.{nameIn};
+ghost use Rattle.bench_net_names.specs.Table.{name_in_of};
 ghost use Rattle.path_lines.specs.Walked.{GatesTold, PathTold};
 
 use crate::nets::{put_gate, put_input, put_output};
@@ -22,7 +22,7 @@ fn put_gates(
 ) -> usize
     requires some_circuit { SomeCircuit netlist.now positions.now shape × (output < shape.nets) }
     requires words_len { (length words.now ≡ 513) × (at + 127 * 512 ≤ length out.old) }
-    ensures { GatesTold out.old out.new at netlist.now (nameIn names.now)
+    ensures { GatesTold out.old out.new at netlist.now (name_in_of names.now)
         words.now output result }
 {
     let inputs = shape.inputs;
@@ -53,7 +53,7 @@ fn put_walk(
 ) -> usize
     requires some_circuit { SomeCircuit netlist.now positions.now shape }
     requires words_len { (length words.now ≡ 513) × (65536 ≤ length out.old) }
-    ensures { PathTold out.old out.new netlist.now (nameIn names.now) words.now result }
+    ensures { PathTold out.old out.new netlist.now (name_in_of names.now) words.now result }
 {
     let place = wide_word(words[0]);
     if shape.outputs <= place {
@@ -68,7 +68,7 @@ fn put_walk(
 // The path in the words.
 pub(crate) fn put_loaded(netlist: &[u8], names: &[u64], words: &[u16], out: &mut [u8]) -> usize
     requires { (length words.now ≡ 513) × (65536 ≤ length out.old) }
-    ensures { PathTold out.old out.new netlist.now (nameIn names.now) words.now result }
+    ensures { PathTold out.old out.new netlist.now (name_in_of names.now) words.now result }
 {
     let mut counts = [0u64; 512];
     let mut positions = [0u16; 512];

@@ -2,16 +2,16 @@
 use Rattle.model.proofs.Prelude.{ℕ, ◌≤◌, ◌<◌, ◌+◌, ◌≡◌, ◌∙◌, ap, refl, sym, ap₂, List, [], ◌∷◌, length, get_or, set, length-set, add-one, arith, needs}
 use mir.Val.{Fits}
 use mir.Syntax.{w16}
-use Rattle.model.specs.Netlist.{Netlist, nets, counts, pinNet, pinCounts}
-use Rattle.model.specs.Path.{split, pathAt}
-use Rattle.model.proofs.NumberLaws.{pathAt-input}
+use Rattle.model.specs.Netlist.{Netlist, nets, counts, pin_net, pin_counts}
+use Rattle.model.specs.Path.{split, path_at}
+use Rattle.model.proofs.NumberLaws.{path_at-input}
 use Rattle.model.proofs.ReadLaws.{legal}
 use Rattle.model.proofs.WellFormed.{WellFormed}
-use Rattle.netlist.specs.Tables.{CircuitTables, SomeTables, GatePart, gatePart, pinIn}
+use Rattle.netlist.specs.Tables.{CircuitTables, SomeTables, GatePart, gate_part_of, pin_in}
 use Rattle.netlist.specs.declared.inner.Shape.{Shape}
 use Rattle.netlist.proofs.TableLaws.{gate-part, count_at}
 use Rattle.path_step.specs.declared.inner.pins.Pick.{Pick}
-use Rattle.path_step.specs.Picks.{pinCountsIn, pickPin}
+use Rattle.path_step.specs.Picks.{pin_counts_in, pick_pin_of}
 use Rattle.path_of_number.specs.Tasks.{PinsWritten}
 use Rattle.path_step.proofs.WalkTableLaws.{pin-counts}
 use Rattle.path_of_number.proofs.PartialLaws.{pin-is-one, pin-below, there-low, there-high, path-step}
@@ -21,46 +21,46 @@ use Rattle.path_step.proofs.PinStepCases.{step-few, step-inside, step-pins, step
 pub input-words : (file ps cs : List ℕ) (shape : Shape) (net number at : ℕ) (path : List ℕ) → net < shape.inputs
     → (N : Netlist) → CircuitTables N file ps cs shape → PinsWritten N net number at at path path
 input-words file ps cs shape net number at path i N t =
-    let none : pathAt N net net number ≡ [] = pathAt-input N (legal file N t.legal) net net number (omega (arith, t.inputsAre)) in
+    let none : path_at N net net number ≡ [] = path_at-input N (legal file N t.legal) net net number (omega (arith, t.inputs_are)) in
     record { end_is = rw none (omega arith); words_are = rw none refl }
 
 module _ (file ps cs : List ℕ) (shape : Shape) (net number : ℕ) (high : net < shape.nets) (low : shape.inputs ≤ net) (some : 1 ≤ number)
-    (small : number ≤ get_or cs net 0) (part : List ℕ) (ep : part ≡ gatePart file ps net) (p : Pick) (e : p ≡ pickPin part cs number) where
+    (small : number ≤ get_or cs net 0) (part : List ℕ) (ep : part ≡ gate_part_of file ps net) (p : Pick) (e : p ≡ pick_pin_of part cs number) where
   module _ (N : Netlist) (t : CircuitTables N file ps cs shape) where
     w : WellFormed N
     w = legal file N t.legal
 
     i : N.inputs ≤ net
-    i = omega (arith, t.inputsAre)
+    i = omega (arith, t.inputs_are)
 
     l : net < nets N
-    l = omega (arith, t.netsAre)
+    l = omega (arith, t.nets_are)
 
     b : number ≤ get_or (counts N) net 0
     b = omega (arith, count_at t net high)
 
-    gate : GatePart (gatePart file ps net) N net
+    gate : GatePart (gate_part_of file ps net) N net
     gate = gate-part t net low high
 
-    counts-are : pinCountsIn part cs ≡ pinCounts N net
-    counts-are = ap (λ (x : List ℕ). pinCountsIn x cs) ep ∙ pin-counts t net low high
+    counts-are : pin_counts_in part cs ≡ pin_counts N net
+    counts-are = ap (λ (x : List ℕ). pin_counts_in x cs) ep ∙ pin-counts t net low high
 
-    pub pin-is : p.pin ≡ (split (pinCounts N net) number).0
-    unfolding pickPin
+    pub pin-is : p.pin ≡ (split (pin_counts N net) number).0
+    unfolding pick_pin_of
     pin-is = ap (λ (x : Pick). x.pin) e ∙ ap (λ (x : List ℕ). (split x number).0) counts-are
 
-    pub number_is : p.number ≡ (split (pinCounts N net) number).1
-    unfolding pickPin
+    pub number_is : p.number ≡ (split (pin_counts N net) number).1
+    unfolding pick_pin_of
     number_is = ap (λ (x : Pick). x.number) e ∙ ap (λ (x : List ℕ). (split x number).1) counts-are
 
-    pub one : p.pin < length (Rattle.model.specs.Netlist.pinsOf N net)
+    pub one : p.pin < length (Rattle.model.specs.Netlist.pins_of N net)
     one = omega (arith, pin-is, pin-is-one N w net number i l some b)
 
-    pub net-is : p.net ≡ pinNet N net (split (pinCounts N net) number).0
-    unfolding pickPin
+    pub net-is : p.net ≡ pin_net N net (split (pin_counts N net) number).0
+    unfolding pick_pin_of
     net-is =
-        ap (λ (x : Pick). x.net) e ∙ ap₂ (λ (x : List ℕ) k. pinIn x k) ep (sym (ap (λ (x : Pick). x.pin) e))
-        ∙ gate.pinIs p.pin (omega (arith, one, gate.pinCount)) ∙ ap (pinNet N net) pin-is
+        ap (λ (x : Pick). x.net) e ∙ ap₂ (λ (x : List ℕ) k. pin_in x k) ep (sym (ap (λ (x : Pick). x.pin) e))
+        ∙ gate.pin_is p.pin (omega (arith, one, gate.pin_count)) ∙ ap (pin_net N net) pin-is
 
     pub below : p.net < net
     below = omega (arith, net-is, pin-below N w net number i l some b)
@@ -77,12 +77,12 @@ module _ (file ps cs : List ℕ) (shape : Shape) (net number : ℕ) (high : net 
       ap (λ n. get_or (counts N) n 0) net-is,
     )
 
-    step : pathAt N net net number ≡ p.pin ∷ pathAt N p.net p.net p.number
-    step = path-step N w net number i l some b ∙ sym (λ k. pin-is k ∷ pathAt N (net-is k) (net-is k) (number_is k))
+    step : path_at N net net number ≡ p.pin ∷ path_at N p.net p.net p.number
+    step = path-step N w net number i l some b ∙ sym (λ k. pin-is k ∷ path_at N (net-is k) (net-is k) (number_is k))
 
   module _ (known : SomeTables file ps cs shape) where
     pub pick-few : Fits w16 p.pin
-    pick-few = record { fits = omega (arith, one known.circuit known.tables, (gate known.circuit known.tables).fewPins, (gate known.circuit known.tables).pinCount) }
+    pick-few = record { fits = omega (arith, one known.circuit known.tables, (gate known.circuit known.tables).few_pins, (gate known.circuit known.tables).pin_count) }
 
     pub pick-high : p.net < shape.nets
     pick-high = omega (arith, below known.circuit known.tables)

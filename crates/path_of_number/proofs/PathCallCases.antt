@@ -1,11 +1,11 @@
 -- The cases of the writing call, by what the netlist, the number and the words were found to be.
 use Rattle.model.proofs.Prelude.{ℕ, ◌≤◌, ◌<◌, ◌≡◌, ◌∙◌, refl, List, length, arith, needs, le-leb, lt-leb}
 use Rattle.model.specs.Base.{refused, value}
-use Rattle.model.specs.Netlist.{Netlist, pathTotal}
-use Rattle.model.specs.Path.{pathOf}
-use Rattle.model.specs.Read.{readNetlist}
-use Rattle.model.specs.Refusals.{refusalNumber}
-use Rattle.model.specs.Calls.{numberToPathCall, numberToPathAnswer, numberToPathBuffer, pathWritten}
+use Rattle.model.specs.Netlist.{Netlist, path_total}
+use Rattle.model.specs.Path.{path_of}
+use Rattle.model.specs.Read.{read_netlist}
+use Rattle.model.specs.Refusals.{refusal_number_of}
+use Rattle.model.specs.Calls.{number_to_path_call, number_to_path_answer, number_to_path_buffer, path_written}
 use Rattle.model.specs.declared.Refusal.{Refusal}
 use Rattle.model.specs.declared.Refusal.TheVariants as why
 use Rattle.netlist.specs.Answers.{LegalLoad, LoadTrue}
@@ -19,19 +19,19 @@ use Rattle.path_of_number.specs.Answers.{PathWritten}
 use Rattle.path_of_number.specs.declared.PathAnswer.TheVariants as path
 
 -- Number to path. A refusal leaves the buffer as found
-refused-write : (w : Refusal) (file : List ℕ) (k : ℕ) (ws : List ℕ) → numberToPathCall file k ws ≡ refused (refusalNumber w) → PathWritten (path.Refused w) file k ws ws
-unfolding numberToPathAnswer numberToPathBuffer
+refused-write : (w : Refusal) (file : List ℕ) (k : ℕ) (ws : List ℕ) → number_to_path_call file k ws ≡ refused (refusal_number_of w) → PathWritten (path.Refused w) file k ws ws
+unfolding number_to_path_answer number_to_path_buffer
 refused-write w file k ws e = record { answer = rw e refl; buffer = rw e refl }
 
-pub write-short : (file : List ℕ) (k : ℕ) (ws : List ℕ) → length ws < 513 → PathWritten (path.Refused why.PathBufferLength) file k ws ws
-unfolding numberToPathCall
-write-short file k ws h = refused-write why.PathBufferLength file k ws (rw (lt-leb 513 (length ws) h) refl)
+pub write_short : (file : List ℕ) (k : ℕ) (ws : List ℕ) → length ws < 513 → PathWritten (path.Refused why.PathBufferLength) file k ws ws
+unfolding number_to_path_call
+write_short file k ws h = refused-write why.PathBufferLength file k ws (rw (lt-leb 513 (length ws) h) refl)
 
 module _ (file : List ℕ) (k : ℕ) (ws : List ℕ) (h : 513 ≤ length ws) (cs ps : List ℕ) (a : LoadAnswer) (la : LoadTrue a file cs ps) where
-  pub write-netlist : (w : Refusal) → a ≡ load.Refused w → PathWritten (path.Refused w) file k ws ws
-  unfolding numberToPathCall
-  write-netlist w l =
-      let n : readNetlist file ≡ refused (refusalNumber w) = rw l at la in
+  pub write_netlist : (w : Refusal) → a ≡ load.Refused w → PathWritten (path.Refused w) file k ws ws
+  unfolding number_to_path_call
+  write_netlist w l =
+      let n : read_netlist file ≡ refused (refusal_number_of w) = rw l at la in
       refused-write w file k ws (rw (le-leb 513 (length ws) h, n) refl)
 
   module _ (shape : Shape) (total : ℕ) (l : a ≡ load.Legal shape total) where
@@ -41,30 +41,30 @@ module _ (file : List ℕ) (k : ℕ) (ws : List ℕ) (h : 513 ≤ length ws) (cs
     abbrev N : Netlist
     N = is.circuit
 
-    pub write-zero : k < 1 → PathWritten (path.Refused why.NoSuchNumber) file k ws ws
-    unfolding numberToPathCall
-    write-zero z = refused-write why.NoSuchNumber file k ws (rw (le-leb 513 (length ws) h, is.tables.legal, lt-leb 1 k z) refl)
+    pub write_zero : k < 1 → PathWritten (path.Refused why.NoSuchNumber) file k ws ws
+    unfolding number_to_path_call
+    write_zero z = refused-write why.NoSuchNumber file k ws (rw (le-leb 513 (length ws) h, is.tables.legal, lt-leb 1 k z) refl)
 
     module _ (low : 1 ≤ k) where
-      pub write-over : total < k → PathWritten (path.Refused why.NoSuchNumber) file k ws ws
-      unfolding numberToPathCall
-      write-over z =
-          let b : pathTotal N < k = omega (arith, is.totalIs) in
-          refused-write why.NoSuchNumber file k ws (rw (le-leb 513 (length ws) h, is.tables.legal, le-leb 1 k low, lt-leb k (pathTotal N) b) refl)
+      pub write_over : total < k → PathWritten (path.Refused why.NoSuchNumber) file k ws ws
+      unfolding number_to_path_call
+      write_over z =
+          let b : path_total N < k = omega (arith, is.total_is) in
+          refused-write why.NoSuchNumber file k ws (rw (le-leb 513 (length ws) h, is.tables.legal, le-leb 1 k low, lt-leb k (path_total N) b) refl)
 
       module _ (z : k ≤ total) where
-        high : k ≤ pathTotal N
-        high = omega (arith, is.totalIs)
+        high : k ≤ path_total N
+        high = omega (arith, is.total_is)
 
-        pub write-wanted : Wanted file ps cs shape k
-        write-wanted = record { circuit = N; tables = is.tables; low = low; high = high }
+        pub write_wanted : Wanted file ps cs shape k
+        write_wanted = record { circuit = N; tables = is.tables; low = low; high = high }
 
-        pub write_done : (left : List ℕ) → ((M : Netlist) → CircuitTables M file ps cs shape → left ≡ pathWritten (pathOf M k) ws)
+        pub write_done : (left : List ℕ) → ((M : Netlist) → CircuitTables M file ps cs shape → left ≡ path_written (path_of M k) ws)
             → PathWritten path.Written file k ws left
-        unfolding numberToPathCall numberToPathAnswer numberToPathBuffer
+        unfolding number_to_path_call number_to_path_answer number_to_path_buffer
         write_done left f =
-            let e : numberToPathCall file k ws ≡ value (pathOf N k) =
-            rw (le-leb 513 (length ws) h, is.tables.legal, le-leb 1 k low, le-leb k (pathTotal N) high) refl in
+            let e : number_to_path_call file k ws ≡ value (path_of N k) =
+            rw (le-leb 513 (length ws) h, is.tables.legal, le-leb 1 k low, le-leb k (path_total N) high) refl in
             record { answer = rw e refl; buffer = f N is.tables ∙ rw e refl }
 
-pub ruleset number-to-path-cases = (zeros-are, write-short, write-netlist, write-zero, write-over, write-wanted, write_done, needs)
+pub ruleset number-to-path-cases = (zeros-are, write_short, write_netlist, write_zero, write_over, write_wanted, write_done, needs)

@@ -5,7 +5,7 @@ use Rattle.model.proofs.Prelude.{add-one, arith, needs}
 use lib.ListN.{replicate-append-replicate}
 use lib.Seq.{drop-append-le}
 use Rattle.model.specs.Path.{CircuitPath}
-use Rattle.model.specs.Calls.{pathWritten, words_of}
+use Rattle.model.specs.Calls.{path_written, words_of}
 use Rattle.path_of_number.specs.Tasks.{blank}
 
 -- Zeros at the front
@@ -56,7 +56,7 @@ words (suc (suc m)) o pins ws h l =
     (drop-append-le k (replicate m 0) (drop (suc (suc m)) ws) b
     ∙ ap (λ (x : List ℕ). x ++ drop (suc (suc m)) ws) (drop-zeros k m (omega arith) ∙ ap (λ j. replicate j 0) f))
 
-pub buffer-is : (p : CircuitPath) (ws : List ℕ) → words_of p ++ (replicate (513 - length (words_of p)) 0 ++ drop 513 ws) ≡ pathWritten p ws
+pub buffer-is : (p : CircuitPath) (ws : List ℕ) → words_of p ++ (replicate (513 - length (words_of p)) 0 ++ drop 513 ws) ≡ path_written p ws
 buffer-is p ws = sym (append_assoc (words_of p) (replicate (513 - length (words_of p)) 0) (drop 513 ws))
 
 pub length-blank : (n : ℕ) (ws : List ℕ) → n ≤ length ws → length (blank n ws) ≡ length ws

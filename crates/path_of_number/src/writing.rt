@@ -1,8 +1,8 @@
 // The path of a number, found from the output back, each step at a lower net, and written into words.
 ghost use Rattle.std.specs.Prelude.{◌≡◌, ◌+◌, ◌<◌, ◌≤◌, length, get_or};
 ghost use Rattle.model.specs.Netlist.{Netlist};
-ghost use Rattle.model.specs.Path.{pathOf};
-ghost use Rattle.model.specs.Calls.{pathWritten, pathWords};
+ghost use Rattle.model.specs.Path.{path_of};
+ghost use Rattle.model.specs.Calls.{path_written, path_words};
 ghost use Rattle.netlist.specs.Tables.{CircuitTables, SomeTables};
 ghost use Rattle.path_of_number.specs.Tasks.{Wanted, PinsWritten, blank};
 
@@ -20,9 +20,9 @@ pub(crate) fn write_path(
     number: u64,
     path: &mut [u16],
 )
-    requires { Wanted netlist.now positions.now counts.now shape number × (pathWords ≤ length path.old) }
+    requires { Wanted netlist.now positions.now counts.now shape number × (path_words ≤ length path.old) }
     ensures { (N : Netlist) → CircuitTables N netlist.now positions.now counts.now shape
-        → path.new ≡ pathWritten (pathOf N number) path.old }
+        → path.new ≡ path_written (path_of N number) path.old }
 {
     let outputs = outputs_part(netlist, shape.outputs);
     let out = pick_output(outputs, shape.outputs, counts, shape.inputs, number);
@@ -36,8 +36,8 @@ pub(crate) fn write_path(
 
 // Zeros in the words that a path may fill.
 fn clear(path: &mut [u16])
-    requires { pathWords ≤ length path.old }
-    ensures { path.new ≡ blank pathWords path.old }
+    requires { path_words ≤ length path.old }
+    ensures { path.new ≡ blank path_words path.old }
 {
     let mut i = 0;
     while i < PATH_WORDS {

@@ -2,8 +2,8 @@
 use Rattle.model.proofs.Prelude.{ℕ, ◌≤◌, ◌<◌, ◌+◌, ◌-◌, suc, ◌≡◌, ◌∙◌, ap, refl, sym, subst, List, ◌∷◌, length, get_or, drop, drop_of_length-le}
 use Rattle.model.proofs.Prelude.{drop-cons, add-one, arith}
 use Rattle.model.specs.Base.{sum_of}
-use Rattle.model.specs.Path.{split, countsBefore}
-use Rattle.model.proofs.NumberLaws.{split-here, split-there, countsBefore-suc, countsBefore-le, countsBefore-all}
+use Rattle.model.specs.Path.{split, counts_before}
+use Rattle.model.proofs.NumberLaws.{split-here, split-there, counts_before-suc, counts_before-le, counts_before-all}
 
 -- Of number `i` among the counts `xs`, `rest` is left after the first `k` places
 pub record Passed (xs : List ℕ) (i k rest : ℕ) : Type 0 where
@@ -50,11 +50,11 @@ module _ (xs : List ℕ) (i k rest : ℕ) (there : k < length xs) (p : Passed xs
       }
 
 -- the counts before the next place
-pub before-next : (xs : List ℕ) (k : ℕ) → k < length xs → countsBefore (k + 1) xs ≡ countsBefore k xs + get_or xs k 0
-before-next xs k h = ap (λ j. countsBefore j xs) (add-one k) ∙ countsBefore-suc xs k h
+pub before-next : (xs : List ℕ) (k : ℕ) → k < length xs → counts_before (k + 1) xs ≡ counts_before k xs + get_or xs k 0
+before-next xs k h = ap (λ j. counts_before j xs) (add-one k) ∙ counts_before-suc xs k h
 
-pub before_small : (xs : List ℕ) (k : ℕ) → k < length xs → countsBefore k xs + get_or xs k 0 ≤ sum_of xs
-before_small xs k h = omega (arith, countsBefore-le xs k h)
+pub before_small : (xs : List ℕ) (k : ℕ) → k < length xs → counts_before k xs + get_or xs k 0 ≤ sum_of xs
+before_small xs k h = omega (arith, counts_before-le xs k h)
 
-pub before-whole : (xs : List ℕ) (k : ℕ) → k ≡ length xs → countsBefore k xs ≡ sum_of xs
-before-whole xs k e = ap (λ j. countsBefore j xs) e ∙ countsBefore-all xs
+pub before-whole : (xs : List ℕ) (k : ℕ) → k ≡ length xs → counts_before k xs ≡ sum_of xs
+before-whole xs k e = ap (λ j. counts_before j xs) e ∙ counts_before-all xs

@@ -2,8 +2,8 @@
 mod reading;
 
 ghost use Rattle.std.specs.Prelude.{◌≡◌};
-ghost use Rattle.model.specs.Calls.{pathToNumberCall};
-ghost use Rattle.path_to_number.specs.PathNumbers.{numberAnswer};
+ghost use Rattle.model.specs.Calls.{path_to_number_call};
+ghost use Rattle.path_to_number.specs.PathNumbers.{number_answer};
 
 use crate::reading::read_path;
 use model::Refusal;
@@ -18,7 +18,7 @@ pub enum NumberAnswer {
 
 // The number of the path in the words: output place, number of pins, then the pins.
 pub fn path_to_number(netlist: &[u8], path: &[u16]) -> NumberAnswer
-    ensures { numberAnswer result ≡ pathToNumberCall netlist.now path.now }
+    ensures { number_answer result ≡ path_to_number_call netlist.now path.now }
 {
     let mut counts = [0u64; 512];
     let mut positions = [0u16; 512];

@@ -2,7 +2,7 @@
 ghost use Rattle.std.specs.Prelude.{◌≡◌, ◌<◌};
 ghost use Rattle.model.specs.Netlist.{Netlist};
 ghost use Rattle.netlist.specs.Tables.{CircuitTables, SomeTables};
-ghost use Rattle.path_to_number.specs.PathNumbers.{number_in, partialNumber};
+ghost use Rattle.path_to_number.specs.PathNumbers.{number_in, partial_number};
 
 use netlist::inner::{Shape, gate_part, output_net, outputs_part, pin_net};
 use path_step::inner::outputs::outputs_before;
@@ -52,7 +52,7 @@ fn number_of(
 ) -> u64
     requires { SomeTables netlist.now positions.now counts.now shape × (net < shape.nets) }
     ensures { (N : Netlist) → CircuitTables N netlist.now positions.now counts.now shape
-        → result ≡ partialNumber N net pins.now }
+        → result ≡ partial_number N net pins.now }
 {
     if net < shape.inputs {
         if 0 < pins.len() {

@@ -2,14 +2,14 @@
 ghost use Rattle.std.specs.Prelude.{◌≡◌, length};
 ghost use Rattle.std.proofs.lemmas.List.Edits.{sets};
 ghost use Rattle.io.specs.Counts.{IsPrefixLen};
-ghost use Rattle.model.specs.Report.{sameBytes};
-ghost use Rattle.program_files.specs.Files.{ArgumentTold, NameTold, usualIn};
+ghost use Rattle.model.specs.Report.{same_bytes};
+ghost use Rattle.program_files.specs.Files.{ArgumentTold, NameTold, usual_in};
 
 use text_line::inner::put_text;
 
 // Whether two texts are the same.
 fn same_text(left: &[u8], right: &[u8]) -> bool
-    ensures { result ≡ sameBytes left.now right.now }
+    ensures { result ≡ same_bytes left.now right.now }
 {
     if left.len() != right.len() {
         return false;
@@ -36,8 +36,8 @@ pub fn is_argument(place: usize, word: &[u8]) -> bool
 // Puts the usual name at the start of a space; none where the space does not hold it.
 fn put_usual(usual: &[u8], space: &mut [u8]) -> usize
     ensures prefix_len { IsPrefixLen result space.new }
-    ensures value { (result ≡ length (usualIn usual.now space.old))
-        × (space.new ≡ sets space.old 0 (usualIn usual.now space.old)) }
+    ensures value { (result ≡ length (usual_in usual.now space.old))
+        × (space.new ≡ sets space.old 0 (usual_in usual.now space.old)) }
 {
     if space.len() < usual.len() {
         return 0;

@@ -1,8 +1,8 @@
 // The class of the tests, from a file with its one character.
 ghost use Rattle.std.specs.Prelude.{◌≡◌, length};
 ghost use Rattle.io.specs.Counts.{IsPrefixLen};
-ghost use Rattle.program_files.specs.Files.{wholeTold};
-ghost use Rattle.program_files.specs.ClassFile.{ClassTold, classChosen, classIn, classListed};
+ghost use Rattle.program_files.specs.Files.{whole_told};
+ghost use Rattle.program_files.specs.ClassFile.{ClassTold, class_chosen_of, class_in, class_listed};
 
 use crate::arguments::file_name;
 use crate::files::{Content, open_told, read_opened};
@@ -21,7 +21,7 @@ pub struct ClassRead {
 
 // The class that a file of such bytes chooses; the usual one where the file is missing.
 pub fn class_chosen(usual: u32, missing: bool, bytes: &[u8]) -> u32
-    ensures { result ≡ classChosen usual missing bytes.now }
+    ensures { result ≡ class_chosen_of usual missing bytes.now }
 {
     if missing {
         return usual;
@@ -43,7 +43,7 @@ pub fn class_chosen(usual: u32, missing: bool, bytes: &[u8]) -> u32
 // named only where an argument names it.
 fn load_class(place: usize, space: &mut [u8]) -> Content
     ensures prefix_len { IsPrefixLen result.bytes space.new }
-    ensures whole_value { result.whole ≡ wholeTold result (length space.new) }
+    ensures whole_value { result.whole ≡ whole_told result (length space.new) }
 {
     let mut name = io::buffer();
     let n = file_name(place, b"class.txt", &mut name);
@@ -53,7 +53,7 @@ fn load_class(place: usize, space: &mut [u8]) -> Content
 
 // The class in that file; the usual one where it is missing. Two bytes of space tell a longer file from one character.
 fn read_chosen(place: usize, usual: u32) -> ClassRead
-    ensures { ClassTold (classChosen usual) result }
+    ensures { ClassTold (class_chosen_of usual) result }
 {
     let mut space = [0u8; 2];
     let content = load_class(place, &mut space);
@@ -67,14 +67,14 @@ fn read_chosen(place: usize, usual: u32) -> ClassRead
 
 // The class in that file, for a report: an audited one is non-robust unless the audit is handed class 2.
 pub fn read_class(place: usize) -> ClassRead
-    ensures { ClassTold classIn result }
+    ensures { ClassTold class_in result }
 {
     read_chosen(place, NON_ROBUST)
 }
 
 // The same for a program that lists: robust when nothing is said.
 pub fn read_listed_class(place: usize) -> ClassRead
-    ensures { ClassTold classListed result }
+    ensures { ClassTold class_listed result }
 {
     read_chosen(place, ROBUST)
 }

@@ -3,7 +3,7 @@
 ghost use Rattle.std.specs.Prelude.{◌≡◌, false, not, ◌&&◌, ◌||◌, leb, length};
 ghost use Rattle.std.specs.Int.Signed.{non_neg};
 ghost use Rattle.io.specs.Counts.{IsPrefixLen};
-ghost use Rattle.program_files.specs.Files.{EndTold, endedBy, mayJudge, wholeTold};
+ghost use Rattle.program_files.specs.Files.{EndTold, ended_by, may_judge, whole_told};
 
 use crate::arguments::file_name;
 use crate::print_error;
@@ -76,7 +76,7 @@ pub fn file_size(fd: i32) -> i64 {
 
 // Whether a file is at its end, by what one more read gave, the size that the system told before and the place to which the reads have come.
 fn is_ended(got: isize, size: i64, place: i64) -> bool
-    ensures { result ≡ endedBy got size place }
+    ensures { result ≡ ended_by got size place }
 {
     if got != 0 {
         return false;
@@ -101,7 +101,7 @@ pub fn at_end(fd: i32, size: i64) -> bool
 // Closes a file that was read, or reads as empty where it is missing. Whether the program may judge by it: where it was not read whole, standard
 // error says so.
 pub fn close_file(name: &[u8], opened: Opened, whole: bool) -> bool
-    ensures { result ≡ mayJudge opened.missing (non_neg opened.fd) whole }
+    ensures { result ≡ may_judge opened.missing (non_neg opened.fd) whole }
 {
     if opened.missing {
         return true;
@@ -130,7 +130,7 @@ fn is_whole(bytes: usize, room: usize, ended: bool) -> bool
 // Reads the first bytes of a file that was opened, as many as the space holds, and closes it; none of a missing file.
 pub(crate) fn read_opened(name: &[u8], opened: Opened, space: &mut [u8]) -> Content
     ensures prefix_len { IsPrefixLen result.bytes space.new }
-    ensures whole_value { result.whole ≡ wholeTold result (length space.new) }
+    ensures whole_value { result.whole ≡ whole_told result (length space.new) }
 {
     let size = file_size(opened.fd);
     let bytes = io::read_full(opened.fd, space);
@@ -151,7 +151,7 @@ pub(crate) fn read_opened(name: &[u8], opened: Opened, space: &mut [u8]) -> Cont
 // Reads a file's first bytes, as many as the space holds; none of a missing file.
 pub fn load_file(name: &[u8], space: &mut [u8]) -> Content
     ensures prefix_len { IsPrefixLen result.bytes space.new }
-    ensures whole_value { result.whole ≡ wholeTold result (length space.new) }
+    ensures whole_value { result.whole ≡ whole_told result (length space.new) }
 {
     let opened = open_told(name, true);
     read_opened(name, opened, space)
@@ -160,7 +160,7 @@ pub fn load_file(name: &[u8], space: &mut [u8]) -> Content
 // The same of the file that an argument names, or of the usual one where there is no such argument.
 pub fn load_argument(place: usize, usual: &[u8], space: &mut [u8]) -> Content
     ensures prefix_len { IsPrefixLen result.bytes space.new }
-    ensures whole_value { result.whole ≡ wholeTold result (length space.new) }
+    ensures whole_value { result.whole ≡ whole_told result (length space.new) }
 {
     let mut name = io::buffer();
     let n = file_name(place, usual, &mut name);

@@ -2,13 +2,13 @@
 use Rattle.model.proofs.Prelude.{ℕ, ◌≡◌, ◌∙◌, sym, true, Bool, false, not, ◌||◌, List, [], ◌∷◌, length, leb, T, leb→le}
 use types.Run.{OneOf}
 use Rattle.model.specs.Base.{all_of}
-use Rattle.text_line.specs.Lines.{onLine}
-use Rattle.text_line.proofs.LineLaws.{onLine-alone}
+use Rattle.text_line.specs.Lines.{on_line}
+use Rattle.text_line.proofs.LineLaws.{on_line-alone}
 use Rattle.model_refusals.proofs.LaterTags.{one_of_all}
 
 -- the sentence of the case at hand
-pub said : (t y d : List ℕ) → y ≡ onLine [] t → T (leb (length t) 128) → d ≡ t → y ≡ d
-said t y d e h q = e ∙ onLine-alone t (leb→le (length t) 128 h) ∙ sym q
+pub said : (t y d : List ℕ) → y ≡ on_line [] t → T (leb (length t) 128) → d ≡ t → y ≡ d
+said t y d e h q = e ∙ on_line-alone t (leb→le (length t) 128 h) ∙ sym q
 
 -- a second test, where the first holds
 second_holds : (a b : Bool) → T (not a || b) → T a → T b

@@ -2,5 +2,5 @@
 use Rattle.std.specs.Prelude.{List, ℕ}
 use Rattle.text_line.specs.Lines.{ascii}
 
-abbrev pub versionText : List ℕ
-versionText = ascii "genduwal 1.15.0"
+abbrev pub version_text : List ℕ
+version_text = ascii "genduwal 1.15.0"

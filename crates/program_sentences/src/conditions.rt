@@ -1,9 +1,9 @@
 // The condition of each refusal as a plain sentence, in the order of the cases: a function for each group, which hands a later case on to the next.
 ghost use Rattle.std.specs.Prelude.{◌≡◌, T, leb, []};
-ghost use Rattle.text_line.specs.Lines.{text_of, onLine};
+ghost use Rattle.text_line.specs.Lines.{text_of, on_line};
 ghost use denote.Enum.Declared.{tag_of};
 ghost use Rattle.model.specs.contracts.Refusal.{the_type};
-ghost use Rattle.program_sentences.specs.Conditions.{conditionText};
+ghost use Rattle.program_sentences.specs.Conditions.{condition_text};
 
 use crate::print_line;
 use model::Refusal;
@@ -16,14 +16,14 @@ pub fn print_condition(fd: i32, why: Refusal) {
 
 // A sentence alone on a line.
 pub(crate) fn alone(sentence: &[u8]) -> Line
-    ensures { text_of result ≡ onLine [] sentence.now }
+    ensures { text_of result ≡ on_line [] sentence.now }
 {
     with_text(empty_line(), sentence)
 }
 
 // The condition of a refusal as a sentence: here those of lent memory, and of the header and the gates of a netlist.
 pub fn condition_line(why: Refusal) -> Line
-    ensures { text_of result ≡ conditionText why }
+    ensures { text_of result ≡ condition_text why }
 {
     match why {
         Refusal::StoreLength => alone(b"The store has not 4,099 words."),
@@ -51,7 +51,7 @@ pub fn condition_line(why: Refusal) -> Line
 
 // From the outputs of a netlist on: these, its end, test records, the store.
 fn line_from_outputs(why: Refusal) -> Line
-    ensures { T (leb 11 (tag_of the_type why)) → text_of result ≡ conditionText why }
+    ensures { T (leb 11 (tag_of the_type why)) → text_of result ≡ condition_text why }
 {
     match why {
         Refusal::OutputCut => alone(
@@ -81,7 +81,7 @@ fn line_from_outputs(why: Refusal) -> Line
 
 // From the work on: this, questions, reports, the netlist's buffer, .bench text.
 fn line_from_work(why: Refusal) -> Line
-    ensures { T (leb 22 (tag_of the_type why)) → text_of result ≡ conditionText why }
+    ensures { T (leb 22 (tag_of the_type why)) → text_of result ≡ condition_text why }
 {
     match why {
         Refusal::WorkingRuns => alone(b"A test makes over 1,024 working runs of an edge."),
@@ -113,7 +113,7 @@ fn line_from_work(why: Refusal) -> Line
 
 // From the class on: this, long paths, pairs, the tests of a store, trees, viewers, the exhaustive block. Nothing for a condition before it.
 fn line_from_class(why: Refusal) -> Line
-    ensures { T (leb 33 (tag_of the_type why)) → text_of result ≡ conditionText why }
+    ensures { T (leb 33 (tag_of the_type why)) → text_of result ≡ condition_text why }
 {
     match why {
         Refusal::UnknownClass => alone(b"The class of the tests is neither 1 nor 2."),

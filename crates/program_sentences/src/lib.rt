@@ -6,7 +6,7 @@ mod version;
 ghost use Rattle.std.specs.Prelude.{◌≡◌, take};
 ghost use Rattle.io.specs.Counts.{IsPrefixLen};
 ghost use Rattle.text_line.specs.Lines.{text_of};
-ghost use Rattle.text_buffer.specs.Written.{plainLine};
+ghost use Rattle.text_buffer.specs.Written.{plain_line};
 
 pub use conditions::{condition_line, print_condition};
 use text_buffer::inner::put_line;
@@ -28,7 +28,7 @@ pub struct EndedLine {
 
 // A line and its end.
 pub fn with_end(line: Line) -> EndedLine
-    ensures bytes_value { take result.length result.bytes ≡ plainLine (text_of line) }
+    ensures bytes_value { take result.length result.bytes ≡ plain_line (text_of line) }
     ensures prefix_len { IsPrefixLen result.length result.bytes }
 {
     let mut bytes = [0u8; ENDED_BYTES];

@@ -1,7 +1,7 @@
 // The version of all programs, that of the file VERSION.
 ghost use Rattle.std.specs.Prelude.{◌≡◌};
 ghost use Rattle.text_line.specs.Lines.{text_of};
-ghost use Rattle.program_sentences.specs.Version.{versionText};
+ghost use Rattle.program_sentences.specs.Version.{version_text};
 
 use crate::conditions::alone;
 use crate::print_line;
@@ -10,7 +10,7 @@ use text_line::Line;
 
 // What `--version` writes.
 pub fn version_line() -> Line
-    ensures { text_of result ≡ versionText }
+    ensures { text_of result ≡ version_text }
 {
     alone(b"genduwal 1.15.0")
 }

@@ -3,9 +3,9 @@ use Rattle.model.proofs.Prelude.{ℕ, ◌≤◌, ◌<◌, ◌+◌, ◌-◌, ◌*
 use Rattle.model.proofs.Prelude.{not, ◌||◌, Bool·beq, List, [], ◌∷◌, length, get_or, eqb, not-suc-le-zero, div-eq_of_lt, mod-lt, arith}
 use lib.Bits.{bit_and, bit_or, bit_xor, and_mask, and_shr, or_shr, xor_shr, and_mod, or_mod, xor_mod}
 use lib.Pow.{shr-shr, shl_exact, pow_pos}
-use Rattle.model.specs.Base.{bit, fromLittleEndian}
-use Rattle.model.specs.Read.{inputBit}
-use Rattle.model.proofs.BoolLaws.{le-or-lt}
+use Rattle.model.specs.Base.{bit, from_little_endian}
+use Rattle.model.specs.Read.{input_bit}
+use Rattle.model.proofs.BoolLaws.{le_or_lt}
 
 pub zero_bit : (j : ℕ) → bit 0 j ≡ false
 zero_bit j = rw (div-eq_of_lt {n = 0} {m = 2 ^ j} (pow_pos j)) refl
@@ -22,53 +22,53 @@ below_two x = mod-lt x (omega arith)
 pub word-digit : (word i : ℕ) → (bit_and (word / 2 ^ i) 1 < 2) × (eqb (bit_and (word / 2 ^ i) 1) 1 ≡ bit word i)
 word-digit word i = (rw (and_mask (word / 2 ^ i) 1) (below_two (word / 2 ^ i)), rw (and_mask (word / 2 ^ i) 1) refl)
 
-pub and-digit : (x y : ℕ) → x < 2 → y < 2 → eqb (bit_and x y) 1 ≡ (eqb x 1 && eqb y 1)
-and-digit zero zero h l = refl
-and-digit zero (suc zero) h l = refl
-and-digit zero (suc (suc y)) h l = absurd (omega arith)
-and-digit (suc zero) zero h l = refl
-and-digit (suc zero) (suc zero) h l = refl
-and-digit (suc zero) (suc (suc y)) h l = absurd (omega arith)
-and-digit (suc (suc x)) y h l = absurd (omega arith)
+pub and_digit : (x y : ℕ) → x < 2 → y < 2 → eqb (bit_and x y) 1 ≡ (eqb x 1 && eqb y 1)
+and_digit zero zero h l = refl
+and_digit zero (suc zero) h l = refl
+and_digit zero (suc (suc y)) h l = absurd (omega arith)
+and_digit (suc zero) zero h l = refl
+and_digit (suc zero) (suc zero) h l = refl
+and_digit (suc zero) (suc (suc y)) h l = absurd (omega arith)
+and_digit (suc (suc x)) y h l = absurd (omega arith)
 
-or-digit : (x y : ℕ) → x < 2 → y < 2 → eqb (bit_or x y) 1 ≡ (eqb x 1 || eqb y 1)
-or-digit zero zero h l = refl
-or-digit zero (suc zero) h l = refl
-or-digit zero (suc (suc y)) h l = absurd (omega arith)
-or-digit (suc zero) zero h l = refl
-or-digit (suc zero) (suc zero) h l = refl
-or-digit (suc zero) (suc (suc y)) h l = absurd (omega arith)
-or-digit (suc (suc x)) y h l = absurd (omega arith)
+or_digit : (x y : ℕ) → x < 2 → y < 2 → eqb (bit_or x y) 1 ≡ (eqb x 1 || eqb y 1)
+or_digit zero zero h l = refl
+or_digit zero (suc zero) h l = refl
+or_digit zero (suc (suc y)) h l = absurd (omega arith)
+or_digit (suc zero) zero h l = refl
+or_digit (suc zero) (suc zero) h l = refl
+or_digit (suc zero) (suc (suc y)) h l = absurd (omega arith)
+or_digit (suc (suc x)) y h l = absurd (omega arith)
 
-xor-digit : (x y : ℕ) → x < 2 → y < 2 → eqb (bit_xor x y) 1 ≡ not (Bool·beq (eqb x 1) (eqb y 1))
-xor-digit zero zero h l = refl
-xor-digit zero (suc zero) h l = refl
-xor-digit zero (suc (suc y)) h l = absurd (omega arith)
-xor-digit (suc zero) zero h l = refl
-xor-digit (suc zero) (suc zero) h l = refl
-xor-digit (suc zero) (suc (suc y)) h l = absurd (omega arith)
-xor-digit (suc (suc x)) y h l = absurd (omega arith)
+xor_digit : (x y : ℕ) → x < 2 → y < 2 → eqb (bit_xor x y) 1 ≡ not (Bool·beq (eqb x 1) (eqb y 1))
+xor_digit zero zero h l = refl
+xor_digit zero (suc zero) h l = refl
+xor_digit zero (suc (suc y)) h l = absurd (omega arith)
+xor_digit (suc zero) zero h l = refl
+xor_digit (suc zero) (suc zero) h l = refl
+xor_digit (suc zero) (suc (suc y)) h l = absurd (omega arith)
+xor_digit (suc (suc x)) y h l = absurd (omega arith)
 
 module _ (a b p : ℕ) where
-  pub and-bit : bit (bit_and a b) p ≡ (bit a p && bit b p)
-  and-bit =
+  pub and_bit : bit (bit_and a b) p ≡ (bit a p && bit b p)
+  and_bit =
       ap (λ x. eqb (x % 2) 1) (and_shr a b p) ∙ ap (λ x. eqb x 1) (and_mod (a / 2 ^ p) (b / 2 ^ p) 1)
-      ∙ and-digit (a / 2 ^ p % 2) (b / 2 ^ p % 2) (below_two (a / 2 ^ p)) (below_two (b / 2 ^ p))
+      ∙ and_digit (a / 2 ^ p % 2) (b / 2 ^ p % 2) (below_two (a / 2 ^ p)) (below_two (b / 2 ^ p))
 
-  pub or-bit : bit (bit_or a b) p ≡ (bit a p || bit b p)
-  or-bit =
+  pub or_bit : bit (bit_or a b) p ≡ (bit a p || bit b p)
+  or_bit =
       ap (λ x. eqb (x % 2) 1) (or_shr a b p) ∙ ap (λ x. eqb x 1) (or_mod (a / 2 ^ p) (b / 2 ^ p) 1)
-      ∙ or-digit (a / 2 ^ p % 2) (b / 2 ^ p % 2) (below_two (a / 2 ^ p)) (below_two (b / 2 ^ p))
+      ∙ or_digit (a / 2 ^ p % 2) (b / 2 ^ p % 2) (below_two (a / 2 ^ p)) (below_two (b / 2 ^ p))
 
-  pub xor-bit : bit (bit_xor a b) p ≡ not (Bool·beq (bit a p) (bit b p))
-  xor-bit =
+  pub xor_bit : bit (bit_xor a b) p ≡ not (Bool·beq (bit a p) (bit b p))
+  xor_bit =
       ap (λ x. eqb (x % 2) 1) (xor_shr a b p) ∙ ap (λ x. eqb x 1) (xor_mod (a / 2 ^ p) (b / 2 ^ p) 1)
-      ∙ xor-digit (a / 2 ^ p % 2) (b / 2 ^ p % 2) (below_two (a / 2 ^ p)) (below_two (b / 2 ^ p))
+      ∙ xor_digit (a / 2 ^ p % 2) (b / 2 ^ p % 2) (below_two (a / 2 ^ p)) (below_two (b / 2 ^ p))
 
 -- what moved to 1, and what moved from 1
 module _ (a b p : ℕ) where
   pub rise-bit : bit (bit_and (bit_xor a b) b) p ≡ (not (bit a p) && bit b p)
-  rise-bit = and-bit (bit_xor a b) b p ∙ ap (λ t. t && bit b p) (xor-bit a b p) ∙ rise (bit a p) (bit b p)
+  rise-bit = and_bit (bit_xor a b) b p ∙ ap (λ t. t && bit b p) (xor_bit a b p) ∙ rise (bit a p) (bit b p)
     where
       rise : (x y : Bool) → (not (Bool·beq x y) && y) ≡ (not x && y)
       rise true true = refl
@@ -77,7 +77,7 @@ module _ (a b p : ℕ) where
       rise false false = refl
 
   pub fall-bit : bit (bit_and (bit_xor a b) a) p ≡ (bit a p && not (bit b p))
-  fall-bit = and-bit (bit_xor a b) a p ∙ ap (λ t. t && bit a p) (xor-bit a b p) ∙ fall (bit a p) (bit b p)
+  fall-bit = and_bit (bit_xor a b) a p ∙ ap (λ t. t && bit a p) (xor_bit a b p) ∙ fall (bit a p) (bit b p)
     where
       fall : (x y : Bool) → (not (Bool·beq x y) && x) ≡ (x && not y)
       fall true true = refl
@@ -107,25 +107,25 @@ high-bytes b f j h =
     sym (shr-shr (b + 256 * f) 8 j) ∙ ap (λ x. x / 2 ^ j) q
 
 -- the bits of a number that is read from bytes, low byte first, are those of the packed vector
-pub word-bit : (bs : List ℕ) → ((i : ℕ) → get_or bs i 0 < 256) → (j : ℕ) → j / 8 < length bs → bit (fromLittleEndian bs) j ≡ inputBit bs j
+pub word-bit : (bs : List ℕ) → ((i : ℕ) → get_or bs i 0 < 256) → (j : ℕ) → j / 8 < length bs → bit (from_little_endian bs) j ≡ input_bit bs j
 word-bit [] s j h = absurd (not-suc-le-zero h)
 word-bit (b ∷ bs) s j h =
     ⊎_elim
     (λ (l : suc j ≤ 8).
     let d : j / 8 ≡ 0 = omega arith in
     let m : j % 8 ≡ j = omega arith in
-    ap (λ x. eqb x 1) (low_byte b (fromLittleEndian bs) j l)
+    ap (λ x. eqb x 1) (low_byte b (from_little_endian bs) j l)
     ∙ ap₂ (λ x y. eqb (get_or (b ∷ bs) x 0 / 2 ^ y % 2) 1) (sym d) (sym m))
     (λ (l : 8 < suc j).
     let i : j ≡ 8 + (j - 8) = omega arith in
     let d : suc ((j - 8) / 8) ≡ j / 8 = omega arith in
     let m : (j - 8) % 8 ≡ j % 8 = omega arith in
     let s₀ : b < 256 = s 0 in
-    let w : bit (fromLittleEndian (b ∷ bs)) (8 + (j - 8)) ≡ bit (fromLittleEndian bs) (j - 8) =
-    ap (λ x. eqb (x % 2) 1) (high-bytes b (fromLittleEndian bs) (j - 8) s₀) in
-    ap (λ x. bit (fromLittleEndian (b ∷ bs)) x) i ∙ w ∙ word-bit bs (λ k. s (suc k)) (j - 8) (omega arith)
+    let w : bit (from_little_endian (b ∷ bs)) (8 + (j - 8)) ≡ bit (from_little_endian bs) (j - 8) =
+    ap (λ x. eqb (x % 2) 1) (high-bytes b (from_little_endian bs) (j - 8) s₀) in
+    ap (λ x. bit (from_little_endian (b ∷ bs)) x) i ∙ w ∙ word-bit bs (λ k. s (suc k)) (j - 8) (omega arith)
     ∙ ap₂ (λ x y. eqb (get_or (b ∷ bs) x 0 / 2 ^ y % 2) 1) d m)
-    (le-or-lt (suc j) 8)
+    (le_or_lt (suc j) 8)
 
 -- a digit from its test
 digit-same : (x y : ℕ) → x < 2 → y < 2 → eqb x 1 ≡ eqb y 1 → x ≡ y

@@ -3,22 +3,22 @@ use Rattle.model.proofs.Prelude.{ℕ, ◌≤◌, ◌<◌, ◌+◌, ◌-◌, ◌*
 use Rattle.model.proofs.Prelude.{get_or, T, eqb, arith}
 use lib.Bits.{bit_and}
 use Rattle.model.proofs.BoolLaws.{beq→}
-use Rattle.model.specs.Base.{all_of, numbersFrom, bit}
-use Rattle.model.specs.Read.{inputBit, vectorBytes, spareZero}
-use Rattle.model.proofs.ListLaws.{allOf-at, length-numbersFrom, numbersFrom-at}
+use Rattle.model.specs.Base.{all_of, numbers_from, bit}
+use Rattle.model.specs.Read.{input_bit, vector_bytes_of, spare_zero_of}
+use Rattle.model.proofs.ListLaws.{all_of_at, length-numbers_from, numbers_from-at}
 
 -- the `m` bits of the byte `b` from bit `k` on are zero
 clear : ℕ → ℕ → ℕ → Bool
-clear b k m = all_of (λ j. not (bit b j)) (numbersFrom k m)
+clear b k m = all_of (λ j. not (bit b j)) (numbers_from k m)
 
-in-byte : (bs : List ℕ) (n m : ℕ) → n % 8 + m ≤ 8 → all_of (λ j. not (inputBit bs j)) (numbersFrom n m) ≡ clear (get_or bs (n / 8) 0) (n % 8) m
+in_byte : (bs : List ℕ) (n m : ℕ) → n % 8 + m ≤ 8 → all_of (λ j. not (input_bit bs j)) (numbers_from n m) ≡ clear (get_or bs (n / 8) 0) (n % 8) m
 unfolding clear
-in-byte bs n zero h = refl
-in-byte bs n (suc zero) h = refl
-in-byte bs n (suc (suc m)) h =
+in_byte bs n zero h = refl
+in_byte bs n (suc zero) h = refl
+in_byte bs n (suc (suc m)) h =
     let q : suc n / 8 ≡ n / 8 = omega arith in
     let r : suc n % 8 ≡ suc (n % 8) = omega arith in
-    ap (λ (t : Bool). not (inputBit bs n) && t) (in-byte bs (suc n) (suc m) (omega arith) ∙ rw (q, r))
+    ap (λ (t : Bool). not (input_bit bs n) && t) (in_byte bs (suc n) (suc m) (omega arith) ∙ rw (q, r))
 
 -- the mask of the bits from bit `k` on finds none set in the byte `b`
 masked : ℕ → ℕ → Bool
@@ -29,26 +29,26 @@ agree : ℕ → Bool
 agree n = Bool·beq (masked (n / 8) (n % 8)) (clear (n / 8) (n % 8) (8 - n % 8))
 
 -- at every byte and every first spare bit, by computing
-mask-clear : (b k : ℕ) → b < 256 → k < 8 → masked b k ≡ clear b k (8 - k)
+mask_clear : (b k : ℕ) → b < 256 → k < 8 → masked b k ≡ clear b k (8 - k)
 unfolding agree masked clear
-mask-clear b k hb hk =
+mask_clear b k hb hk =
     let n = b * 8 + k in
     let q : (b * 8 + k) / 8 ≡ b = omega arith in
     let r : (b * 8 + k) % 8 ≡ k = omega arith in
-    let place : get_or (numbersFrom 0 2048) (b * 8 + k) 0 ≡ b * 8 + k = omega (arith, numbersFrom-at 2048 0 (b * 8 + k) (omega arith)) in
-    let all : T (agree (get_or (numbersFrom 0 2048) (b * 8 + k) 0)) = allOf-at agree (numbersFrom 0 2048) 0 tt (b * 8 + k) (omega (arith, length-numbersFrom 0 2048)) in
+    let place : get_or (numbers_from 0 2048) (b * 8 + k) 0 ≡ b * 8 + k = omega (arith, numbers_from-at 2048 0 (b * 8 + k) (omega arith)) in
+    let all : T (agree (get_or (numbers_from 0 2048) (b * 8 + k) 0)) = all_of_at agree (numbers_from 0 2048) 0 tt (b * 8 + k) (omega (arith, length-numbers_from 0 2048)) in
     beq→ (masked b k) (clear b k (8 - k)) (rw (place, q, r) at all)
 
 -- A vector of whole bytes has no spare bit
-pub spare-none : (bs : List ℕ) (n : ℕ) → n % 8 ≡ 0 → true ≡ spareZero n bs
+pub spare-none : (bs : List ℕ) (n : ℕ) → n % 8 ≡ 0 → true ≡ spare_zero_of n bs
 spare-none bs n z =
-    let q : 8 * vectorBytes n - n ≡ 0 = omega arith in
+    let q : 8 * vector_bytes_of n - n ≡ 0 = omega arith in
     rw q refl
 
 -- Else they are the bits of the byte where input `n` would be, from its bit on
 pub spare-mask : (bs : List ℕ) (n : ℕ) → (n % 8 ≡ 0 → ⊥) → get_or bs (n / 8) 0 < 256
-    → eqb (bit_and (get_or bs (n / 8) 0) ((255 * 2 ^ (n % 8)) % 256)) 0 ≡ spareZero n bs
+    → eqb (bit_and (get_or bs (n / 8) 0) ((255 * 2 ^ (n % 8)) % 256)) 0 ≡ spare_zero_of n bs
 unfolding masked
 spare-mask bs n h b =
-    let q : 8 * vectorBytes n - n ≡ 8 - n % 8 = omega arith in
-    mask-clear (get_or bs (n / 8) 0) (n % 8) b (omega arith) ∙ sym (in-byte bs n (8 - n % 8) (omega arith)) ∙ rw q refl
+    let q : 8 * vector_bytes_of n - n ≡ 8 - n % 8 = omega arith in
+    mask_clear (get_or bs (n / 8) 0) (n % 8) b (omega arith) ∙ sym (in_byte bs n (8 - n % 8) (omega arith)) ∙ rw q refl

@@ -1,9 +1,9 @@
 // Fields of bytes low byte first, marks, and the spare bits of packed vectors. Each caller proves what a function requires.
 ghost use Rattle.std.specs.Prelude.{◌≡◌, ◌&&◌, ◌+◌, ◌≤◌, ◌<◌, length, take, drop, leb};
 ghost use Rattle.std.proofs.lemmas.List.Edits.{sets};
-ghost use Rattle.model.specs.Base.{littleEndian, field};
-ghost use Rattle.model.specs.Read.{marked, vectorBytes, spareZero};
-ghost use Rattle.model.specs.Report.{sameBytes};
+ghost use Rattle.model.specs.Base.{little_endian, field};
+ghost use Rattle.model.specs.Read.{marked, vector_bytes_of, spare_zero_of};
+ghost use Rattle.model.specs.Report.{same_bytes};
 
 // A byte as a number of full width.
 pub fn wide(x: u8) -> usize
@@ -45,8 +45,8 @@ pub fn begins_with(s: &[u8], least: usize, first: u8, second: u8) -> bool
 
 // Whether the spare bits of a packed vector are zero. Bytes after the vector are not looked at.
 pub fn spare_zero(vector: &[u8], inputs: usize) -> bool
-    requires { (0 < inputs) × (vectorBytes inputs ≤ length vector.now) }
-    ensures { result ≡ spareZero inputs vector.now }
+    requires { (0 < inputs) × (vector_bytes_of inputs ≤ length vector.now) }
+    ensures { result ≡ spare_zero_of inputs vector.now }
 {
     let used = (inputs & 7) as u8;
     if used == 0 {
@@ -58,7 +58,7 @@ pub fn spare_zero(vector: &[u8], inputs: usize) -> bool
 // Writes the k low bytes of a number from a place on.
 pub fn put(s: &mut [u8], at: usize, k: usize, number: u64)
     requires { at + k ≤ length s.old }
-    ensures { s.new ≡ sets s.old at (littleEndian k number) }
+    ensures { s.new ≡ sets s.old at (little_endian k number) }
 {
     let mut place = at;
     let mut left = k;
@@ -74,7 +74,7 @@ pub fn put(s: &mut [u8], at: usize, k: usize, number: u64)
 // Whether the k bytes from a place on are the k low bytes of a number.
 pub fn same(s: &[u8], at: usize, k: usize, number: u64) -> bool
     requires { at + k ≤ length s.now }
-    ensures { result ≡ sameBytes (take k (drop at s.now)) (littleEndian k number) }
+    ensures { result ≡ same_bytes (take k (drop at s.now)) (little_endian k number) }
 {
     let mut place = at;
     let mut left = k;

@@ -1,8 +1,8 @@
 // A test record, from the part of the file that begins at its mark: its checks, its vectors as words, and the edges of its inputs.
 // Each caller proves what a function requires.
 ghost use Rattle.std.specs.Prelude.{◌≡◌, ◌+◌, ◌*◌, ◌<◌, ◌≤◌, T, length, take};
-ghost use Rattle.model.specs.Base.{fromLittleEndian};
-ghost use Rattle.model.specs.Read.{vectorBytes, spareZero, someChange};
+ghost use Rattle.model.specs.Base.{from_little_endian};
+ghost use Rattle.model.specs.Read.{vector_bytes_of, spare_zero_of, some_change_of};
 ghost use Rattle.record_test.specs.Records.{RecordTrue, VectorsTrue, EdgesTrue};
 
 use model::Refusal;
@@ -32,7 +32,7 @@ pub struct InputEdges {
 // The bytes of a vector of so many inputs.
 pub fn vector_bytes(inputs: usize) -> usize
     requires { inputs ≤ 64 }
-    ensures { (result ≡ vectorBytes inputs) × (result ≤ 8) }
+    ensures { (result ≡ vector_bytes_of inputs) × (result ≤ 8) }
 {
     (inputs + 7) / 8
 }
@@ -40,16 +40,16 @@ pub fn vector_bytes(inputs: usize) -> usize
 // The bytes of a test record.
 pub fn record_length(inputs: usize) -> usize
     requires { inputs ≤ 64 }
-    ensures { (result ≡ 2 + 2 * vectorBytes inputs) × (2 ≤ result) × (result ≤ 18) }
+    ensures { (result ≡ 2 + 2 * vector_bytes_of inputs) × (2 ≤ result) × (result ≤ 18) }
 {
     2 + 2 * vector_bytes(inputs)
 }
 
 // Whether some input of a pair is changed. With spare bits of zero an input is changed exactly where a byte is.
 fn some_change(v1: &[u8], v2: &[u8], inputs: usize) -> bool
-    requires { (inputs ≤ 64) × (vectorBytes inputs ≤ length v1.now) × (vectorBytes inputs ≤ length v2.now)
-        × T (spareZero inputs v1.now) × T (spareZero inputs v2.now) }
-    ensures { result ≡ someChange inputs v1.now v2.now }
+    requires { (inputs ≤ 64) × (vector_bytes_of inputs ≤ length v1.now) × (vector_bytes_of inputs ≤ length v2.now)
+        × T (spare_zero_of inputs v1.now) × T (spare_zero_of inputs v2.now) }
+    ensures { result ≡ some_change_of inputs v1.now v2.now }
 {
     let bytes = vector_bytes(inputs);
     let mut k = 0;
@@ -93,7 +93,7 @@ pub fn check_record(test: &[u8], inputs: usize) -> RecordAnswer
 // The first bytes of a part as a number, low byte first.
 fn word_of(part: &[u8], bytes: usize) -> u64
     requires { (bytes ≤ 8) × (bytes ≤ length part.now) }
-    ensures { result ≡ fromLittleEndian (take bytes part.now) }
+    ensures { result ≡ from_little_endian (take bytes part.now) }
 {
     let mut word: u64 = 0;
     let mut k = bytes;
@@ -106,7 +106,7 @@ fn word_of(part: &[u8], bytes: usize) -> u64
 
 // The vectors of a legal record.
 pub fn read_vectors(test: &[u8], inputs: usize) -> Vectors
-    requires { (inputs ≤ 64) × (length test.now ≡ 2 + 2 * vectorBytes inputs) }
+    requires { (inputs ≤ 64) × (length test.now ≡ 2 + 2 * vector_bytes_of inputs) }
     ensures { VectorsTrue result inputs test.now }
 {
     let bytes = vector_bytes(inputs);

@@ -2,38 +2,38 @@
 use Rattle.model.proofs.Prelude.{ℕ, ◌≤◌, ◌<◌, ◌+◌, ◌*◌, ◌^◌, ◌/◌, ◌≡◌, ◌∙◌, ap, refl, sym, ap₂, List, ◌++◌, append_assoc, length, drop, length-append}
 use Rattle.model.proofs.Prelude.{sets, sets-eq, arith, needs, le-leb, lt-leb, ne_eqb, eq-eqb}
 use Rattle.model.specs.Base.{refused, value, checks}
-use Rattle.model.specs.Netlist.{pathTotal}
+use Rattle.model.specs.Netlist.{path_total}
 use Rattle.model.specs.Path.{rising, falling}
-use Rattle.model.specs.Refusals.{refusalNumber}
-use Rattle.model.specs.Store.{testsTaken, runsByEdge, storeWords, storeRules}
-use Rattle.model.specs.Report.{reportRecord, reportBufferBytes, writerCall, writerAnswer, writerBuffer}
+use Rattle.model.specs.Refusals.{refusal_number_of}
+use Rattle.model.specs.Store.{tests_taken_of, runs_by_edge, store_words_count, store_rules}
+use Rattle.model.specs.Report.{report_record, report_buffer_bytes, writer_call, writer_answer, writer_buffer}
 use Rattle.model.specs.declared.Refusal.{Refusal}
 use Rattle.model.specs.declared.Refusal.TheVariants as why
 use Rattle.netlist.specs.Answers.{SurveyTrue}
 use Rattle.netlist.specs.declared.SurveyAnswer.TheVariants as survey
 use Rattle.netlist.specs.declared.Surveyed.{Surveyed}
 use Rattle.netlist.proofs.LoadLaws.{LegalSurvey, legal-survey, paths-fit, refused-survey}
-use Rattle.store_words.specs.WordAnswers.{checkOf, totalsIn, totalsBoth}
-use Rattle.store_words.specs.Sound.{SoundWords, edgeWords}
+use Rattle.store_words.specs.WordAnswers.{check_of, totals_in, totals_both}
+use Rattle.store_words.specs.Sound.{SoundWords, edge_words}
 use Rattle.store_words.specs.declared.inner.StoreCheck.{StoreCheck}
 use Rattle.store_words.specs.declared.inner.StoreCheck.TheVariants as check
 use Rattle.store_words.specs.declared.inner.StoreTotals.{StoreTotals}
-use Rattle.store_words.proofs.SoundLaws.{checked-sound}
+use Rattle.store_words.proofs.SoundLaws.{checked_sound}
 use Rattle.report.specs.Answers.{WriteTrue}
-use Rattle.report_bytes.specs.Layout.{word_bytes, headBytes}
+use Rattle.report_bytes.specs.Layout.{word_bytes, head_bytes}
 use Rattle.report.specs.ReportWriting.{ReportPut}
 use Rattle.report.specs.declared.WriteAnswer.TheVariants as write
 use Rattle.report_bytes.proofs.HeadLaws.{next-put}
-use Rattle.report.proofs.ReportPartLaws.{length-words, report-parts, length-head, length_whole, edge_few, record-fits}
+use Rattle.report.proofs.ReportPartLaws.{length-words, report-parts, length-head, length_whole, edge_few, record_fits}
 
 -- the head, then the words of both edges' runs
-pub report-put : (tests paths : ℕ) (ws : List ℕ) → SoundWords (2 ^ 62) ws → (R F : List ℕ) → R ≡ edgeWords ws rising → F ≡ edgeWords ws falling
-    → (t : StoreTotals) → totalsIn t ≡ totalsBoth ws → (b b₁ b₂ b₃ : List ℕ)
-    → b₁ ≡ sets b 0 (headBytes tests paths (length R / 2) (length F / 2) t.rising t.falling)
+pub report-put : (tests paths : ℕ) (ws : List ℕ) → SoundWords (2 ^ 62) ws → (R F : List ℕ) → R ≡ edge_words ws rising → F ≡ edge_words ws falling
+    → (t : StoreTotals) → totals_in t ≡ totals_both ws → (b b₁ b₂ b₃ : List ℕ)
+    → b₁ ≡ sets b 0 (head_bytes tests paths (length R / 2) (length F / 2) t.rising t.falling)
     → b₂ ≡ sets b₁ 34 (word_bytes R) → b₃ ≡ sets b₂ (34 + 8 * length R) (word_bytes F)
     → ReportPut (34 + 8 * length R + 8 * length F) tests paths ws b b₃
 report-put tests paths ws sound R F er ef t q b b₁ b₂ b₃ p₁ p₂ p₃ =
-    let H : List ℕ = headBytes tests paths (length R / 2) (length F / 2) t.rising t.falling in
+    let H : List ℕ = head_bytes tests paths (length R / 2) (length F / 2) t.rising t.falling in
     let long = length-head ws sound.few tests paths R F er ef t q in
     let r : b₂ ≡ sets b 0 (H ++ word_bytes R) = next-put b b₁ b₂ H (word_bytes R) 34 p₁ p₂ (sym long) in
     let j : 34 + 8 * length R ≡ length (H ++ word_bytes R) = omega (arith, length-append H (word_bytes R), long, length-words R) in
@@ -45,81 +45,81 @@ report-put tests paths ws sound R F er ef t q b b₁ b₂ b₃ p₁ p₂ p₃ =
     }
 
 -- there is room for them
-module _ (ws : List ℕ) (sound : SoundWords (2 ^ 62) ws) (R : List ℕ) (er : R ≡ edgeWords ws rising) where
-  pub rising-room : (b b₁ : List ℕ) → reportBufferBytes ≤ length b → length b₁ ≡ length b → 34 + 8 * length R ≤ length b₁
+module _ (ws : List ℕ) (sound : SoundWords (2 ^ 62) ws) (R : List ℕ) (er : R ≡ edge_words ws rising) where
+  pub rising-room : (b b₁ : List ℕ) → report_buffer_bytes ≤ length b → length b₁ ≡ length b → 34 + 8 * length R ≤ length b₁
   rising-room b b₁ h k = omega (arith, edge_few sound rising er)
 
-  module _ (F : List ℕ) (ef : F ≡ edgeWords ws falling) where
-    pub falling-room : (b b₁ b₂ : List ℕ) → reportBufferBytes ≤ length b → length b₁ ≡ length b → length b₂ ≡ length b₁
+  module _ (F : List ℕ) (ef : F ≡ edge_words ws falling) where
+    pub falling-room : (b b₁ b₂ : List ℕ) → report_buffer_bytes ≤ length b → length b₁ ≡ length b → length b₂ ≡ length b₁
         → 34 + 8 * length R + 8 * length F ≤ length b₂
     falling-room b b₁ b₂ h k m = omega (arith, edge_few sound rising er, edge_few sound falling ef)
 
-    pub record-small : 34 + 8 * length R + 8 * length F < 2 ^ 64
-    record-small = omega (arith, edge_few sound rising er, edge_few sound falling ef)
+    pub record_small : 34 + 8 * length R + 8 * length F < 2 ^ 64
+    record_small = omega (arith, edge_few sound rising er, edge_few sound falling ef)
 
-pub ruleset put-report-cases = (rising-room, falling-room, record-small, needs)
+pub ruleset put-report-cases = (rising-room, falling-room, record_small, needs)
 
 module _ (netlist ws buffer : List ℕ) where
-  pub writer-store : (length ws ≡ storeWords → ⊥) → WriteTrue (write.Refused why.StoreLength) netlist ws buffer buffer
-  unfolding writerCall writerAnswer writerBuffer
-  writer-store d = record { answer = rw (ne_eqb (length ws) storeWords d) refl; buffer = rw (ne_eqb (length ws) storeWords d) refl }
+  pub writer_store : (length ws ≡ store_words_count → ⊥) → WriteTrue (write.Refused why.StoreLength) netlist ws buffer buffer
+  unfolding writer_call writer_answer writer_buffer
+  writer_store d = record { answer = rw (ne_eqb (length ws) store_words_count d) refl; buffer = rw (ne_eqb (length ws) store_words_count d) refl }
 
-  module _ (l : length ws ≡ storeWords) where
-    pub writer-short : length buffer < reportBufferBytes → WriteTrue (write.Refused why.ReportBufferLength) netlist ws buffer buffer
-    unfolding writerCall writerAnswer writerBuffer
-    writer-short h = record {
-      answer = rw (eq-eqb (length ws) storeWords l, lt-leb reportBufferBytes (length buffer) h) refl;
-      buffer = rw (eq-eqb (length ws) storeWords l, lt-leb reportBufferBytes (length buffer) h) refl;
+  module _ (l : length ws ≡ store_words_count) where
+    pub writer_short : length buffer < report_buffer_bytes → WriteTrue (write.Refused why.ReportBufferLength) netlist ws buffer buffer
+    unfolding writer_call writer_answer writer_buffer
+    writer_short h = record {
+      answer = rw (eq-eqb (length ws) store_words_count l, lt-leb report_buffer_bytes (length buffer) h) refl;
+      buffer = rw (eq-eqb (length ws) store_words_count l, lt-leb report_buffer_bytes (length buffer) h) refl;
     }
 
-    module _ (h : reportBufferBytes ≤ length buffer) (s : Surveyed) (st : SurveyTrue s netlist) where
-      pub writer-netlist : (w : Refusal) → s.answer ≡ survey.Refused w → WriteTrue (write.Refused w) netlist ws buffer buffer
-      unfolding writerCall writerAnswer writerBuffer
-      writer-netlist w e =
+    module _ (h : report_buffer_bytes ≤ length buffer) (s : Surveyed) (st : SurveyTrue s netlist) where
+      pub writer_netlist : (w : Refusal) → s.answer ≡ survey.Refused w → WriteTrue (write.Refused w) netlist ws buffer buffer
+      unfolding writer_call writer_answer writer_buffer
+      writer_netlist w e =
           let z = refused-survey netlist s.answer st.answer w e in
           record {
-            answer = rw (eq-eqb (length ws) storeWords l, le-leb reportBufferBytes (length buffer) h, z) refl;
-            buffer = rw (eq-eqb (length ws) storeWords l, le-leb reportBufferBytes (length buffer) h, z) refl;
+            answer = rw (eq-eqb (length ws) store_words_count l, le-leb report_buffer_bytes (length buffer) h, z) refl;
+            buffer = rw (eq-eqb (length ws) store_words_count l, le-leb report_buffer_bytes (length buffer) h, z) refl;
           }
 
       module _ (e : s.answer ≡ survey.Legal) where
         is : LegalSurvey netlist s.survey
         is = legal-survey netlist s.survey s.answer st.answer st.survey e
 
-        pub writer-total : s.survey.total ≤ 2 ^ 62
-        writer-total = paths-fit netlist s st e
+        pub writer_total : s.survey.total ≤ 2 ^ 62
+        writer_total = paths-fit netlist s st e
 
-        module _ (k : StoreCheck) (checked : checkOf k ≡ checks (storeRules s.survey.total ws)) where
-          rules : checkOf k ≡ checks (storeRules (pathTotal is.netlist) ws)
-          rules = checked ∙ ap (λ t. checks (storeRules t ws)) is.totalIs
+        module _ (k : StoreCheck) (checked : check_of k ≡ checks (store_rules s.survey.total ws)) where
+          rules : check_of k ≡ checks (store_rules (path_total is.netlist) ws)
+          rules = checked ∙ ap (λ t. checks (store_rules t ws)) is.total_is
 
-          pub writer-words : (w : Refusal) → k ≡ check.Refused w → WriteTrue (write.Refused w) netlist ws buffer buffer
-          unfolding writerCall writerAnswer writerBuffer
-          writer-words w f =
-              let z : checks (storeRules (pathTotal is.netlist) ws) ≡ refused (refusalNumber w) = sym rules ∙ ap checkOf f in
+          pub writer_words : (w : Refusal) → k ≡ check.Refused w → WriteTrue (write.Refused w) netlist ws buffer buffer
+          unfolding writer_call writer_answer writer_buffer
+          writer_words w f =
+              let z : checks (store_rules (path_total is.netlist) ws) ≡ refused (refusal_number_of w) = sym rules ∙ ap check_of f in
               record {
-                answer = rw (eq-eqb (length ws) storeWords l, le-leb reportBufferBytes (length buffer) h, is.isRead) (rw z refl);
-                buffer = rw (eq-eqb (length ws) storeWords l, le-leb reportBufferBytes (length buffer) h, is.isRead) (rw z refl);
+                answer = rw (eq-eqb (length ws) store_words_count l, le-leb report_buffer_bytes (length buffer) h, is.is_read) (rw z refl);
+                buffer = rw (eq-eqb (length ws) store_words_count l, le-leb report_buffer_bytes (length buffer) h, is.is_read) (rw z refl);
               }
 
           module _ (f : k ≡ check.Sound) where
-            pub writer-sound : SoundWords (2 ^ 62) ws
-            writer-sound = checked-sound s.survey.total ws k checked l writer-total f
+            pub writer_sound : SoundWords (2 ^ 62) ws
+            writer_sound = checked_sound s.survey.total ws k checked l writer_total f
 
-            pub writer-written : (tests r : ℕ) (left : List ℕ) → tests ≡ testsTaken ws → ReportPut r tests s.survey.total ws buffer left
+            pub writer_written : (tests r : ℕ) (left : List ℕ) → tests ≡ tests_taken_of ws → ReportPut r tests s.survey.total ws buffer left
                 → WriteTrue (write.Written r) netlist ws buffer left
-            unfolding writerCall writerAnswer writerBuffer
-            writer-written tests r left et p =
-                let R : List ℕ = reportRecord (testsTaken ws) (pathTotal is.netlist) (runsByEdge ws) in
-                let z : checks (storeRules (pathTotal is.netlist) ws) ≡ value tt = sym rules ∙ ap checkOf f in
-                let same : reportRecord tests s.survey.total (runsByEdge ws) ≡ R = ap₂ (λ n t. reportRecord n t (runsByEdge ws)) et is.totalIs in
-                let fits : length R ≤ length buffer = omega (arith, record-fits (testsTaken ws) (pathTotal is.netlist) ws writer-sound.few) in
+            unfolding writer_call writer_answer writer_buffer
+            writer_written tests r left et p =
+                let R : List ℕ = report_record (tests_taken_of ws) (path_total is.netlist) (runs_by_edge ws) in
+                let z : checks (store_rules (path_total is.netlist) ws) ≡ value tt = sym rules ∙ ap check_of f in
+                let same : report_record tests s.survey.total (runs_by_edge ws) ≡ R = ap₂ (λ n t. report_record n t (runs_by_edge ws)) et is.total_is in
+                let fits : length R ≤ length buffer = omega (arith, record_fits (tests_taken_of ws) (path_total is.netlist) ws writer_sound.few) in
                 let n : 0 + length R ≡ length R = omega arith in
                 let put : left ≡ R ++ drop (length R) buffer =
                 p.bytes ∙ ap (λ (x : List ℕ). sets buffer 0 x) same ∙ sets-eq R buffer 0 (omega arith) ∙ ap (λ (i : ℕ). R ++ drop i buffer) n in
                 record {
-                  answer = rw (eq-eqb (length ws) storeWords l, le-leb reportBufferBytes (length buffer) h, is.isRead) (rw z (ap value (p.size ∙ ap (length {A = ℕ}) same)));
-                  buffer = put ∙ rw (eq-eqb (length ws) storeWords l, le-leb reportBufferBytes (length buffer) h, is.isRead) (rw z refl);
+                  answer = rw (eq-eqb (length ws) store_words_count l, le-leb report_buffer_bytes (length buffer) h, is.is_read) (rw z (ap value (p.size ∙ ap (length {A = ℕ}) same)));
+                  buffer = put ∙ rw (eq-eqb (length ws) store_words_count l, le-leb report_buffer_bytes (length buffer) h, is.is_read) (rw z refl);
                 }
 
-pub ruleset writer-cases = (writer-store, writer-short, writer-netlist, writer-total, writer-words, writer-sound, writer-written, needs)
+pub ruleset writer-cases = (writer_store, writer_short, writer_netlist, writer_total, writer_words, writer_sound, writer_written, needs)

@@ -1,9 +1,9 @@
 // A report compared with a store's words in place, for our own crates.
 ghost use Rattle.std.specs.Prelude.{◌≡◌, ◌^◌};
 ghost use Rattle.model.specs.Base.{checks};
-ghost use Rattle.model.specs.Store.{runsByEdge};
-ghost use Rattle.model.specs.Report.{sameBytes, reportRecord, reportRules};
-ghost use Rattle.report.specs.Answers.{comparedOf};
+ghost use Rattle.model.specs.Store.{runs_by_edge};
+ghost use Rattle.model.specs.Report.{same_bytes, report_record, report_rules};
+ghost use Rattle.report.specs.Answers.{compared_of};
 ghost use Rattle.store_words.specs.Sound.{SoundWords};
 
 use model::Refusal;
@@ -24,7 +24,7 @@ pub enum Comparison {
 // Whether the bytes are the report of a sound store.
 fn same_report(report: &[u8], words: &[u64], tests: u64, paths: u64) -> bool
     requires { SoundWords (2 ^ 62) words.now }
-    ensures { result ≡ sameBytes report.now (reportRecord tests paths (runsByEdge words.now)) }
+    ensures { result ≡ same_bytes report.now (report_record tests paths (runs_by_edge words.now)) }
 {
     let held = totals_of(words);
     let rising = edge_runs(words, Edge::Rising);
@@ -53,7 +53,7 @@ fn same_report(report: &[u8], words: &[u64], tests: u64, paths: u64) -> bool
 // The checks of a report against the one that the writer gives for a sound store.
 pub fn compare(report: &[u8], words: &[u64], tests: u64, paths: u64) -> Comparison
     requires { SoundWords (2 ^ 62) words.now }
-    ensures { comparedOf result ≡ checks (reportRules report.now (reportRecord tests paths (runsByEdge words.now))) }
+    ensures { compared_of result ≡ checks (report_rules report.now (report_record tests paths (runs_by_edge words.now))) }
 {
     if !begins_with(report, HEAD_BYTES, 0x52, 0x50) {
         return Comparison::Refused(Refusal::ReportMark);

@@ -1,6 +1,6 @@
 // A report written from a store's words into lent bytes.
 ghost use Rattle.std.specs.Prelude.{◌^◌, ◌≤◌, length};
-ghost use Rattle.model.specs.Report.{reportBufferBytes};
+ghost use Rattle.model.specs.Report.{report_buffer_bytes};
 ghost use Rattle.store_words.specs.Sound.{SoundWords};
 ghost use Rattle.report.specs.ReportWriting.{ReportPut};
 
@@ -12,7 +12,7 @@ use store_words::inner::totals_of;
 
 // Writes the report of a sound store; its length.
 pub(crate) fn put_report(report: &mut [u8], tests: u64, paths: u64, words: &[u64]) -> usize
-    requires report_buffer_bytes_in_bounds { reportBufferBytes ≤ length report.old }
+    requires report_buffer_bytes_in_bounds { report_buffer_bytes ≤ length report.old }
     requires sound_words { SoundWords (2 ^ 62) words.now }
     ensures { ReportPut result tests paths words.now report.old report.new }
 {

@@ -1,8 +1,8 @@
 // The words of the lines on a refused report: each puts its text at the end of a line, promised by an equation.
 ghost use Rattle.std.specs.Prelude.{◌≡◌};
-ghost use Rattle.path_faults.specs.Answers.{modelEdge};
-ghost use Rattle.text_line.specs.Lines.{text_of, onLine};
-ghost use Rattle.report_claim_words.specs.ClaimWords.{edgeWord, kindText, fieldName, pathsText, pluralText};
+ghost use Rattle.path_faults.specs.Answers.{model_edge};
+ghost use Rattle.text_line.specs.Lines.{text_of, on_line};
+ghost use Rattle.report_claim_words.specs.ClaimWords.{edge_word, kind_text, field_name, paths_text, plural_text};
 
 use path_faults::Edge;
 use text_line::{Line, with_number, with_text};
@@ -29,7 +29,7 @@ pub enum Field {
 
 // The line with an edge at its end.
 pub fn with_edge(line: Line, edge: Edge) -> Line
-    ensures { text_of result ≡ onLine (text_of line) (edgeWord (modelEdge edge)) }
+    ensures { text_of result ≡ on_line (text_of line) (edge_word (model_edge edge)) }
 {
     match edge {
         Edge::Rising => with_text(line, b"rising"),
@@ -39,7 +39,7 @@ pub fn with_edge(line: Line, edge: Edge) -> Line
 
 // The line with what is wrong at its end.
 pub fn with_kind(line: Line, kind: Kind) -> Line
-    ensures { text_of result ≡ onLine (text_of line) (kindText kind) }
+    ensures { text_of result ≡ on_line (text_of line) (kind_text kind) }
 {
     match kind {
         Kind::FalseClaim => with_text(line, b"false claim"),
@@ -50,7 +50,7 @@ pub fn with_kind(line: Line, kind: Kind) -> Line
 
 // The line with what is wrong at its end, for a number of such lines.
 pub fn with_plural(line: Line, kind: Kind, count: u64) -> Line
-    ensures { text_of result ≡ onLine (text_of line) (pluralText kind count) }
+    ensures { text_of result ≡ on_line (text_of line) (plural_text kind count) }
 {
     match kind {
         Kind::Missed => with_text(line, b"missed"),
@@ -66,7 +66,7 @@ pub fn with_plural(line: Line, kind: Kind, count: u64) -> Line
 
 // The line with the name of a field at its end.
 pub fn with_field(line: Line, field: Field) -> Line
-    ensures { text_of result ≡ onLine (text_of line) (fieldName field) }
+    ensures { text_of result ≡ on_line (text_of line) (field_name field) }
 {
     match field {
         Field::Tests => with_text(line, b"tests"),
@@ -78,7 +78,7 @@ pub fn with_field(line: Line, field: Field) -> Line
 
 // The line with one path, or with the first and the last of several, at its end.
 pub fn with_paths(line: Line, low: u64, high: u64) -> Line
-    ensures { text_of result ≡ onLine (text_of line) (pathsText low high) }
+    ensures { text_of result ≡ on_line (text_of line) (paths_text low high) }
 {
     if low == high {
         return with_number(with_text(line, b"path "), low);

@@ -1,8 +1,8 @@
 -- Whether a number is in the runs of `a` only, from where it stands among both; then from step to step.
 use Rattle.model.proofs.Prelude.{ℕ, ◌≤◌, ◌<◌, ◌+◌, ◌-◌, ◌≡◌, refl, subst, ⊎_elim, true, false, and-false, List, arith}
-use Rattle.model.specs.Runs.{inRuns}
-use Rattle.model.proofs.BoolLaws.{le-or-lt}
-use Rattle.report_runs.specs.ReportRuns.{runsOfBytes}
+use Rattle.model.specs.Runs.{in_runs}
+use Rattle.model.proofs.BoolLaws.{le_or_lt}
+use Rattle.report_runs.specs.ReportRuns.{runs_of_bytes}
 use Rattle.report_differences.specs.Differences.{only, Stands, Steps, FirstOnly, LastOnly, FirstFrom, PieceFrom}
 use Rattle.report_differences.specs.declared.inner.walk.Standing.{Standing}
 use Rattle.report_differences.specs.declared.inner.walk.Standing.TheVariants as standing
@@ -13,65 +13,65 @@ use Rattle.report_differences.specs.declared.inner.walk.First.TheVariants as fir
 use Rattle.report_differences.specs.declared.inner.walk.Piece.{Piece}
 
 module _ (a b : List ℕ) (k : ℕ) where
-  in-a-only : inRuns (runsOfBytes a) k ≡ true → inRuns (runsOfBytes b) k ≡ false → only a b k ≡ true
+  in_a-only : in_runs (runs_of_bytes a) k ≡ true → in_runs (runs_of_bytes b) k ≡ false → only a b k ≡ true
   unfolding only
-  in-a-only p q = rw (p, q) refl
+  in_a-only p q = rw (p, q) refl
 
-  not-in-a : inRuns (runsOfBytes a) k ≡ false → only a b k ≡ false
+  not_in_a : in_runs (runs_of_bytes a) k ≡ false → only a b k ≡ false
   unfolding only
-  not-in-a p = rw p refl
+  not_in_a p = rw p refl
 
-  in_b : inRuns (runsOfBytes b) k ≡ true → only a b k ≡ false
+  in_b : in_runs (runs_of_bytes b) k ≡ true → only a b k ≡ false
   unfolding only
-  in_b q = rw q (and-false (inRuns (runsOfBytes a) k))
+  in_b q = rw q (and-false (in_runs (runs_of_bytes a) k))
 
-abbrev stands-as : (x y : Standing) (n : ℕ) (bs : List ℕ) → x ≡ y → Stands x n (runsOfBytes bs)
-    → Stands y n (runsOfBytes bs)
-stands-as x y n bs e s = subst (λ (z : Standing). Stands z n (runsOfBytes bs)) e s
+abbrev stands-as : (x y : Standing) (n : ℕ) (bs : List ℕ) → x ≡ y → Stands x n (runs_of_bytes bs)
+    → Stands y n (runs_of_bytes bs)
+stands-as x y n bs e s = subst (λ (z : Standing). Stands z n (runs_of_bytes bs)) e s
 
-module _ (a b : List ℕ) (n : ℕ) (x : Standing) (s : Stands x n (runsOfBytes a)) where
+module _ (a b : List ℕ) (n : ℕ) (x : Standing) (s : Stands x n (runs_of_bytes a)) where
   pub past-a : x ≡ standing.Past → Steps step.End a b n
-  past-a e = λ k h l. not-in-a a b k (stands-as x standing.Past n a e s k h)
+  past-a e = λ k h l. not_in_a a b k (stands-as x standing.Past n a e s k h)
 
   pub before-a : (next : ℕ) → x ≡ standing.Before next → Steps (step.Not next) a b n
   before-a next e =
-      let t : Stands (standing.Before next) n (runsOfBytes a) = stands-as x (standing.Before next) n a e s in
-      (t.0, λ k h l. not-in-a a b k (t.1 k h l))
+      let t : Stands (standing.Before next) n (runs_of_bytes a) = stands-as x (standing.Before next) n a e s in
+      (t.0, λ k h l. not_in_a a b k (t.1 k h l))
 
-  module _ (end : ℕ) (e : x ≡ standing.Inside end) (y : Standing) (u : Stands y n (runsOfBytes b)) where
-    inside : Stands (standing.Inside end) n (runsOfBytes a)
+  module _ (end : ℕ) (e : x ≡ standing.Inside end) (y : Standing) (u : Stands y n (runs_of_bytes b)) where
+    inside : Stands (standing.Inside end) n (runs_of_bytes a)
     inside = stands-as x (standing.Inside end) n a e s
 
     pub past-b : y ≡ standing.Past → Steps (step.Only end) a b n
-    past-b f = (inside.0, λ k h l. in-a-only a b k (inside.1 k h l) (stands-as y standing.Past n b f u k h))
+    past-b f = (inside.0, λ k h l. in_a-only a b k (inside.1 k h l) (stands-as y standing.Past n b f u k h))
 
     pub before-far : (next : ℕ) → y ≡ standing.Before next → end < next → Steps (step.Only end) a b n
     before-far next f g =
-        let t : Stands (standing.Before next) n (runsOfBytes b) = stands-as y (standing.Before next) n b f u in
-        (inside.0, λ k h l. in-a-only a b k (inside.1 k h l) (t.1 k h (omega arith)))
+        let t : Stands (standing.Before next) n (runs_of_bytes b) = stands-as y (standing.Before next) n b f u in
+        (inside.0, λ k h l. in_a-only a b k (inside.1 k h l) (t.1 k h (omega arith)))
 
     pub before-near : (next : ℕ) → y ≡ standing.Before next → next ≤ end → Steps (step.Only (next - 1)) a b n
     before-near next f g =
-        let t : Stands (standing.Before next) n (runsOfBytes b) = stands-as y (standing.Before next) n b f u in
+        let t : Stands (standing.Before next) n (runs_of_bytes b) = stands-as y (standing.Before next) n b f u in
         let i : n < next = t.0 in
-        (omega arith, λ k h l. in-a-only a b k (inside.1 k h (omega arith)) (t.1 k h (omega arith)))
+        (omega arith, λ k h l. in_a-only a b k (inside.1 k h (omega arith)) (t.1 k h (omega arith)))
 
     pub inside-all : (last : ℕ) → y ≡ standing.Inside last → last ≡ 18446744073709551615 → Steps step.End a b n
     inside-all last f g =
-        let t : Stands (standing.Inside last) n (runsOfBytes b) = stands-as y (standing.Inside last) n b f u in
+        let t : Stands (standing.Inside last) n (runs_of_bytes b) = stands-as y (standing.Inside last) n b f u in
         λ k h l. in_b a b k (t.1 k h (omega arith))
 
     pub inside-b : (last : ℕ) → y ≡ standing.Inside last → Steps (step.Not (last + 1)) a b n
     inside-b last f =
-        let t : Stands (standing.Inside last) n (runsOfBytes b) = stands-as y (standing.Inside last) n b f u in
+        let t : Stands (standing.Inside last) n (runs_of_bytes b) = stands-as y (standing.Inside last) n b f u in
         let i : n ≤ last = t.0 in
         (omega arith, λ k h l. in_b a b k (t.1 k h (omega arith)))
 
 -- a number that comes later is no zero
-pub over_zero : (b : List ℕ) (n : ℕ) (y : Standing) → Stands y n (runsOfBytes b) → (next : ℕ) → y ≡ standing.Before next
+pub over_zero : (b : List ℕ) (n : ℕ) (y : Standing) → Stands y n (runs_of_bytes b) → (next : ℕ) → y ≡ standing.Before next
     → 1 ≤ next
 over_zero b n y u next f =
-    let t : Stands (standing.Before next) n (runsOfBytes b) = stands-as y (standing.Before next) n b f u in
+    let t : Stands (standing.Before next) n (runs_of_bytes b) = stands-as y (standing.Before next) n b f u in
     let i : n < next = t.0 in
     omega arith
 
@@ -81,7 +81,7 @@ steps-as x y n a b e s = subst (λ (z : Step). Steps z a b n) e s
 -- what holds below `n`, and from `n` below `m`, holds below `m`
 joined : (P : ℕ → Type 0) (from n m : ℕ) → ((k : ℕ) → from ≤ k → k < n → P k) → ((k : ℕ) → n ≤ k → k < m → P k)
     → (k : ℕ) → from ≤ k → k < m → P k
-joined P from n m f g k h l = ⊎_elim (λ i. g k i l) (λ i. f k h i) (le-or-lt n k)
+joined P from n m f g k h l = ⊎_elim (λ i. g k i l) (λ i. f k h i) (le_or_lt n k)
 
 pub first-start : (a b : List ℕ) (from : ℕ) → (from ≤ from) × ((k : ℕ) → from ≤ k → k < from → only a b k ≡ false)
 first-start a b from = (omega arith, λ k h l. absurd (omega arith))
@@ -103,7 +103,7 @@ module _ (a b : List ℕ) (from n : ℕ) (h : from ≤ n) (f : (k : ℕ) → fro
   pub first-none : x ≡ step.End → FirstOnly first.Nothing a b from
   first-none e =
       let t : Steps step.End a b n = steps-as x step.End n a b e s in
-      λ k i l. ⊎_elim (λ j. t k j l) (λ j. f k i j) (le-or-lt n k)
+      λ k i l. ⊎_elim (λ j. t k j l) (λ j. f k i j) (le_or_lt n k)
 
 pub last-start : (a b : List ℕ) (low : ℕ) → only a b low ≡ true
     → (low ≤ low) × ((k : ℕ) → low ≤ k → k ≤ low → only a b k ≡ true)
@@ -117,7 +117,7 @@ module _ (a b : List ℕ) (low high : ℕ) (h : low ≤ high) (f : (k : ℕ) →
     last-later end e =
         let t : Steps (step.Only end) a b (high + 1) = steps-as x (step.Only end) (high + 1) a b e s in
         let i : high + 1 ≤ end = t.0 in
-        (omega arith, omega arith, λ k p q. ⊎_elim (λ j. f k p j) (λ j. t.1 k (omega arith) q) (le-or-lt k high))
+        (omega arith, omega arith, λ k p q. ⊎_elim (λ j. f k p j) (λ j. t.1 k (omega arith) q) (le_or_lt k high))
 
     pub last-before : (next : ℕ) → x ≡ step.Not next → LastOnly high a b low
     last-before next e =

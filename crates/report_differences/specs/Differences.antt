@@ -1,8 +1,8 @@
 -- Places in ascending runs, and the ranges of numbers that are in the runs of the one and not of the other.
 use Rattle.std.specs.Prelude.{◌≡◌, Bool, true, false, ◌&&◌, not, List, ℕ, ◌+◌, ◌*◌, ◌/◌, ◌^◌, ◌≤◌, ◌<◌, length, drop}
 use Rattle.model.specs.Base.{field}
-use Rattle.model.specs.Runs.{Run, inRuns}
-use Rattle.report_runs.specs.ReportRuns.{runsOfBytes, Ascends}
+use Rattle.model.specs.Runs.{Run, in_runs}
+use Rattle.report_runs.specs.ReportRuns.{runs_of_bytes, Ascends}
 use Rattle.report_differences.specs.declared.inner.walk.Standing.{Standing}
 use Rattle.report_differences.specs.declared.inner.walk.Standing.TheVariants as standing
 use Rattle.report_differences.specs.declared.inner.walk.Step.{Step}
@@ -14,18 +14,18 @@ use Rattle.report_differences.specs.declared.inner.walk.Piece.TheVariants as pie
 
 -- the number is claimed and not held
 abbrev pub outside : List Run → List Run → ℕ → Bool
-outside claimed held k = inRuns claimed k && not (inRuns held k)
+outside claimed held k = in_runs claimed k && not (in_runs held k)
 
 -- the number is in the runs of `a` and not in those of `b`
 unfoldable pub only : List ℕ → List ℕ → ℕ → Bool
-only a b k = outside (runsOfBytes a) (runsOfBytes b) k
+only a b k = outside (runs_of_bytes a) (runs_of_bytes b) k
 
 -- place `i` of ascending runs, from which the numbers from `n` on are looked for: the runs before it hold none of them
 abbrev pub Passed : List ℕ → ℕ → ℕ → Type 0
 Passed bs i n =
-    Ascends 0 (runsOfBytes bs)
+    Ascends 0 (runs_of_bytes bs)
     × (i ≤ length bs / 16)
-    × ((k : ℕ) → n ≤ k → inRuns (runsOfBytes bs) k ≡ inRuns (drop i (runsOfBytes bs)) k)
+    × ((k : ℕ) → n ≤ k → in_runs (runs_of_bytes bs) k ≡ in_runs (drop i (runs_of_bytes bs)) k)
 
 -- and the run at the place, if there is one, does not end before `n`
 abbrev pub Reached : List ℕ → ℕ → ℕ → Type 0
@@ -33,9 +33,9 @@ Reached bs i n = Passed bs i n × (i < length bs / 16 → n ≤ field (16 * i + 
 
 -- where a number stands among runs
 abbrev pub Stands : Standing → ℕ → List Run → Type 0
-Stands (standing.Inside end) n rs = (n ≤ end) × ((k : ℕ) → n ≤ k → k ≤ end → inRuns rs k ≡ true)
-Stands (standing.Before next) n rs = (n < next) × ((k : ℕ) → n ≤ k → k < next → inRuns rs k ≡ false)
-Stands standing.Past n rs = (k : ℕ) → n ≤ k → inRuns rs k ≡ false
+Stands (standing.Inside end) n rs = (n ≤ end) × ((k : ℕ) → n ≤ k → k ≤ end → in_runs rs k ≡ true)
+Stands (standing.Before next) n rs = (n < next) × ((k : ℕ) → n ≤ k → k < next → in_runs rs k ≡ false)
+Stands standing.Past n rs = (k : ℕ) → n ≤ k → in_runs rs k ≡ false
 
 -- whether a number is in the runs of `a` only, and how far that goes on
 abbrev pub Steps : Step → List ℕ → List ℕ → ℕ → Type 0

@@ -1,10 +1,10 @@
 -- Numbers of four and eight bytes from their fields of two, and the fields before the runs of a report.
 use Rattle.model.proofs.Prelude.{ℕ, ◌+◌, ◌*◌, suc, zero, ◌≡◌, ◌∙◌, ap, List, [], ◌∷◌, drop, take, drop-drop, arith}
-use Rattle.model.specs.Base.{field, fromLittleEndian}
+use Rattle.model.specs.Base.{field, from_little_endian}
 use Rattle.report_runs.specs.ReportRuns.{head_of}
 
 two-more : (n : ℕ) (l : List ℕ)
-    → fromLittleEndian (take (suc (suc n)) l) ≡ fromLittleEndian (take 2 l) + 65536 * fromLittleEndian (take n (drop 2 l))
+    → from_little_endian (take (suc (suc n)) l) ≡ from_little_endian (take 2 l) + 65536 * from_little_endian (take n (drop 2 l))
 two-more zero [] = omega arith
 two-more (suc n) [] = omega arith
 two-more zero (x ∷ []) = omega arith
@@ -14,7 +14,7 @@ two-more n (x ∷ y ∷ l) = omega arith
 -- the field of two bytes, then the others
 field-more : (bs : List ℕ) (at n : ℕ) → field at (suc (suc n)) bs ≡ field at 2 bs + 65536 * field (at + 2) n bs
 field-more bs at n =
-    two-more n (drop at bs) ∙ ap (λ (z : List ℕ). field at 2 bs + 65536 * fromLittleEndian (take n z)) (drop-drop 2 at bs)
+    two-more n (drop at bs) ∙ ap (λ (z : List ℕ). field at 2 bs + 65536 * from_little_endian (take n z)) (drop-drop 2 at bs)
 
 pub four : (bs : List ℕ) (at a b : ℕ) → a ≡ field at 2 bs → b ≡ field (at + 2) 2 bs → a + 65536 * b ≡ field at 4 bs
 four bs at a b p q =
@@ -32,17 +32,17 @@ eight bs at a b c d p q r s =
     omega (arith, z)
 
 -- the fields before the runs, as the code reads them
-pub head_read : (bs : List ℕ) (a b paths risingRuns fallingRuns risingFaults fallingFaults : ℕ) → a ≡ field 2 2 bs → b ≡ field 4 2 bs
-    → paths ≡ field 6 8 bs → risingRuns ≡ field 14 2 bs → fallingRuns ≡ field 16 2 bs → risingFaults ≡ field 18 8 bs → fallingFaults ≡ field 26 8 bs
+pub head_read : (bs : List ℕ) (a b paths rising_runs_of falling_runs_of risingFaults fallingFaults : ℕ) → a ≡ field 2 2 bs → b ≡ field 4 2 bs
+    → paths ≡ field 6 8 bs → rising_runs_of ≡ field 14 2 bs → falling_runs_of ≡ field 16 2 bs → risingFaults ≡ field 18 8 bs → fallingFaults ≡ field 26 8 bs
     → record {
       tests = a + 65536 * b;
       paths = paths;
-      rising_runs = risingRuns;
-      falling_runs = fallingRuns;
+      rising_runs = rising_runs_of;
+      falling_runs = falling_runs_of;
       rising_faults = risingFaults;
       falling_faults = fallingFaults;
     } ≡ head_of bs
-head_read bs a b paths risingRuns fallingRuns risingFaults fallingFaults p q r s t u v =
+head_read bs a b paths rising_runs_of falling_runs_of risingFaults fallingFaults p q r s t u v =
     λ i. record {
       tests = four bs 2 a b p q i;
       paths = r i;

@@ -3,7 +3,7 @@ use Rattle.std.specs.Prelude.{◌≡◌, Bool, true, false, ◌&&◌, List, [], 
 use Rattle.model.specs.Base.{field}
 use Rattle.model.specs.Path.{Edge, rising, falling}
 use Rattle.model.specs.Runs.{Run}
-use Rattle.model.specs.Report.{runsIn}
+use Rattle.model.specs.Report.{runs_in}
 use Rattle.report_runs.specs.declared.inner.Head.{Head}
 use Rattle.report_runs.specs.declared.Order.{Order}
 use Rattle.report_runs.specs.declared.Order.TheVariants as order
@@ -20,20 +20,20 @@ head_of report = record {
 }
 
 -- the runs in bytes, 16 each
-unfoldable pub runsOfBytes : List ℕ → List Run
-runsOfBytes bs = runsIn bs (length bs / 16)
+unfoldable pub runs_of_bytes : List ℕ → List Run
+runs_of_bytes bs = runs_in bs (length bs / 16)
 
 -- of `n` runs from byte `at` on, those that lie whole within the report
-abbrev pub wholeRuns : List ℕ → ℕ → ℕ → List Run
-wholeRuns report at n = runsIn (drop at report) (min n ((length report - at) / 16))
+abbrev pub whole_runs : List ℕ → ℕ → ℕ → List Run
+whole_runs report at n = runs_in (drop at report) (min n ((length report - at) / 16))
 
 -- The runs of an edge in a report's bytes, whatever their number: as many as its field states, of those that lie whole within the report. Rising runs
 -- stand from byte 34 on, falling ones after as many rising ones as are stated
-unfoldable pub statedRuns : List ℕ → Edge → List Run
-statedRuns report rising = wholeRuns report 34 (field 14 2 report)
-statedRuns report falling = wholeRuns report (34 + 16 * field 14 2 report) (field 16 2 report)
+unfoldable pub stated_runs : List ℕ → Edge → List Run
+stated_runs report rising = whole_runs report 34 (field 14 2 report)
+stated_runs report falling = whole_runs report (34 + 16 * field 14 2 report) (field 16 2 report)
 
--- a report of the length that its fields state: `statedRuns` are then the runs that it names, `namedRuns` (law `stated-named`)
+-- a report of the length that its fields state: `stated_runs` are then the runs that it names, `named_runs` (law `stated-named`)
 abbrev pub StatedLength : List ℕ → Type 0
 StatedLength report = length report ≡ 34 + 16 * (field 14 2 report + field 16 2 report)
 
@@ -53,5 +53,5 @@ Ordered order.Ascending rs = Ascends 0 rs
 Ordered (order.OutOfOrder k) rs = (k < length rs) × Ascends 0 (take k rs) × (Ascends 0 (take (k + 1) rs) → ⊥)
 
 -- the least low of a run at place `at` after one that ends with `last`; at place 0 there is none before it
-unfoldable pub leastAt : ℕ → ℕ → ℕ
-leastAt at last = elim (eqb at 0) [ true ↦ 0 | false ↦ last + 1 ]
+unfoldable pub least_at_of : ℕ → ℕ → ℕ
+least_at_of at last = elim (eqb at 0) [ true ↦ 0 | false ↦ last + 1 ]

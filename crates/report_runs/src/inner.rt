@@ -2,7 +2,7 @@
 ghost use Rattle.std.specs.Prelude.{◌≡◌, ◌+◌, ◌*◌, ◌-◌, ◌/◌, ◌≤◌, ◌<◌, min, length, take, drop};
 ghost use Rattle.model.specs.Base.{field};
 ghost use Rattle.model.specs.Path.{rising, falling};
-ghost use Rattle.report_runs.specs.ReportRuns.{head_of, runsOfBytes, statedRuns};
+ghost use Rattle.report_runs.specs.ReportRuns.{head_of, runs_of_bytes, stated_runs};
 
 use record_bytes::inner::u16_at;
 use report_bytes::layout::{
@@ -70,7 +70,7 @@ fn runs_from(report: &[u8], at: usize, stated: usize) -> &[u8]
 // The bytes of the rising runs, of a report of any length.
 pub fn rising_runs(report: &[u8]) -> &[u8]
     requires { 34 ≤ length report.now }
-    ensures { runsOfBytes result.now ≡ statedRuns report.now rising }
+    ensures { runs_of_bytes result.now ≡ stated_runs report.now rising }
 {
     runs_from(report, HEAD_BYTES, u16_at(report, RISING_RUNS_AT))
 }
@@ -78,7 +78,7 @@ pub fn rising_runs(report: &[u8]) -> &[u8]
 // The bytes of the falling runs, which follow the rising ones that are stated.
 pub fn falling_runs(report: &[u8]) -> &[u8]
     requires { 34 ≤ length report.now }
-    ensures { runsOfBytes result.now ≡ statedRuns report.now falling }
+    ensures { runs_of_bytes result.now ≡ stated_runs report.now falling }
 {
     let at = HEAD_BYTES + RUN_BYTES * u16_at(report, RISING_RUNS_AT);
     if report.len() < at {

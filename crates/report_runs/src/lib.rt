@@ -2,7 +2,7 @@
 pub mod inner;
 
 ghost use Rattle.std.specs.Prelude.{◌≡◌, ◌&&◌, leb};
-ghost use Rattle.report_runs.specs.ReportRuns.{runsOfBytes, leastAt, Ordered, ascend};
+ghost use Rattle.report_runs.specs.ReportRuns.{runs_of_bytes, least_at_of, Ordered, ascend};
 
 use crate::inner::number_at;
 use report_bytes::layout::RUN_BYTES;
@@ -17,7 +17,7 @@ pub enum Order {
 
 // Whether a run at a place ascends after one that ends with `last`; at place 0 there is none before it.
 fn ascends_at(at: usize, last: u64, low: u64, high: u64) -> bool
-    ensures { result ≡ (leb (leastAt at last) low && leb low high) }
+    ensures { result ≡ (leb (least_at_of at last) low && leb low high) }
 {
     if high < low {
         return false;
@@ -30,7 +30,7 @@ fn ascends_at(at: usize, last: u64, low: u64, high: u64) -> bool
 
 // Whether runs in bytes ascend, or which is the first that is out of order.
 pub fn order_of(runs: &[u8]) -> Order
-    ensures { Ordered result (runsOfBytes runs.now) }
+    ensures { Ordered result (runs_of_bytes runs.now) }
 {
     let count = runs.len() / RUN_BYTES;
     let mut last: u64 = 0;
@@ -49,7 +49,7 @@ pub fn order_of(runs: &[u8]) -> Order
 
 // Whether runs in bytes ascend.
 pub fn ascending(runs: &[u8]) -> bool
-    ensures { result ≡ ascend 0 (runsOfBytes runs.now) }
+    ensures { result ≡ ascend 0 (runs_of_bytes runs.now) }
 {
     let order = order_of(runs);
     match order {

@@ -1,9 +1,9 @@
 // The verdict of an audit as a line of text: the first line that `audit_report` prints.
 ghost use Rattle.std.specs.Prelude.{◌≡◌};
-ghost use Rattle.model.specs.Refusals.{refusalNumber};
-ghost use Rattle.audit_judging.specs.FileJudging.{auditedOf};
+ghost use Rattle.model.specs.Refusals.{refusal_number_of};
+ghost use Rattle.audit_judging.specs.FileJudging.{audited_of};
 ghost use Rattle.text_line.specs.Lines.{text_of};
-ghost use Rattle.report_verdict.specs.Verdict.{verdictText, ofRecord, classText};
+ghost use Rattle.report_verdict.specs.Verdict.{verdict_text, of_record, class_text};
 
 use audit_judging::AuditAnswer;
 use model::{ROBUST, Refusal};
@@ -12,7 +12,7 @@ use text_line::{Line, empty_line, with_refusal, with_text};
 
 // `accepted`, or `refused` and document 01's number.
 pub fn verdict_line(answer: AuditAnswer) -> Line
-    ensures { text_of result ≡ verdictText (auditedOf answer) }
+    ensures { text_of result ≡ verdict_text (audited_of answer) }
 {
     match answer {
         AuditAnswer::Accepted => with_text(empty_line(), b"accepted"),
@@ -22,7 +22,7 @@ pub fn verdict_line(answer: AuditAnswer) -> Line
 
 // `judged in class 1 (non-robust)` or `judged in class 2 (robust)`, for a class that the audit did not refuse.
 pub fn class_line(class: u32) -> Line
-    ensures { text_of result ≡ classText class }
+    ensures { text_of result ≡ class_text class }
 {
     if class == ROBUST {
         return with_text(empty_line(), b"judged in class 2 (robust)");
@@ -32,7 +32,7 @@ pub fn class_line(class: u32) -> Line
 
 // Whether a refusal is that of one test record of a file, which then has a place.
 pub fn is_of_record(why: Refusal) -> bool
-    ensures { result ≡ ofRecord (refusalNumber why) }
+    ensures { result ≡ of_record (refusal_number_of why) }
 {
     let number = refusal_number(why);
     if number == refusal_number(Refusal::RecordMark) {

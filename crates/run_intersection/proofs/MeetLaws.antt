@@ -1,13 +1,13 @@
 -- What two sound lists of runs have in common: the runs of the numbers that lie in both.
 use Rattle.model.proofs.Prelude.{ℕ, ◌≤◌, ◌<◌, ◌+◌, min, max, ◌≡◌, ◌∙◌, ap, refl, sym, ap₂, true, Bool, false, ◌&&◌, ◌||◌, and-false, List, [], ◌∷◌}
 use Rattle.model.proofs.Prelude.{◌++◌, arith, le-leb, lt-leb, lt-ltb, le-ltb}
-use Rattle.model.specs.Runs.{Run, Separated, runsOf, run}
+use Rattle.model.specs.Runs.{Run, Separated, runs_among, run}
 use Rattle.model.proofs.BoolLaws.{cases}
-use Rattle.model.proofs.RunLaws.{separated-weaken}
+use Rattle.model.proofs.RunLaws.{separated_weaken}
 use Rattle.run_lists.specs.RunLists.{Sound}
-use Rattle.run_lists.proofs.MemberLaws.{inside, member, member-in, inside-in, inside-lt, inside-gt, below, runsOf-unique}
+use Rattle.run_lists.proofs.MemberLaws.{inside, member, member-in, inside-in, inside-lt, inside-gt, below, runs_of-unique}
 use Rattle.run_lists.proofs.RunCutLaws.{member-append}
-use Rattle.run_intersection.specs.Meets.{overlap, meetInto, meets, inBoth}
+use Rattle.run_intersection.specs.Meets.{overlap, meet_into, meets, in_both}
 
 module _ (x y : Run) where
   abbrev both : Run
@@ -40,21 +40,21 @@ module _ (x y : Run) where
       (λ p. outside t (inside-lt t both (omega arith)) ∙ sym (rw (inside-lt t x p) refl))
 
 -- the two ways to go on
-pub meet-first : (x y : Run) (f : List Run → List Run) (ys : List Run) → x.high < y.high → meetInto x f (y ∷ ys) ≡ overlap x y ++ f (y ∷ ys)
-meet-first x y f ys h = rw (lt-ltb x.high y.high h) refl
+pub meet_first : (x y : Run) (f : List Run → List Run) (ys : List Run) → x.high < y.high → meet_into x f (y ∷ ys) ≡ overlap x y ++ f (y ∷ ys)
+meet_first x y f ys h = rw (lt-ltb x.high y.high h) refl
 
-pub meet-second : (x y : Run) (f : List Run → List Run) (ys : List Run) → y.high ≤ x.high → meetInto x f (y ∷ ys) ≡ overlap x y ++ meetInto x f ys
-meet-second x y f ys h = rw (le-ltb x.high y.high h) refl
+pub meet_second : (x y : Run) (f : List Run → List Run) (ys : List Run) → y.high ≤ x.high → meet_into x f (y ∷ ys) ≡ overlap x y ++ meet_into x f ys
+meet_second x y f ys h = rw (le-ltb x.high y.high h) refl
 
 module _ (n t : ℕ) where
-  meetInto-member : (la lb : ℕ) (x : Run) (xs : List Run) (f : List Run → List Run)
+  meet_into-member : (la lb : ℕ) (x : Run) (xs : List Run) (f : List Run → List Run)
       → ((l : ℕ) (zs : List Run) → Separated n l zs → member t (f zs) ≡ member t xs && member t zs)
-      → (ys : List Run) → Separated n la (x ∷ xs) → Separated n lb ys → member t (meetInto x f ys) ≡ member t (x ∷ xs) && member t ys
-  meetInto-member la lb x xs f ih [] a b = sym (and-false (member t (x ∷ xs)))
-  meetInto-member la lb x xs f ih (y ∷ ys) a b = cases y.high x.high
+      → (ys : List Run) → Separated n la (x ∷ xs) → Separated n lb ys → member t (meet_into x f ys) ≡ member t (x ∷ xs) && member t ys
+  meet_into-member la lb x xs f ih [] a b = sym (and-false (member t (x ∷ xs)))
+  meet_into-member la lb x xs f ih (y ∷ ys) a b = cases y.high x.high
       (λ h.
-      let rest = meetInto-member la (y.high + 2) x xs f ih ys a b.3 in
-      ap (member t) (meet-second x y f ys h) ∙ member-append t (overlap x y) (meetInto x f ys)
+      let rest = meet_into-member la (y.high + 2) x xs f ih ys a b.3 in
+      ap (member t) (meet_second x y f ys h) ∙ member-append t (overlap x y) (meet_into x f ys)
       ∙ ap₂ (λ (p q : Bool). p || q) (overlap-member x y t) rest
       ∙ cases t y.high
       (λ u.
@@ -63,7 +63,7 @@ module _ (n t : ℕ) where
       rw (none, less) (kept (inside t x) (inside t y)))
       (λ u. rw (inside-gt t y u) (passed (inside t x) (member t xs) (member t ys))))
       (λ h.
-      ap (member t) (meet-first x y f ys h) ∙ member-append t (overlap x y) (f (y ∷ ys))
+      ap (member t) (meet_first x y f ys h) ∙ member-append t (overlap x y) (f (y ∷ ys))
       ∙ ap₂ (λ (p q : Bool). p || q) (overlap-member x y t) (ih lb (y ∷ ys) b)
       ∙ cases t x.high
       (λ u.
@@ -89,7 +89,7 @@ module _ (n t : ℕ) where
   pub meets-member : (la lb : ℕ) (xs ys : List Run) → Separated n la xs → Separated n lb ys → member t (meets xs ys) ≡ member t xs && member t ys
   meets-member la lb [] ys a b = refl
   meets-member la lb (x ∷ xs) ys a b =
-      meetInto-member la lb x xs (λ zs. meets xs zs) (λ l zs c. meets-member (x.high + 2) l xs zs a.3 c) ys a b
+      meet_into-member la lb x xs (λ zs. meets xs zs) (λ l zs c. meets-member (x.high + 2) l xs zs a.3 c) ys a b
 
 -- they are apart as the lists are
 module _ (n : ℕ) where
@@ -99,32 +99,32 @@ module _ (n : ℕ) where
       (λ k. rw (overlap-one x y k) (h, k, m, s))
       (λ k. rw (overlap-none x y k) w)
 
-  meetInto-sound : (la lb : ℕ) (x : Run) (xs : List Run) (f : List Run → List Run)
+  meet_into-sound : (la lb : ℕ) (x : Run) (xs : List Run) (f : List Run → List Run)
       → ((l : ℕ) (zs : List Run) → Separated n l zs → Separated n (max (x.high + 2) l) (f zs))
-      → (ys : List Run) → Separated n la (x ∷ xs) → Separated n lb ys → Separated n (max la lb) (meetInto x f ys)
-  meetInto-sound la lb x xs f ih [] a b = tt
-  meetInto-sound la lb x xs f ih (y ∷ ys) a b = cases y.high x.high
+      → (ys : List Run) → Separated n la (x ∷ xs) → Separated n lb ys → Separated n (max la lb) (meet_into x f ys)
+  meet_into-sound la lb x xs f ih [] a b = tt
+  meet_into-sound la lb x xs f ih (y ∷ ys) a b = cases y.high x.high
       (λ h.
-      let rest : Separated n (max la (y.high + 2)) (meetInto x f ys) = meetInto-sound la (y.high + 2) x xs f ih ys a b.3 in
-      rw (meet-second x y f ys h)
-      (ahead (max la lb) x y (meetInto x f ys) (omega (arith, a.0, b.0)) (omega (arith, a.2))
-      (separated-weaken n (max la (y.high + 2)) (min x.high y.high + 2) (meetInto x f ys) (omega arith) rest)
-      (separated-weaken n (max la (y.high + 2)) (max la lb) (meetInto x f ys) (omega (arith, b.0, b.1)) rest)))
+      let rest : Separated n (max la (y.high + 2)) (meet_into x f ys) = meet_into-sound la (y.high + 2) x xs f ih ys a b.3 in
+      rw (meet_second x y f ys h)
+      (ahead (max la lb) x y (meet_into x f ys) (omega (arith, a.0, b.0)) (omega (arith, a.2))
+      (separated_weaken n (max la (y.high + 2)) (min x.high y.high + 2) (meet_into x f ys) (omega arith) rest)
+      (separated_weaken n (max la (y.high + 2)) (max la lb) (meet_into x f ys) (omega (arith, b.0, b.1)) rest)))
       (λ h.
       let rest : Separated n (max (x.high + 2) lb) (f (y ∷ ys)) = ih lb (y ∷ ys) b in
-      rw (meet-first x y f ys h)
+      rw (meet_first x y f ys h)
       (ahead (max la lb) x y (f (y ∷ ys)) (omega (arith, a.0, b.0)) (omega (arith, a.2))
-      (separated-weaken n (max (x.high + 2) lb) (min x.high y.high + 2) (f (y ∷ ys)) (omega arith) rest)
-      (separated-weaken n (max (x.high + 2) lb) (max la lb) (f (y ∷ ys)) (omega (arith, a.0, a.1)) rest)))
+      (separated_weaken n (max (x.high + 2) lb) (min x.high y.high + 2) (f (y ∷ ys)) (omega arith) rest)
+      (separated_weaken n (max (x.high + 2) lb) (max la lb) (f (y ∷ ys)) (omega (arith, a.0, a.1)) rest)))
 
   pub meets-sound : (la lb : ℕ) (xs ys : List Run) → Separated n la xs → Separated n lb ys → Separated n (max la lb) (meets xs ys)
   meets-sound la lb [] ys a b = tt
   meets-sound la lb (x ∷ xs) ys a b =
-      meetInto-sound la lb x xs (λ zs. meets xs zs) (λ l zs c. meets-sound (x.high + 2) l xs zs a.3 c) ys a b
+      meet_into-sound la lb x xs (λ zs. meets xs zs) (λ l zs c. meets-sound (x.high + 2) l xs zs a.3 c) ys a b
 
 -- What two lists of runs have in common is the list of the runs of the numbers in both
-pub meets-runs : (n : ℕ) (xs ys : List Run) → Sound n xs → Sound n ys → meets xs ys ≡ runsOf (inBoth xs ys) n
+pub meets-runs : (n : ℕ) (xs ys : List Run) → Sound n xs → Sound n ys → meets xs ys ≡ runs_among (in_both xs ys) n
 meets-runs n xs ys a b =
-    runsOf-unique (inBoth xs ys) n (meets xs ys)
-    (separated-weaken n (max 1 1) 1 (meets xs ys) (omega arith) (meets-sound n 1 1 xs ys a b))
+    runs_of-unique (in_both xs ys) n (meets xs ys)
+    (separated_weaken n (max 1 1) 1 (meets xs ys) (omega arith) (meets-sound n 1 1 xs ys a b))
     (λ t h k. meets-member n t 1 1 xs ys a b ∙ ap₂ (λ (p q : Bool). p && q) (member-in t xs) (member-in t ys))

@@ -1,7 +1,7 @@
 // The numbers that two lists of runs have in common, as runs in lent words. Lists stand at run places, as in `run_lists`.
 ghost use Rattle.std.specs.Prelude.{◌≡◌, ◌++◌, ◌+◌, ◌*◌, ◌≤◌, ◌<◌, max, min, length};
 ghost use Rattle.model.specs.Runs.{run};
-ghost use Rattle.run_lists.specs.RunLists.{runsInWords};
+ghost use Rattle.run_lists.specs.RunLists.{runs_in_words};
 ghost use Rattle.run_intersection.specs.Meets.{overlap, meets};
 
 // The larger of two numbers.
@@ -28,7 +28,7 @@ fn put_overlap(
     count: usize,
 ) -> usize
     requires { 2 * count + 1 < length words.old }
-    ensures { (runsInWords words.new 0 result ≡ runsInWords words.old 0 count ++ overlap (run a_low a_high) (run b_low b_high))
+    ensures { (runs_in_words words.new 0 result ≡ runs_in_words words.old 0 count ++ overlap (run a_low a_high) (run b_low b_high))
         × (count ≤ result) × (result ≤ count + 1) }
 {
     let low = larger(a_low, b_low);
@@ -45,7 +45,7 @@ fn put_overlap(
 // ends first is passed, so that each turn passes one run and puts at most one.
 pub fn common(a: &[u64], m: usize, b: &[u64], n: usize, words: &mut [u64]) -> usize
     requires { (2 * m ≤ length a.now) × (2 * n ≤ length b.now) × (2 * (m + n) ≤ length words.old) }
-    ensures { (runsInWords words.new 0 result ≡ meets (runsInWords a.now 0 m) (runsInWords b.now 0 n)) × (result ≤ m + n) }
+    ensures { (runs_in_words words.new 0 result ≡ meets (runs_in_words a.now 0 m) (runs_in_words b.now 0 n)) × (result ≤ m + n) }
 {
     let mut i = 0;
     let mut j = 0;

@@ -2,8 +2,8 @@
 use Rattle.model.proofs.Prelude.{ℕ, ◌≤◌, ◌<◌, ◌+◌, ◌-◌, ◌≡◌, ◌∙◌, ap, refl, sym, subst, true, Bool, false, ◌&&◌, ◌||◌, and-false, List, [], ◌∷◌, leb}
 use Rattle.model.proofs.Prelude.{T, arith, le-leb, lt-leb}
 use Rattle.std.proofs.Common.{zero-le}
-use Rattle.model.specs.Runs.{Run, runsOf, inRun, inRuns, size, Separated}
-use Rattle.model.proofs.RunLaws.{runs-test, runs_by, in→, →in, in-low, in-high}
+use Rattle.model.specs.Runs.{Run, runs_among, in_run, in_runs, size, Separated}
+use Rattle.model.proofs.RunLaws.{runs-test, runs_by, in→, →in, in_low, in_high}
 use Rattle.run_lists.specs.RunLists.{Sound}
 
 pub run-path : {r s : Run} → r.low ≡ s.low → r.high ≡ s.high → r ≡ s
@@ -18,10 +18,10 @@ abbrev pub member : ℕ → List Run → Bool
 member x [] = false
 member x (r ∷ rs) = inside x r || member x rs
 
-pub member-in : (x : ℕ) (rs : List Run) → member x rs ≡ inRuns rs x
-unfolding inside inRuns
+pub member-in : (x : ℕ) (rs : List Run) → member x rs ≡ in_runs rs x
+unfolding inside in_runs
 member-in x [] = refl
-member-in x (r ∷ rs) = ap (λ (t : Bool). inRun r x || t) (member-in x rs)
+member-in x (r ∷ rs) = ap (λ (t : Bool). in_run r x || t) (member-in x rs)
 
 pub inside-in : (x : ℕ) (r : Run) → r.low ≤ x → x ≤ r.high → inside x r ≡ true
 unfolding inside
@@ -51,15 +51,15 @@ pub sound-mono : (b n k : ℕ) (rs : List Run) → n ≤ k → Separated n b rs 
 sound-mono b n k [] h u = tt
 sound-mono b n k (r ∷ rs) h u = (u.0, u.1, omega arith, sound-mono (r.high + 2) n k rs h u.3)
 
-pub runsOf-member : (P : ℕ → Bool) (n x : ℕ) → 1 ≤ x → x ≤ n → member x (runsOf P n) ≡ P x
-runsOf-member P n x h k = member-in x (runsOf P n) ∙ runs-test P n x h k
+pub runs_of-member : (P : ℕ → Bool) (n x : ℕ) → 1 ≤ x → x ≤ n → member x (runs_among P n) ≡ P x
+runs_of-member P n x h k = member-in x (runs_among P n) ∙ runs-test P n x h k
 
 -- the one sound list with the members of a set is the set's runs
-pub runsOf-unique : (P : ℕ → Bool) (n : ℕ) (rs : List Run) → Sound n rs → ((x : ℕ) → 1 ≤ x → x ≤ n → member x rs ≡ P x) → rs ≡ runsOf P n
-runsOf-unique P n rs u e =
-    let same : (x : ℕ) → 1 ≤ x → x ≤ n → inRuns rs x ≡ P x = λ x h k. sym (member-in x rs) ∙ e x h k in
+pub runs_of-unique : (P : ℕ → Bool) (n : ℕ) (rs : List Run) → Sound n rs → ((x : ℕ) → 1 ≤ x → x ≤ n → member x rs ≡ P x) → rs ≡ runs_among P n
+runs_of-unique P n rs u e =
+    let same : (x : ℕ) → 1 ≤ x → x ≤ n → in_runs rs x ≡ P x = λ x h k. sym (member-in x rs) ∙ e x h k in
     runs_by P n rs u
-    (λ x t. subst T (same x (in-low n 1 rs x u t) (in-high n 1 rs x u t)) (→in rs x t))
+    (λ x t. subst T (same x (in_low n 1 rs x u t) (in_high n 1 rs x u t)) (→in rs x t))
     (λ x h k t. in→ rs x (subst T (sym (same x h k)) t))
 
 -- ---- size

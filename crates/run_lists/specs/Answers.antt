@@ -1,7 +1,7 @@
 -- What the functions that add runs answer, and the words that they leave.
 use Rattle.std.specs.Prelude.{◌≡◌, ℕ, ◌+◌, ◌*◌, ◌<◌, ◌≤◌, Bool, true, cond, List, length, take, nat_le}
 use Rattle.model.specs.Runs.{Run}
-use Rattle.run_lists.specs.RunLists.{run_at, writeRuns}
+use Rattle.run_lists.specs.RunLists.{run_at, write_runs_of}
 use Rattle.run_lists.specs.declared.inner.Added.{Added}
 use Rattle.run_lists.specs.declared.inner.Added.TheVariants.{Count, Full}
 
@@ -17,15 +17,15 @@ pub record Room (ws : List ℕ) (start n cap : ℕ) : Type 0 where
 -- a function that makes `s` of the list at `start`: its answer, and the words afterwards, with as many runs of `s` as there is room for
 pub record Adds (ws ws' : List ℕ) (start cap : ℕ) (s : List Run) (r : Added) : Type 0 where
   pub answers : r ≡ answer cap s
-  pub writes : ws' ≡ writeRuns ws start (take cap s)
+  pub writes : ws' ≡ write_runs_of ws start (take cap s)
 
 -- the run lies in one of the runs from..to of some words
 pub record RunInside (ws : List ℕ) (from to : ℕ) (r : Run) : Type 0 where
   pub place : ℕ
   pub begun : from ≤ place
   pub ended : place < to
-  pub notBelow : (run_at ws place).low ≤ r.low
-  pub notAbove : r.high ≤ (run_at ws place).high
+  pub not_below : (run_at ws place).low ≤ r.low
+  pub not_above : r.high ≤ (run_at ws place).high
 
 -- where the answer is true, each of the runs b-from..b-to of some words lies in one of the runs a-from..a-to of others
 abbrev pub InsideWhere : Bool → List ℕ → ℕ → ℕ → List ℕ → ℕ → ℕ → Type 0

@@ -1,8 +1,8 @@
 // Lists of runs in lent words, and what is asked of them. A list stands at run places: run i is the words 2i (low) and 2i + 1 (high) of what is lent.
 ghost use Rattle.std.specs.Prelude.{◌≡◌, ◌-◌, ◌*◌, ◌^◌, ◌<◌, ◌≤◌, length};
 ghost use Rattle.model.specs.Runs;
-ghost use Rattle.model.specs.Runs.{inRuns, separatedRuns};
-ghost use Rattle.run_lists.specs.RunLists.{Sound, runsInWords};
+ghost use Rattle.model.specs.Runs.{in_runs, separated_runs_of};
+ghost use Rattle.run_lists.specs.RunLists.{Sound, runs_in_words};
 ghost use Rattle.run_lists.specs.Answers.{InsideWhere};
 
 // The runs that a list then has, or that they are over its capacity.
@@ -15,8 +15,8 @@ pub enum Added {
 // How many numbers lie in the runs from..to.
 pub fn size(words: &[u64], from: usize, to: usize) -> u64
     requires from_le_to { (from ≤ to) × (2 * to ≤ length words.now) }
-    requires sound { Sound (2 ^ 62) (runsInWords words.now from (to - from)) }
-    ensures { result ≡ Runs.size (runsInWords words.now from (to - from)) }
+    requires sound { Sound (2 ^ 62) (runs_in_words words.now from (to - from)) }
+    ensures { result ≡ Runs.size (runs_in_words words.now from (to - from)) }
 {
     let mut i = from;
     let mut sum: u64 = 0;
@@ -30,8 +30,8 @@ pub fn size(words: &[u64], from: usize, to: usize) -> u64
 // Whether a number lies in one of the runs from..to, by binary search.
 pub fn contains(words: &[u64], from: usize, to: usize, x: u64) -> bool
     requires from_le_to { (from ≤ to) × (2 * to ≤ length words.now) }
-    requires sound { Sound (2 ^ 62) (runsInWords words.now from (to - from)) }
-    ensures { result ≡ inRuns (runsInWords words.now from (to - from)) x }
+    requires sound { Sound (2 ^ 62) (runs_in_words words.now from (to - from)) }
+    ensures { result ≡ in_runs (runs_in_words words.now from (to - from)) x }
 {
     let mut lo = from;
     let mut hi = to;
@@ -53,7 +53,7 @@ pub fn contains(words: &[u64], from: usize, to: usize, x: u64) -> bool
 // Whether the runs from..to lie within 1 to limit, ascending and neither adjacent nor overlapping.
 pub fn separated(words: &[u64], from: usize, to: usize, limit: u64) -> bool
     requires { (from ≤ to) × (2 * to ≤ length words.now) × (limit ≤ 2 ^ 62) }
-    ensures { result ≡ separatedRuns limit 1 (runsInWords words.now from (to - from)) }
+    ensures { result ≡ separated_runs_of limit 1 (runs_in_words words.now from (to - from)) }
 {
     let mut i = from;
     let mut least: u64 = 1;

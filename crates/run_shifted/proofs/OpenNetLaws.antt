@@ -4,12 +4,12 @@ use Rattle.model.proofs.Prelude.{needs}
 use mir.Val.{Fits}
 use mir.Syntax.{w64}
 use Rattle.model.specs.Runs.{Run}
-use Rattle.run_lists.specs.RunLists.{Sound, only_if, addRuns, shiftRuns, runsInWords}
+use Rattle.run_lists.specs.RunLists.{Sound, only_if, add_runs, shift_runs, runs_in_words}
 use Rattle.run_lists.specs.Answers.{Adds}
 use Rattle.run_lists.specs.declared.inner.Added.{Added}
 use Rattle.model.proofs.BoolLaws.{cases}
-use Rattle.detection.proofs.AddedLaws.{as-adds}
-use Rattle.run_shifted.specs.RunsOfPlaces.{runsIn, withNet, NetReady}
+use Rattle.detection.proofs.AddedLaws.{as_adds}
+use Rattle.run_shifted.specs.RunsOfPlaces.{runs_in, with_net, NetReady}
 
 only-open : {b : Bool} {s : List Run} → b ≡ true → only_if b s ≡ s
 only-open e = rw e
@@ -17,7 +17,7 @@ only-open e = rw e
 only-shut : {b : Bool} (s : List Run) → b ≡ false → only_if b s ≡ []
 only-shut s e = rw e
 
-shift-only : (b : Bool) (o : ℕ) (s : List Run) → shiftRuns o (only_if b s) ≡ only_if b (shiftRuns o s)
+shift-only : (b : Bool) (o : ℕ) (s : List Run) → shift_runs o (only_if b s) ≡ only_if b (shift_runs o s)
 shift-only true o s = refl
 shift-only false o s = refl
 
@@ -36,19 +36,19 @@ module _ {starts ws : List ℕ} {start net from to opened : ℕ} (r : NetReady s
   times : (to - from) * opened ≤ to - from
   times = times-most (to - from) l
 
-  opened-runs : runsInWords ws from (from + (to - from) * opened - from) ≡ only_if (eqb opened 1) (runsIn starts ws net)
-  unfolding runsIn
+  opened-runs : runs_in_words ws from (from + (to - from) * opened - from) ≡ only_if (eqb opened 1) (runs_in starts ws net)
+  unfolding runs_in
   opened-runs =
-      let whole : runsInWords ws from (to - from) ≡ runsIn starts ws net = ap₂ (λ (x y : ℕ). runsInWords ws x (y - x)) e d in
+      let whole : runs_in_words ws from (to - from) ≡ runs_in starts ws net = ap₂ (λ (x y : ℕ). runs_in_words ws x (y - x)) e d in
       cases 1 opened
       (λ h.
       let one : opened ≡ 1 = omega arith in
       let n : from + (to - from) * opened - from ≡ to - from = rw one (omega arith) in
-      ap (runsInWords ws from) n ∙ whole ∙ sym (only-open (ap (λ k. eqb k 1) one)))
+      ap (runs_in_words ws from) n ∙ whole ∙ sym (only-open (ap (λ k. eqb k 1) one)))
       (λ h.
       let none : opened ≡ 0 = omega arith in
       let n : from + (to - from) * opened - from ≡ 0 = rw none (omega arith) in
-      ap (runsInWords ws from) n ∙ sym (only-shut (runsIn starts ws net) (ap (λ k. eqb k 1) none)))
+      ap (runs_in_words ws from) n ∙ sym (only-shut (runs_in starts ws net) (ap (λ k. eqb k 1) none)))
 
   pub net-times : to < 65536 → Fits w64 ((to - from) * opened)
   net-times h = record { fits = omega (arith, times) }
@@ -62,14 +62,14 @@ module _ {starts ws : List ℕ} {start net from to opened : ℕ} (r : NetReady s
   pub net-ends : from + (to - from) * opened ≤ start
   net-ends = omega (arith, times, r.ordered, r.before)
 
-  pub net-sound : Sound (2 ^ 62) (runsInWords ws from (from + (to - from) * opened - from))
-  net-sound = subst (λ (s : List Run). Sound (2 ^ 62) s) (sym opened-runs) (sound-only (2 ^ 62) (eqb opened 1) (runsIn starts ws net) r.sound)
+  pub net-sound : Sound (2 ^ 62) (runs_in_words ws from (from + (to - from) * opened - from))
+  net-sound = subst (λ (s : List Run). Sound (2 ^ 62) s) (sym opened-runs) (sound-only (2 ^ 62) (eqb opened 1) (runs_in starts ws net) r.sound)
 
   pub net-added : (count offset : ℕ) {cap : ℕ} {ws' : List ℕ} {q : Added}
-      → Adds ws ws' start cap (addRuns (runsInWords ws start count) (shiftRuns offset (runsInWords ws from (from + (to - from) * opened - from)))) q
-      → Adds ws ws' start cap (withNet starts ws start count (eqb opened 1) offset net) q
-  unfolding withNet
+      → Adds ws ws' start cap (add_runs (runs_in_words ws start count) (shift_runs offset (runs_in_words ws from (from + (to - from) * opened - from)))) q
+      → Adds ws ws' start cap (with_net starts ws start count (eqb opened 1) offset net) q
+  unfolding with_net
   net-added count offset a =
-      as-adds (ap (addRuns (runsInWords ws start count)) (ap (shiftRuns offset) opened-runs ∙ shift-only (eqb opened 1) offset (runsIn starts ws net))) refl a
+      as_adds (ap (add_runs (runs_in_words ws start count)) (ap (shift_runs offset) opened-runs ∙ shift-only (eqb opened 1) offset (runs_in starts ws net))) refl a
 
 pub ruleset net-cases = (net-times, net-end, net-begins, net-ends, net-sound, net-added, needs)

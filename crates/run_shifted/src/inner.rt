@@ -4,7 +4,7 @@ pub mod outputs;
 
 ghost use Rattle.std.specs.Prelude.{◌<◌, ◌≤◌, ◌^◌, eqb};
 ghost use Rattle.run_lists.specs.Answers.{Room, Adds};
-ghost use Rattle.run_shifted.specs.RunsOfPlaces.{NetReady, withNet};
+ghost use Rattle.run_shifted.specs.RunsOfPlaces.{NetReady, with_net};
 
 use record_bytes::inner::wide_word;
 use run_lists::inner::Added;
@@ -27,7 +27,7 @@ pub(crate) fn add_net(
     requires net_ready { NetReady starts.now words.old start net }
     requires offset_bound { offset ≤ 2 ^ 62 }
     ensures { Adds words.old words.new start capacity
-        (withNet starts.now words.old start count (eqb opened 1) offset net) result }
+        (with_net starts.now words.old start count (eqb opened 1) offset net) result }
 {
     let from = wide_word(starts[net]);
     let to = wide_word(starts[net + 1]);

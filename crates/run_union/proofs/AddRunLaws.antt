@@ -4,7 +4,7 @@ use Rattle.model.proofs.Prelude.{take, not-suc-le-zero, le_of_suc-le-suc, le_tra
 use Prim.Native.Nat.{zero-le, suc-le-suc}
 use Rattle.model.proofs.BoolLaws.{cases}
 use Rattle.model.specs.Runs.{Run, Separated, run}
-use Rattle.run_lists.specs.RunLists.{joined, addRun, addRuns}
+use Rattle.run_lists.specs.RunLists.{joined, add_run, add_runs}
 use Rattle.run_lists.proofs.MemberLaws.{inside, member, inside-in, inside-lt, inside-gt}
 
 -- every run of the list starts at m or lower
@@ -24,24 +24,24 @@ pub joined-two : (c r : Run) → c.high + 1 < r.low → joined c r ≡ c ∷ r �
 unfolding joined
 joined-two c r h = rw (lt-leb r.low (c.high + 1) h)
 
-pub addRun-snoc : (s : List Run) (c r : Run) → addRun (s ++ c ∷ []) r ≡ s ++ joined c r
-addRun-snoc [] c r = refl
-addRun-snoc (d ∷ []) c r = refl
-addRun-snoc (d ∷ e ∷ s) c r = ap {B = List Run} (λ t. d ∷ t) (addRun-snoc (e ∷ s) c r)
+pub add_run-snoc : (s : List Run) (c r : Run) → add_run (s ++ c ∷ []) r ≡ s ++ joined c r
+add_run-snoc [] c r = refl
+add_run-snoc (d ∷ []) c r = refl
+add_run-snoc (d ∷ e ∷ s) c r = ap {B = List Run} (λ t. d ∷ t) (add_run-snoc (e ∷ s) c r)
 
-pub addRun-sound : (b n : ℕ) (s : List Run) (r : Run) → Separated n b s → LowsLe r.low s → b ≤ r.low → r.low ≤ r.high → r.high ≤ n → Separated n b (addRun s r)
-addRun-sound b n [] r u l p q t = (p, q, t, tt)
-addRun-sound b n (c ∷ []) r u l p q t = cases r.low (c.high + 1)
+pub add_run-sound : (b n : ℕ) (s : List Run) (r : Run) → Separated n b s → LowsLe r.low s → b ≤ r.low → r.low ≤ r.high → r.high ≤ n → Separated n b (add_run s r)
+add_run-sound b n [] r u l p q t = (p, q, t, tt)
+add_run-sound b n (c ∷ []) r u l p q t = cases r.low (c.high + 1)
     (λ h. rw (joined-one c r h) (u.0, omega arith, omega arith, tt))
     (λ h. rw (joined-two c r h) (u.0, u.1, u.2, (omega arith, q, t, tt)))
-addRun-sound b n (c ∷ d ∷ s) r u l p q t = (u.0, u.1, u.2, addRun-sound (c.high + 2) n (d ∷ s) r u.3 l.1 (omega arith) q t)
+add_run-sound b n (c ∷ d ∷ s) r u l p q t = (u.0, u.1, u.2, add_run-sound (c.high + 2) n (d ∷ s) r u.3 l.1 (omega arith) q t)
 
-pub addRun-lows : (m : ℕ) (s : List Run) (r : Run) → LowsLe m s → r.low ≤ m → LowsLe m (addRun s r)
-addRun-lows m [] r l h = (h, tt)
-addRun-lows m (c ∷ []) r l h = cases r.low (c.high + 1)
+pub add_run-lows : (m : ℕ) (s : List Run) (r : Run) → LowsLe m s → r.low ≤ m → LowsLe m (add_run s r)
+add_run-lows m [] r l h = (h, tt)
+add_run-lows m (c ∷ []) r l h = cases r.low (c.high + 1)
     (λ k. rw (joined-one c r k) (l.0, tt))
     (λ k. rw (joined-two c r k) (l.0, (h, tt)))
-addRun-lows m (c ∷ d ∷ s) r l h = (l.0, addRun-lows m (d ∷ s) r l.1 h)
+add_run-lows m (c ∷ d ∷ s) r l h = (l.0, add_run-lows m (d ∷ s) r l.1 h)
 
 inside-join : (x : ℕ) (c r : Run) → c.low ≤ r.low → r.low ≤ c.high + 1
     → inside x (run c.low (max c.high r.high)) ≡ inside x c || inside x r
@@ -57,12 +57,12 @@ inside-join x c r l h =
     j : Run
     j = run c.low (max c.high r.high)
 
-pub addRun-member : (x : ℕ) (s : List Run) (r : Run) → LowsLe r.low s → member x (addRun s r) ≡ member x s || inside x r
-addRun-member x [] r l = or-false (inside x r)
-addRun-member x (c ∷ []) r l = cases r.low (c.high + 1)
+pub add_run-member : (x : ℕ) (s : List Run) (r : Run) → LowsLe r.low s → member x (add_run s r) ≡ member x s || inside x r
+add_run-member x [] r l = or-false (inside x r)
+add_run-member x (c ∷ []) r l = cases r.low (c.high + 1)
     (λ h. rw (joined-one c r h) (rw (or-false, or-false) (inside-join x c r l.0 h)))
     (λ h. rw (joined-two c r h) (simp (or-false)))
-addRun-member x (c ∷ d ∷ s) r l = rw (addRun-member x (d ∷ s) r l.1) (sym (or_assoc (inside x c) (member x (d ∷ s)) (inside x r)))
+add_run-member x (c ∷ d ∷ s) r l = rw (add_run-member x (d ∷ s) r l.1) (sym (or_assoc (inside x c) (member x (d ∷ s)) (inside x r)))
 
 -- ---- several runs at the end
 
@@ -75,45 +75,45 @@ pub sound-asc : (b m n : ℕ) (rs : List Run) → m ≤ b → Separated n b rs �
 sound-asc b m n [] h u = tt
 sound-asc b m n (r ∷ rs) h u = (omega arith, u.1, u.2, sound-asc (r.high + 2) r.low n rs (omega arith) u.3)
 
-pub addRuns-sound : (b m n : ℕ) (s rs : List Run) → Separated n b s → LowsLe m s → b ≤ m → Asc m n rs → Separated n b (addRuns s rs)
-addRuns-sound b m n s [] u l h a = u
-addRuns-sound b m n s (r ∷ rs) u l h a =
+pub add_runs-sound : (b m n : ℕ) (s rs : List Run) → Separated n b s → LowsLe m s → b ≤ m → Asc m n rs → Separated n b (add_runs s rs)
+add_runs-sound b m n s [] u l h a = u
+add_runs-sound b m n s (r ∷ rs) u l h a =
     let l' : LowsLe r.low s = lows-mono m r.low s a.0 l in
-    addRuns-sound b r.low n (addRun s r) rs
-    (addRun-sound b n s r u l' (omega arith) a.1 a.2)
-    (addRun-lows r.low s r l' (omega arith)) (omega arith) a.3
+    add_runs-sound b r.low n (add_run s r) rs
+    (add_run-sound b n s r u l' (omega arith) a.1 a.2)
+    (add_run-lows r.low s r l' (omega arith)) (omega arith) a.3
 
-pub addRuns-member : (x m n : ℕ) (s rs : List Run) → LowsLe m s → Asc m n rs → member x (addRuns s rs) ≡ member x s || member x rs
-addRuns-member x m n s [] l a = sym (or-false (member x s))
-addRuns-member x m n s (r ∷ rs) l a =
+pub add_runs-member : (x m n : ℕ) (s rs : List Run) → LowsLe m s → Asc m n rs → member x (add_runs s rs) ≡ member x s || member x rs
+add_runs-member x m n s [] l a = sym (or-false (member x s))
+add_runs-member x m n s (r ∷ rs) l a =
     let l' : LowsLe r.low s = lows-mono m r.low s a.0 l in
-    addRuns-member x r.low n (addRun s r) rs (addRun-lows r.low s r l' (omega arith)) a.3
-    ∙ rw (addRun-member x s r l') (or_assoc (member x s) (inside x r) (member x rs))
+    add_runs-member x r.low n (add_run s r) rs (add_run-lows r.low s r l' (omega arith)) a.3
+    ∙ rw (add_run-member x s r l') (or_assoc (member x s) (inside x r) (member x rs))
 
-pub addRuns-append : (s a b : List Run) → addRuns s (a ++ b) ≡ addRuns (addRuns s a) b
-addRuns-append s [] b = refl
-addRuns-append s (r ∷ a) b = addRuns-append (addRun s r) a b
+pub add_runs-append : (s a b : List Run) → add_runs s (a ++ b) ≡ add_runs (add_runs s a) b
+add_runs-append s [] b = refl
+add_runs-append s (r ∷ a) b = add_runs-append (add_run s r) a b
 
 -- ---- what one run more keeps
 
-pub addRun-length : (s : List Run) (r : Run) → length s ≤ length (addRun s r)
-addRun-length [] r = zero-le
-addRun-length (c ∷ []) r = cases r.low (c.high + 1)
+pub add_run-length : (s : List Run) (r : Run) → length s ≤ length (add_run s r)
+add_run-length [] r = zero-le
+add_run-length (c ∷ []) r = cases r.low (c.high + 1)
     (λ h. rw (joined-one c r h) (omega arith))
     (λ h. rw (joined-two c r h) (omega arith))
-addRun-length (c ∷ d ∷ s) r = suc-le-suc (addRun-length (d ∷ s) r)
+add_run-length (c ∷ d ∷ s) r = suc-le-suc (add_run-length (d ∷ s) r)
 
-pub addRuns-length : (s rs : List Run) → length s ≤ length (addRuns s rs)
-addRuns-length s [] = le_refl (length s)
-addRuns-length s (r ∷ rs) = le_trans (addRun-length s r) (addRuns-length (addRun s r) rs)
+pub add_runs-length : (s rs : List Run) → length s ≤ length (add_runs s rs)
+add_runs-length s [] = le_refl (length s)
+add_runs-length s (r ∷ rs) = le_trans (add_run-length s r) (add_runs-length (add_run s r) rs)
 
 -- all runs but the last are kept
-pub addRun-take : (k : ℕ) (s : List Run) (r : Run) → k < length s → take k (addRun s r) ≡ take k s
-addRun-take zero s r h = refl
-addRun-take (suc k) [] r h = absurd (not-suc-le-zero h)
-addRun-take (suc k) (c ∷ []) r h = absurd (not-suc-le-zero (le_of_suc-le-suc h))
-addRun-take (suc k) (c ∷ d ∷ s) r h = ap {B = List Run} (λ t. c ∷ t) (addRun-take k (d ∷ s) r (le_of_suc-le-suc h))
+pub add_run-take : (k : ℕ) (s : List Run) (r : Run) → k < length s → take k (add_run s r) ≡ take k s
+add_run-take zero s r h = refl
+add_run-take (suc k) [] r h = absurd (not-suc-le-zero h)
+add_run-take (suc k) (c ∷ []) r h = absurd (not-suc-le-zero (le_of_suc-le-suc h))
+add_run-take (suc k) (c ∷ d ∷ s) r h = ap {B = List Run} (λ t. c ∷ t) (add_run-take k (d ∷ s) r (le_of_suc-le-suc h))
 
-pub addRuns-take : (k : ℕ) (s rs : List Run) → k < length s → take k (addRuns s rs) ≡ take k s
-addRuns-take k s [] h = refl
-addRuns-take k s (r ∷ rs) h = addRuns-take k (addRun s r) rs (le_trans h (addRun-length s r)) ∙ addRun-take k s r h
+pub add_runs-take : (k : ℕ) (s rs : List Run) → k < length s → take k (add_runs s rs) ≡ take k s
+add_runs-take k s [] h = refl
+add_runs-take k s (r ∷ rs) h = add_runs-take k (add_run s r) rs (le_trans h (add_run-length s r)) ∙ add_run-take k s r h

@@ -3,13 +3,13 @@ use Rattle.model.proofs.Prelude.{ℕ, ◌≤◌, ◌<◌, ◌+◌, ◌-◌, ◌*
 use Rattle.model.proofs.Prelude.{length-append, set, take_all, take_at, not-suc-le-zero, arith}
 use lib.Seq.{set-get_or}
 use Rattle.model.specs.Runs.{Run, run}
-use Rattle.run_lists.specs.RunLists.{addRun, run_at, runsInWords}
+use Rattle.run_lists.specs.RunLists.{add_run, run_at, runs_in_words}
 use Rattle.run_lists.specs.Answers.{Room, Adds}
 use Rattle.run_lists.specs.declared.inner.Added.{Added}
 use Rattle.run_lists.specs.declared.inner.Added.TheVariants.{Count, Full}
 use Rattle.run_lists.proofs.RunWordLaws.{length_runs, runs-snoc}
-use Rattle.run_union.proofs.AddRunLaws.{joined-one, joined-two, addRun-snoc}
-use Rattle.run_union.proofs.RunWriteLaws.{writeRuns-snoc, writeRuns-self}
+use Rattle.run_union.proofs.AddRunLaws.{joined-one, joined-two, add_run-snoc}
+use Rattle.run_union.proofs.RunWriteLaws.{write_runs-snoc, write_runs-self}
 use Rattle.run_union.proofs.Adding.{answer-fits, answer-full}
 
 -- ---- place
@@ -18,60 +18,60 @@ length-snoc : (s : List Run) (r : Run) → length (s ++ r ∷ []) ≡ length s +
 length-snoc s r = length-append s (r ∷ [])
 
 module _ (ws : List ℕ) (start n cap low high : ℕ) (room : Room ws start n cap) where
-  pub place-room : n < cap → Adds ws (set (set ws (2 * (start + n)) low) (2 * (start + n) + 1) high) start cap (runsInWords ws start n ++ run low high ∷ []) (Count (n + 1))
+  pub place-room : n < cap → Adds ws (set (set ws (2 * (start + n)) low) (2 * (start + n) + 1) high) start cap (runs_in_words ws start n ++ run low high ∷ []) (Count (n + 1))
   place-room h =
-      let s : List Run = runsInWords ws start n in
+      let s : List Run = runs_in_words ws start n in
       let l : length (s ++ run low high ∷ []) ≡ n + 1 = length-snoc s (run low high) ∙ ap (λ k. k + 1) (length_runs ws start n) in
       record {
         answers = sym (answer-fits cap (s ++ run low high ∷ []) (n + 1) l (omega arith));
         writes =
-            rw (take_all cap (s ++ run low high ∷ []) (omega arith), writeRuns-snoc ws start (start + n) s (run low high) (rw (length_runs ws start n)), writeRuns-self ws start n);
+            rw (take_all cap (s ++ run low high ∷ []) (omega arith), write_runs-snoc ws start (start + n) s (run low high) (rw (length_runs ws start n)), write_runs-self ws start n);
       }
 
-  pub place-full : cap ≤ n → Adds ws ws start cap (runsInWords ws start n ++ run low high ∷ []) Full
+  pub place-full : cap ≤ n → Adds ws ws start cap (runs_in_words ws start n ++ run low high ∷ []) Full
   place-full h =
-      let s : List Run = runsInWords ws start n in
+      let s : List Run = runs_in_words ws start n in
       let l : length (s ++ run low high ∷ []) ≡ n + 1 = length-snoc s (run low high) ∙ ap (λ k. k + 1) (length_runs ws start n) in
       let e : length s ≡ cap = length_runs ws start n ∙ omega (arith, room.fits) in
       record {
         answers = sym (answer-full cap (s ++ run low high ∷ []) (omega arith));
-        writes = rw (take_at s (run low high ∷ []) cap e, writeRuns-self ws start n);
+        writes = rw (take_at s (run low high ∷ []) cap e, write_runs-self ws start n);
       }
 
 -- ---- append
 
-runs_last : (ws : List ℕ) (i n : ℕ) → 0 < n → runsInWords ws i n ≡ runsInWords ws i (n - 1) ++ run_at ws (i + (n - 1)) ∷ []
+runs_last : (ws : List ℕ) (i n : ℕ) → 0 < n → runs_in_words ws i n ≡ runs_in_words ws i (n - 1) ++ run_at ws (i + (n - 1)) ∷ []
 runs_last ws i zero h = absurd (not-suc-le-zero h)
 runs_last ws i (suc k) h = let e : suc k - 1 ≡ k = omega arith in rw e (runs-snoc ws i k)
 
-addRun-none : (ws : List ℕ) (start n : ℕ) (r : Run) → n ≡ 0 → addRun (runsInWords ws start n) r ≡ runsInWords ws start n ++ r ∷ []
-addRun-none ws start n r e = rw e
+add_run-none : (ws : List ℕ) (start n : ℕ) (r : Run) → n ≡ 0 → add_run (runs_in_words ws start n) r ≡ runs_in_words ws start n ++ r ∷ []
+add_run-none ws start n r e = rw e
 
 module _ (ws : List ℕ) (start n : ℕ) (r : Run) (pos : 0 < n) where
   -- the index of the last run's high word
   last-at : 2 * (start + n) - 1 ≡ 2 * (start + (n - 1)) + 1
   last-at = omega arith
 
-  addRun-apart : get_or ws (2 * (start + n) - 1) 0 < r.low - 1 → addRun (runsInWords ws start n) r ≡ runsInWords ws start n ++ r ∷ []
-  addRun-apart h =
+  add_run-apart : get_or ws (2 * (start + n) - 1) 0 < r.low - 1 → add_run (runs_in_words ws start n) r ≡ runs_in_words ws start n ++ r ∷ []
+  add_run-apart h =
       let h' : get_or ws (2 * (start + (n - 1)) + 1) 0 < r.low - 1 = rw last-at at h in
-      rw (runs_last ws start n pos, addRun-snoc (runsInWords ws start (n - 1)) (run_at ws (start + (n - 1))) r, joined-two (run_at ws (start + (n - 1))) r (omega arith))
-      (sym (append_assoc (runsInWords ws start (n - 1)) (run_at ws (start + (n - 1)) ∷ []) (r ∷ [])))
+      rw (runs_last ws start n pos, add_run-snoc (runs_in_words ws start (n - 1)) (run_at ws (start + (n - 1))) r, joined-two (run_at ws (start + (n - 1))) r (omega arith))
+      (sym (append_assoc (runs_in_words ws start (n - 1)) (run_at ws (start + (n - 1)) ∷ []) (r ∷ [])))
 
-  join-adds : (cap : ℕ) → Room ws start n cap → r.low - 1 ≤ get_or ws (2 * (start + n) - 1) 0
-      → Adds ws (set ws (2 * (start + n) - 1) (max (get_or ws (2 * (start + n) - 1) 0) r.high)) start cap (addRun (runsInWords ws start n) r) (Count n)
-  join-adds cap room h =
+  join_adds : (cap : ℕ) → Room ws start n cap → r.low - 1 ≤ get_or ws (2 * (start + n) - 1) 0
+      → Adds ws (set ws (2 * (start + n) - 1) (max (get_or ws (2 * (start + n) - 1) 0) r.high)) start cap (add_run (runs_in_words ws start n) r) (Count n)
+  join_adds cap room h =
       let h' : r.low - 1 ≤ get_or ws (2 * (start + (n - 1)) + 1) 0 = rw last-at at h in
       let all = take_all cap (s ++ j ∷ []) (omega (arith, l, room.fits)) in
-      let last = writeRuns-snoc ws start (start + (n - 1)) s j (rw (length_runs ws start (n - 1))) in
-      rw (last-at, runs_last ws start n pos, addRun-snoc s c r, joined-one c r (omega arith))
+      let last = write_runs-snoc ws start (start + (n - 1)) s j (rw (length_runs ws start (n - 1))) in
+      rw (last-at, runs_last ws start n pos, add_run-snoc s c r, joined-one c r (omega arith))
       (record {
         answers = sym (answer-fits cap (s ++ j ∷ []) n l room.fits);
-        writes = rw (all, last, writeRuns-self ws start (n - 1), set-get_or ws (2 * (start + (n - 1))) 0);
+        writes = rw (all, last, write_runs-self ws start (n - 1), set-get_or ws (2 * (start + (n - 1))) 0);
       })
     where
       s : List Run
-      s = runsInWords ws start (n - 1)
+      s = runs_in_words ws start (n - 1)
 
       c : Run
       c = run_at ws (start + (n - 1))
@@ -83,15 +83,15 @@ module _ (ws : List ℕ) (start n : ℕ) (r : Run) (pos : 0 < n) where
       l = length-snoc s j ∙ omega (arith, length_runs ws start (n - 1))
 
 module _ (ws : List ℕ) (start n cap low high : ℕ) where
-  pub append-first : (ws' : List ℕ) (q : Added) → n ≡ 0 → Adds ws ws' start cap (runsInWords ws start n ++ run low high ∷ []) q
-      → Adds ws ws' start cap (addRun (runsInWords ws start n) (run low high)) q
-  append-first ws' q z d = rw (addRun-none ws start n (run low high) z) d
+  pub append_first : (ws' : List ℕ) (q : Added) → n ≡ 0 → Adds ws ws' start cap (runs_in_words ws start n ++ run low high ∷ []) q
+      → Adds ws ws' start cap (add_run (runs_in_words ws start n) (run low high)) q
+  append_first ws' q z d = rw (add_run-none ws start n (run low high) z) d
 
   module _ (some : n ≡ 0 → ⊥) where
-    pub append-apart : (ws' : List ℕ) (q : Added) → get_or ws (2 * (start + n) - 1) 0 < low - 1 → Adds ws ws' start cap (runsInWords ws start n ++ run low high ∷ []) q
-        → Adds ws ws' start cap (addRun (runsInWords ws start n) (run low high)) q
-    append-apart ws' q h d = rw (addRun-apart ws start n (run low high) (omega arith) h) d
+    pub append_apart : (ws' : List ℕ) (q : Added) → get_or ws (2 * (start + n) - 1) 0 < low - 1 → Adds ws ws' start cap (runs_in_words ws start n ++ run low high ∷ []) q
+        → Adds ws ws' start cap (add_run (runs_in_words ws start n) (run low high)) q
+    append_apart ws' q h d = rw (add_run-apart ws start n (run low high) (omega arith) h) d
 
-    pub append-joined : (m : ℕ) → m ≡ max (get_or ws (2 * (start + n) - 1) 0) high → Room ws start n cap → low - 1 ≤ get_or ws (2 * (start + n) - 1) 0
-        → Adds ws (set ws (2 * (start + n) - 1) m) start cap (addRun (runsInWords ws start n) (run low high)) (Count n)
-    append-joined m e room h = rw e (join-adds ws start n (run low high) (omega arith) cap room h)
+    pub append_joined : (m : ℕ) → m ≡ max (get_or ws (2 * (start + n) - 1) 0) high → Room ws start n cap → low - 1 ≤ get_or ws (2 * (start + n) - 1) 0
+        → Adds ws (set ws (2 * (start + n) - 1) m) start cap (add_run (runs_in_words ws start n) (run low high)) (Count n)
+    append_joined m e room h = rw e (join_adds ws start n (run low high) (omega arith) cap room h)

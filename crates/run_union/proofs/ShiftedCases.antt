@@ -4,18 +4,18 @@ use Rattle.model.proofs.Prelude.{◌++◌, append_assoc, append-nil, length, get
 use Rattle.model.proofs.Prelude.{ltb-true}
 use mathlib.Core.Bool.{false≢true}
 use Rattle.model.specs.Runs.{Run, Separated}
-use Rattle.run_lists.specs.RunLists.{RunWithin, Sound, addRun, addRuns, shiftRun, shiftRuns, run_at, runsInWords, writeRuns}
+use Rattle.run_lists.specs.RunLists.{RunWithin, Sound, add_run, add_runs, shift_run, shift_runs, run_at, runs_in_words, write_runs_of}
 use Rattle.run_lists.specs.Answers.{Room, answer, Adds}
 use Rattle.run_lists.specs.declared.inner.Added.{Added}
 use Rattle.run_lists.specs.declared.inner.Added.TheVariants.{Count, Full}
 use Rattle.run_lists.proofs.RunWordLaws.{length_runs, runs-snoc, runs-next, sound-at}
 use Rattle.model.proofs.BoolLaws.{cases}
-use Rattle.model.proofs.RunLaws.{separated-weaken}
-use Rattle.run_union.specs.Unions.{withShifted, FitsWhere}
-use Rattle.run_union.proofs.AddRunLaws.{joined-two, addRuns-length}
-use Rattle.run_union.proofs.ShiftLaws.{shiftRuns-sound, length_shift}
-use Rattle.run_union.proofs.RunWriteLaws.{writeRuns-self, writeRuns-writeRuns, write-append}
-use Rattle.run_union.proofs.Adding.{Adding, answer-fits, adding-start, adding-length, adding-runs, adding-done, as-rest, part-full, part-more}
+use Rattle.model.proofs.RunLaws.{separated_weaken}
+use Rattle.run_union.specs.Unions.{with_shifted, FitsWhere}
+use Rattle.run_union.proofs.AddRunLaws.{joined-two, add_runs-length}
+use Rattle.run_union.proofs.ShiftLaws.{shift_runs-sound, length_shift}
+use Rattle.run_union.proofs.RunWriteLaws.{write_runs-self, write_runs-write_runs, write_append}
+use Rattle.run_union.proofs.Adding.{Adding, answer-fits, adding-start, adding-length, adding-runs, adding-done, as_rest, part-full, part-more}
 
 -- the last run, where there is one, ends at `h` or below
 EndsBy : List Run → ℕ → Type 0
@@ -29,24 +29,24 @@ ends_snoc [] r = omega arith
 ends_snoc (c ∷ []) r = omega arith
 ends_snoc (c ∷ d ∷ s) r = ends_snoc (d ∷ s) r
 
-runs-end : (ws : List ℕ) (i k : ℕ) → EndsBy (runsInWords ws i k) (get_or ws (2 * (i + k) - 1) 0)
+runs-end : (ws : List ℕ) (i k : ℕ) → EndsBy (runs_in_words ws i k) (get_or ws (2 * (i + k) - 1) 0)
 unfolding EndsBy
 runs-end ws i zero = tt
 runs-end ws i (suc k) =
     let e : 2 * (i + k) + 1 ≡ 2 * (i + suc k) - 1 = omega arith in
     subst (λ (s : List Run). EndsBy s (get_or ws (2 * (i + suc k) - 1) 0)) (sym (runs-snoc ws i k))
-    (subst (λ (h : ℕ). EndsBy (runsInWords ws i k ++ run_at ws (i + k) ∷ []) (get_or ws h 0)) e (ends_snoc (runsInWords ws i k) (run_at ws (i + k))))
+    (subst (λ (h : ℕ). EndsBy (runs_in_words ws i k ++ run_at ws (i + k) ∷ []) (get_or ws h 0)) e (ends_snoc (runs_in_words ws i k) (run_at ws (i + k))))
 
-add_apart : (s : List Run) (r : Run) (h : ℕ) → EndsBy s h → h + 1 < r.low → addRun s r ≡ s ++ r ∷ []
+add_apart : (s : List Run) (r : Run) (h : ℕ) → EndsBy s h → h + 1 < r.low → add_run s r ≡ s ++ r ∷ []
 unfolding EndsBy
 add_apart [] r h e l = refl
 add_apart (c ∷ []) r h e l = joined-two c r (omega (arith, e))
 add_apart (c ∷ d ∷ s) r h e l = ap {B = List Run} (λ t. c ∷ t) (add_apart (d ∷ s) r h e l)
 
-adds-apart : (n h : ℕ) (s rs : List Run) → EndsBy s h → Separated n (h + 2) rs → addRuns s rs ≡ s ++ rs
+adds-apart : (n h : ℕ) (s rs : List Run) → EndsBy s h → Separated n (h + 2) rs → add_runs s rs ≡ s ++ rs
 adds-apart n h s [] e a = sym (append-nil s)
 adds-apart n h s (r ∷ rs) e a =
-    ap (λ (t : List Run). addRuns t rs) (add_apart s r h e (omega (arith, a.0)))
+    ap (λ (t : List Run). add_runs t rs) (add_apart s r h e (omega (arith, a.0)))
     ∙ adds-apart n r.high (s ++ r ∷ []) rs (ends_snoc s r) a.3
     ∙ append_assoc s (r ∷ []) rs
 
@@ -71,13 +71,13 @@ fits-yes ws from to start n cap offset room w h e =
 -- ---- append_rest
 
 pub nothing-more : {ws : List ℕ} {from to start count cap : ℕ} (offset : ℕ) → to ≤ from → Room ws start count cap
-    → Adds ws ws start cap (withShifted ws from to start count offset) (Count count)
+    → Adds ws ws start cap (with_shifted ws from to start count offset) (Count count)
 nothing-more {ws} {from} {to} {start} {count} {cap} offset h room =
     let z : to - from ≡ 0 = omega arith in
-    subst (λ (k : ℕ). Adds ws ws start cap (addRuns (runsInWords ws start count) (shiftRuns offset (runsInWords ws from k))) (Count count)) (sym z)
-    (adding-done ws ws start cap count (runsInWords ws start count) (adding-start ws start cap count [] room.fits))
+    subst (λ (k : ℕ). Adds ws ws start cap (add_runs (runs_in_words ws start count) (shift_runs offset (runs_in_words ws from k))) (Count count)) (sym z)
+    (adding-done ws ws start cap count (runs_in_words ws start count) (adding-start ws start cap count [] room.fits))
 
-pub first_run : (ws : List ℕ) (from to : ℕ) → Sound (2 ^ 62) (runsInWords ws from (to - from)) → from < to → RunWithin (2 ^ 62) (run_at ws from)
+pub first_run : (ws : List ℕ) (from to : ℕ) → Sound (2 ^ 62) (runs_in_words ws from (to - from)) → from < to → RunWithin (2 ^ 62) (run_at ws from)
 first_run ws from to sound lt = sound-at (2 ^ 62) ws from to from sound (omega arith) lt
 
 module _ {ws : List ℕ} {start count cap : ℕ} (from to offset : ℕ) (room : Room ws start count cap)
@@ -87,38 +87,38 @@ module _ {ws : List ℕ} {start count cap : ℕ} (from to offset : ℕ) (room : 
 
   -- the runs of the list, those added, and the word of the list's last high
   abbrev list : List Run
-  list = runsInWords ws start count
+  list = runs_in_words ws start count
 
   abbrev more : List Run
-  more = shiftRuns offset (runsInWords ws from (to - from))
+  more = shift_runs offset (runs_in_words ws from (to - from))
 
   abbrev last : ℕ
   last = get_or ws (2 * (start + count) - 1) 0
 
-  module _ (lt : from < to) (sound : Sound (2 ^ 62) (runsInWords ws from (to - from))) where
+  module _ (lt : from < to) (sound : Sound (2 ^ 62) (runs_in_words ws from (to - from))) where
     more-apart : Separated (2 ^ 62 + offset) (last + 2) more
     more-apart =
-        shiftRuns-sound (get_or ws (2 * from) 0) (last + 2) (2 ^ 62) offset (runsInWords ws from (to - from)) (omega (arith, (fits (not-false r yes)).1))
-        (from_first (2 ^ 62) 1 (runsInWords ws from (to - from)) (run_at ws from) (runsInWords ws (from + 1) (to - (from + 1))) (runs-next ws from to lt) sound)
+        shift_runs-sound (get_or ws (2 * from) 0) (last + 2) (2 ^ 62) offset (runs_in_words ws from (to - from)) (omega (arith, (fits (not-false r yes)).1))
+        (from_first (2 ^ 62) 1 (runs_in_words ws from (to - from)) (run_at ws from) (runs_in_words ws (from + 1) (to - (from + 1))) (runs-next ws from to lt) sound)
 
-    together : addRuns list more ≡ list ++ more
+    together : add_runs list more ≡ list ++ more
     together = adds-apart (2 ^ 62 + offset) last list more (runs-end ws start count) more-apart
 
     -- all of them placed after the list
-    pub placed : (ws' : List ℕ) → ws' ≡ writeRuns ws (start + count) more → Adds ws ws' start cap (withShifted ws from to start count offset) (Count (count + (to - from)))
+    pub placed : (ws' : List ℕ) → ws' ≡ write_runs_of ws (start + count) more → Adds ws ws' start cap (with_shifted ws from to start count offset) (Count (count + (to - from)))
     placed ws' e =
         let few = (fits (not-false r yes)).0 in
         let l : length (list ++ more) ≡ count + (to - from) =
         length-append list more
-        ∙ ap₂ ◌+◌ (length_runs ws start count) (length_shift offset (runsInWords ws from (to - from)) ∙ length_runs ws from (to - from)) in
+        ∙ ap₂ ◌+◌ (length_runs ws start count) (length_shift offset (runs_in_words ws from (to - from)) ∙ length_runs ws from (to - from)) in
         let all : take cap (list ++ more) ≡ list ++ more = take_all cap (list ++ more) (omega (arith, l, few)) in
         record {
           answers = sym (ap (answer cap) together ∙ answer-fits cap (list ++ more) (count + (to - from)) l few);
           writes =
               e
-              ∙ ap (λ (x : List ℕ). writeRuns x (start + count) more) (sym (writeRuns-self ws start count))
-              ∙ write-append ws start (start + count) list more (rw (length_runs ws start count) refl)
-              ∙ ap (λ (s : List Run). writeRuns ws start s) (sym all ∙ ap (take cap) (sym together));
+              ∙ ap (λ (x : List ℕ). write_runs_of x (start + count) more) (sym (write_runs-self ws start count))
+              ∙ write_append ws start (start + count) list more (rw (length_runs ws start count) refl)
+              ∙ ap (λ (s : List Run). write_runs_of ws start s) (sym all ∙ ap (take cap) (sym together));
         }
 
 -- ---- append_shifted: the first run, then the rest
@@ -127,21 +127,21 @@ enough : (k : ℕ) (l : List Run) (n : ℕ) → n ≤ k → n ≤ length l → n
 enough k l n h g = cases k (length l) (λ q. omega (arith, length-take-le k l q)) (λ q. omega (arith, ap (length {A = Run}) (take_all k l (omega arith))))
 
 module _ {ws : List ℕ} {from to start count cap : ℕ} (offset : ℕ) (lt : from < to) (below : to ≤ start) (room : Room ws start count cap)
-    (sound : Sound (2 ^ 62) (runsInWords ws from (to - from))) where
+    (sound : Sound (2 ^ 62) (runs_in_words ws from (to - from))) where
   abbrev total : List Run
-  total = withShifted ws from to start count offset
+  total = with_shifted ws from to start count offset
 
   abbrev first : List Run
-  first = shiftRun offset (run_at ws from) ∷ []
+  first = shift_run offset (run_at ws from) ∷ []
 
   abbrev rest : List Run
-  rest = shiftRuns offset (runsInWords ws (from + 1) (to - (from + 1)))
+  rest = shift_runs offset (runs_in_words ws (from + 1) (to - (from + 1)))
 
   split : Adding ws ws start cap count (first ++ rest) total
-  split = as-rest (ap (shiftRuns offset) (runs-next ws from to lt)) (adding-start ws start cap count (shiftRuns offset (runsInWords ws from (to - from))) room.fits)
+  split = as_rest (ap (shift_runs offset) (runs-next ws from to lt)) (adding-start ws start cap count (shift_runs offset (runs_in_words ws from (to - from))) room.fits)
 
-  module _ {ws₁ : List ℕ} {q : Added} (adds : Adds ws ws₁ start cap (addRun (runsInWords ws start count) (shiftRun offset (run_at ws from))) q) where
-    pub first-full : q ≡ Full → Adds ws ws₁ start cap (withShifted ws from to start count offset) Full
+  module _ {ws₁ : List ℕ} {q : Added} (adds : Adds ws ws₁ start cap (add_run (runs_in_words ws start count) (shift_run offset (run_at ws from))) q) where
+    pub first-full : q ≡ Full → Adds ws ws₁ start cap (with_shifted ws from to start count offset) Full
     first-full e = part-full ws ws start cap count total ws₁ first rest split q e adds
 
     module _ {n : ℕ} (e : q ≡ Count n) where
@@ -151,28 +151,28 @@ module _ {ws : List ℕ} {from to start count cap : ℕ} (offset : ℕ) (lt : fr
       pub rest-room : Room ws₁ start n cap
       rest-room = record { fits = then-rest.fits; inside = omega (arith, adding-length ws ws₁ start cap n total rest then-rest, room.inside) }
 
-      rest-runs : runsInWords ws₁ (from + 1) (to - (from + 1)) ≡ runsInWords ws (from + 1) (to - (from + 1))
+      rest-runs : runs_in_words ws₁ (from + 1) (to - (from + 1)) ≡ runs_in_words ws (from + 1) (to - (from + 1))
       rest-runs = adding-runs ws ws₁ start cap n rest total (from + 1) (to - (from + 1)) then-rest (omega arith)
 
-      pub rest-sound : Sound (2 ^ 62) (runsInWords ws₁ (from + 1) (to - (from + 1)))
+      pub rest-sound : Sound (2 ^ 62) (runs_in_words ws₁ (from + 1) (to - (from + 1)))
       rest-sound =
           subst (λ (s : List Run). Sound (2 ^ 62) s) (sym rest-runs)
-          (separated-weaken (2 ^ 62) ((run_at ws from).high + 2) 1 (runsInWords ws (from + 1) (to - (from + 1))) (omega arith)
+          (separated_weaken (2 ^ 62) ((run_at ws from).high + 2) 1 (runs_in_words ws (from + 1) (to - (from + 1))) (omega arith)
           (subst (λ (s : List Run). Separated (2 ^ 62) 1 s) (runs-next ws from to lt) sound).3)
 
-      pub all-added : {ws₂ : List ℕ} {r : Added} → Adds ws₁ ws₂ start cap (withShifted ws₁ (from + 1) to start n offset) r
-          → Adds ws ws₂ start cap (withShifted ws from to start count offset) r
+      pub all-added : {ws₂ : List ℕ} {r : Added} → Adds ws₁ ws₂ start cap (with_shifted ws₁ (from + 1) to start n offset) r
+          → Adds ws ws₂ start cap (with_shifted ws from to start count offset) r
       all-added {ws₂} {r} d =
-          let list : List Run = runsInWords ws₁ start n in
-          let grown : List Run = addRuns list rest in
-          let d₁ : Adds ws₁ ws₂ start cap grown r = subst (λ (s : List Run). Adds ws₁ ws₂ start cap (addRuns list (shiftRuns offset s)) r) rest-runs d in
+          let list : List Run = runs_in_words ws₁ start n in
+          let grown : List Run = add_runs list rest in
+          let d₁ : Adds ws₁ ws₂ start cap grown r = subst (λ (s : List Run). Adds ws₁ ws₂ start cap (add_runs list (shift_runs offset s)) r) rest-runs d in
           let long : length list ≤ length (take cap grown) =
-          enough cap grown (length list) (omega (arith, length_runs ws₁ start n, then-rest.fits)) (addRuns-length list rest) in
+          enough cap grown (length list) (omega (arith, length_runs ws₁ start n, then-rest.fits)) (add_runs-length list rest) in
           subst (λ (s : List Run). Adds ws ws₂ start cap s r) then-rest.left
           (record {
             answers = d₁.answers;
             writes =
                 d₁.writes
-                ∙ ap (λ (l : List ℕ). writeRuns l start (take cap grown)) then-rest.kept
-                ∙ writeRuns-writeRuns ws start list (take cap grown) long;
+                ∙ ap (λ (l : List ℕ). write_runs_of l start (take cap grown)) then-rest.kept
+                ∙ write_runs-write_runs ws start list (take cap grown) long;
           })

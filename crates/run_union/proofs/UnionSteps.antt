@@ -2,32 +2,32 @@
 use Rattle.model.proofs.Prelude.{ℕ, ◌≤◌, ◌<◌, ◌+◌, ◌-◌, ◌*◌, ◌^◌, ◌≡◌, ◌∙◌, ap, refl, sym, subst, subst⁻¹, true, Bool, false, true≢false, List, []}
 use Rattle.model.proofs.Prelude.{◌∷◌, length, get_or, leb, arith}
 use Rattle.model.specs.Runs.{Run}
-use Rattle.run_lists.specs.RunLists.{RunWithin, Sound, addRun, addRuns, run_at, runsInWords}
+use Rattle.run_lists.specs.RunLists.{RunWithin, Sound, add_run, add_runs, run_at, runs_in_words}
 use Rattle.run_lists.specs.Answers.{Adds, Room}
 use Rattle.run_lists.specs.declared.inner.Added.{Added}
 use Rattle.run_lists.specs.declared.inner.Added.TheVariants.{Count, Full}
 use Rattle.run_lists.proofs.RunWordLaws.{runs-next, sound-at}
 use Rattle.model.proofs.BoolLaws.{cases}
-use Rattle.run_union.specs.Unions.{leftFirst, Unites}
-use Rattle.run_union.proofs.UnionLaws.{interleave, interleave-left, interleave-right, addRuns-union}
-use Rattle.run_union.proofs.Adding.{Adding, as-rest, adding-start, adding-length, adding-done, adding-run, adding-runs, part-full, part-more}
+use Rattle.run_union.specs.Unions.{left_first_of, Unites}
+use Rattle.run_union.proofs.UnionLaws.{interleave, interleave-left, interleave-right, add_runs-union}
+use Rattle.run_union.proofs.Adding.{Adding, as_rest, adding-start, adding-length, adding-done, adding-run, adding-runs, part-full, part-more}
 
 -- what is left to merge at the cursors i and j
 abbrev pub rest : List ℕ → ℕ → ℕ → List ℕ → ℕ → ℕ → List Run
-rest a i m b j n = interleave (runsInWords a i (m - i)) (runsInWords b j (n - j))
+rest a i m b j n = interleave (runs_in_words a i (m - i)) (runs_in_words b j (n - j))
 
 module _ (a : List ℕ) (i m : ℕ) (b : List ℕ) (j n : ℕ) where
   abbrev left? : Bool
-  left? = leftFirst (runsInWords a i (m - i)) (runsInWords b j (n - j))
+  left? = left_first_of (runs_in_words a i (m - i)) (runs_in_words b j (n - j))
 
-  pub leftFirst-none : m ≤ i → false ≡ left?
-  leftFirst-none h = let z : m - i ≡ 0 = omega arith in rw z
+  pub left_first-none : m ≤ i → false ≡ left?
+  left_first-none h = let z : m - i ≡ 0 = omega arith in rw z
 
-  pub leftFirst-only : i < m → n ≤ j → true ≡ left?
-  leftFirst-only h k = let z : n - j ≡ 0 = omega arith in rw (z, runs-next a i m h)
+  pub left_first-only : i < m → n ≤ j → true ≡ left?
+  left_first-only h k = let z : n - j ≡ 0 = omega arith in rw (z, runs-next a i m h)
 
-  pub leftFirst-both : i < m → j < n → leb (get_or a (2 * i) 0) (get_or b (2 * j) 0) ≡ left?
-  leftFirst-both h k = rw (runs-next a i m h, runs-next b j n k)
+  pub left_first-both : i < m → j < n → leb (get_or a (2 * i) 0) (get_or b (2 * j) 0) ≡ left?
+  left_first-both h k = rw (runs-next a i m h, runs-next b j n k)
 
   left_lt : left? ≡ true → i < m
   left_lt e = cases m i (λ h. let z : m - i ≡ 0 = omega arith in absurd (true≢false (sym (rw z at e)))) (λ h. h)
@@ -42,15 +42,15 @@ module _ (a : List ℕ) (i m : ℕ) (b : List ℕ) (j n : ℕ) where
 
   rest-left : left? ≡ true → rest a i m b j n ≡ run_at a i ∷ rest a (i + 1) m b j n
   rest-left e =
-      let s : runsInWords a i (m - i) ≡ run_at a i ∷ runsInWords a (i + 1) (m - (i + 1)) = runs-next a i m (left_lt e) in
-      ap (λ (t : List Run). interleave t (runsInWords b j (n - j))) s
-      ∙ interleave-left (run_at a i) (runsInWords a (i + 1) (m - (i + 1))) (runsInWords b j (n - j)) (ap (λ (t : List Run). leftFirst t (runsInWords b j (n - j))) (sym s) ∙ e)
+      let s : runs_in_words a i (m - i) ≡ run_at a i ∷ runs_in_words a (i + 1) (m - (i + 1)) = runs-next a i m (left_lt e) in
+      ap (λ (t : List Run). interleave t (runs_in_words b j (n - j))) s
+      ∙ interleave-left (run_at a i) (runs_in_words a (i + 1) (m - (i + 1))) (runs_in_words b j (n - j)) (ap (λ (t : List Run). left_first_of t (runs_in_words b j (n - j))) (sym s) ∙ e)
 
   rest-right : left? ≡ false → i ≤ m → i + j < m + n → rest a i m b j n ≡ run_at b j ∷ rest a i m b (j + 1) n
   rest-right e h l =
-      let s : runsInWords b j (n - j) ≡ run_at b j ∷ runsInWords b (j + 1) (n - (j + 1)) = runs-next b j n (right_lt e h l) in
-      ap (λ (t : List Run). interleave (runsInWords a i (m - i)) t) s
-      ∙ interleave-right (runsInWords a i (m - i)) (run_at b j) (runsInWords b (j + 1) (n - (j + 1))) (ap (λ (t : List Run). leftFirst (runsInWords a i (m - i)) t) (sym s) ∙ e)
+      let s : runs_in_words b j (n - j) ≡ run_at b j ∷ runs_in_words b (j + 1) (n - (j + 1)) = runs-next b j n (right_lt e h l) in
+      ap (λ (t : List Run). interleave (runs_in_words a i (m - i)) t) s
+      ∙ interleave-right (runs_in_words a i (m - i)) (run_at b j) (runs_in_words b (j + 1) (n - (j + 1))) (ap (λ (t : List Run). left_first_of (runs_in_words a i (m - i)) t) (sym s) ∙ e)
 
   rest-none : m ≤ i → n ≤ j → rest a i m b j n ≡ []
   rest-none h k =
@@ -62,17 +62,17 @@ module _ (a : List ℕ) (i m : ℕ) (b : List ℕ) (j n : ℕ) where
 pub record Merging (a : List ℕ) (a-from a-to : ℕ) (ws₀ : List ℕ) (b-from b-to start cap : ℕ) (ws : List ℕ) (i j k : ℕ) : Type 0 where
   pub room : Room ws₀ start 0 cap
   pub below : b-to ≤ start
-  pub a-sound : Sound (2 ^ 62) (runsInWords a a-from (a-to - a-from))
-  pub b-sound : Sound (2 ^ 62) (runsInWords ws₀ b-from (b-to - b-from))
+  pub a-sound : Sound (2 ^ 62) (runs_in_words a a-from (a-to - a-from))
+  pub b-sound : Sound (2 ^ 62) (runs_in_words ws₀ b-from (b-to - b-from))
   pub a-begun : a-from ≤ i
   pub a-within : i ≤ a-to
   pub b-begun : b-from ≤ j
   pub b-within : j ≤ b-to
-  pub sameLength : length ws ≡ length ws₀
-  pub adding : Adding ws₀ ws start cap k (rest a i a-to ws₀ j b-to) (addRuns [] (rest a a-from a-to ws₀ b-from b-to))
+  pub same_length_of : length ws ≡ length ws₀
+  pub adding : Adding ws₀ ws start cap k (rest a i a-to ws₀ j b-to) (add_runs [] (rest a a-from a-to ws₀ b-from b-to))
 
 pub merging_start : (a : List ℕ) (a-from a-to : ℕ) (ws : List ℕ) (b-from b-to start cap : ℕ) → a-from ≤ a-to → b-from ≤ b-to → b-to ≤ start → Room ws start 0 cap
-    → Sound (2 ^ 62) (runsInWords a a-from (a-to - a-from)) → Sound (2 ^ 62) (runsInWords ws b-from (b-to - b-from))
+    → Sound (2 ^ 62) (runs_in_words a a-from (a-to - a-from)) → Sound (2 ^ 62) (runs_in_words ws b-from (b-to - b-from))
     → Merging a a-from a-to ws b-from b-to start cap ws a-from b-from 0
 merging_start a a-from a-to ws b-from b-to start cap p q h room u v = record {
   room = room;
@@ -83,38 +83,38 @@ merging_start a a-from a-to ws b-from b-to start cap p q h room u v = record {
   a-within = p;
   b-begun = omega arith;
   b-within = q;
-  sameLength = refl;
+  same_length_of = refl;
   adding = adding-start ws start cap 0 (rest a a-from a-to ws b-from b-to) (omega arith);
 }
 
 module _ {a : List ℕ} {a-from a-to : ℕ} {ws₀ : List ℕ} {b-from b-to start cap : ℕ} {ws : List ℕ} {i j k : ℕ}
     (now : Merging a a-from a-to ws₀ b-from b-to start cap ws i j k) where
   total : List Run
-  total = addRuns [] (rest a a-from a-to ws₀ b-from b-to)
+  total = add_runs [] (rest a a-from a-to ws₀ b-from b-to)
 
   unites : (ws' : List ℕ) (q : Added) → Adds ws₀ ws' start cap total q → Unites a a-from a-to ws₀ b-from b-to start cap ws' q
   unfolding total
   unites ws' q d t u v =
       subst (λ (s : List Run). Adds ws₀ ws' start cap s q)
-      (addRuns-union t (runsInWords a a-from (a-to - a-from)) (runsInWords ws₀ b-from (b-to - b-from)) u v) d
+      (add_runs-union t (runs_in_words a a-from (a-to - a-from)) (runs_in_words ws₀ b-from (b-to - b-from)) u v) d
 
-  pub merging-room : Room ws start k cap
-  merging-room = record { fits = now.adding.fits; inside = omega (arith, now.sameLength, now.room.inside) }
+  pub merging_room : Room ws start k cap
+  merging_room = record { fits = now.adding.fits; inside = omega (arith, now.same_length_of, now.room.inside) }
 
-  pub merging-end : a-to + b-to ≤ i + j → Unites a a-from a-to ws₀ b-from b-to start cap ws (Count k)
+  pub merging_end : a-to + b-to ≤ i + j → Unites a a-from a-to ws₀ b-from b-to start cap ws (Count k)
   unfolding total
-  merging-end h =
+  merging_end h =
       unites ws (Count k)
       (adding-done ws₀ ws start cap k total
-      (as-rest (rest-none a i a-to ws₀ j b-to (omega (arith, now.b-within)) (omega (arith, now.a-within))) now.adding))
+      (as_rest (rest-none a i a-to ws₀ j b-to (omega (arith, now.b-within)) (omega (arith, now.a-within))) now.adding))
 
-  module _ {flag : Bool} (says : flag ≡ leftFirst (runsInWords a i (a-to - i)) (runsInWords ws j (b-to - j))) where
+  module _ {flag : Bool} (says : flag ≡ left_first_of (runs_in_words a i (a-to - i)) (runs_in_words ws j (b-to - j))) where
     -- the runs before `start` are as they were
-    was : flag ≡ leftFirst (runsInWords a i (a-to - i)) (runsInWords ws₀ j (b-to - j))
+    was : flag ≡ left_first_of (runs_in_words a i (a-to - i)) (runs_in_words ws₀ j (b-to - j))
     unfolding total
     was =
         says
-        ∙ ap (λ (s : List Run). leftFirst (runsInWords a i (a-to - i)) s)
+        ∙ ap (λ (s : List Run). left_first_of (runs_in_words a i (a-to - i)) s)
         (adding-runs ws₀ ws start cap k (rest a i a-to ws₀ j b-to) total j (b-to - j) now.adding (omega (arith, now.b-within, now.below)))
 
     module _ (yes : flag ≡ true) where
@@ -126,9 +126,9 @@ module _ {a : List ℕ} {a-from a-to : ℕ} {ws₀ : List ℕ} {b-from b-to star
 
       left-now : Adding ws₀ ws start cap k (run_at a i ∷ rest a (i + 1) a-to ws₀ j b-to) total
       unfolding total
-      left-now = as-rest (rest-left a i a-to ws₀ j b-to (sym was ∙ yes)) now.adding
+      left-now = as_rest (rest-left a i a-to ws₀ j b-to (sym was ∙ yes)) now.adding
 
-      module _ {ws' : List ℕ} {q : Added} (adds : Adds ws ws' start cap (addRun (runsInWords ws start k) (run_at a i)) q) where
+      module _ {ws' : List ℕ} {q : Added} (adds : Adds ws ws' start cap (add_run (runs_in_words ws start k) (run_at a i)) q) where
         pub left-full : q ≡ Full → Unites a a-from a-to ws₀ b-from b-to start cap ws' Full
         left-full e = unites ws' Full (part-full ws₀ ws start cap k total ws' (run_at a i ∷ []) (rest a (i + 1) a-to ws₀ j b-to) left-now q e adds)
 
@@ -146,7 +146,7 @@ module _ {a : List ℕ} {a-from a-to : ℕ} {ws₀ : List ℕ} {b-from b-to star
               a-within = omega (arith, left_below);
               b-begun = now.b-begun;
               b-within = now.b-within;
-              sameLength = adding-length ws₀ ws' start cap c total (rest a (i + 1) a-to ws₀ j b-to) more;
+              same_length_of = adding-length ws₀ ws' start cap c total (rest a (i + 1) a-to ws₀ j b-to) more;
               adding = more;
             }
 
@@ -167,11 +167,11 @@ module _ {a : List ℕ} {a-from a-to : ℕ} {ws₀ : List ℕ} {b-from b-to star
       right-now : Adding ws₀ ws start cap k (run_at ws j ∷ rest a i a-to ws₀ (j + 1) b-to) total
       unfolding total
       right-now =
-          as-rest
+          as_rest
           (rest-right a i a-to ws₀ j b-to (sym was ∙ no) now.a-within lt ∙ ap (λ (r : Run). r ∷ rest a i a-to ws₀ (j + 1) b-to) (sym same))
           now.adding
 
-      module _ {ws' : List ℕ} {q : Added} (adds : Adds ws ws' start cap (addRun (runsInWords ws start k) (run_at ws j)) q) where
+      module _ {ws' : List ℕ} {q : Added} (adds : Adds ws ws' start cap (add_run (runs_in_words ws start k) (run_at ws j)) q) where
         pub right-full : q ≡ Full → Unites a a-from a-to ws₀ b-from b-to start cap ws' Full
         right-full e = unites ws' Full (part-full ws₀ ws start cap k total ws' (run_at ws j ∷ []) (rest a i a-to ws₀ (j + 1) b-to) right-now q e adds)
 
@@ -189,6 +189,6 @@ module _ {a : List ℕ} {a-from a-to : ℕ} {ws₀ : List ℕ} {b-from b-to star
               a-within = now.a-within;
               b-begun = omega (arith, now.b-begun);
               b-within = omega (arith, right-within);
-              sameLength = adding-length ws₀ ws' start cap c total (rest a i a-to ws₀ (j + 1) b-to) more;
+              same_length_of = adding-length ws₀ ws' start cap c total (rest a i a-to ws₀ (j + 1) b-to) more;
               adding = more;
             }

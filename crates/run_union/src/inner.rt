@@ -1,9 +1,9 @@
 // Runs made in lent words: added at the end of a list, shifted, copied. Lists stand at run places, as in `run_lists`.
 ghost use Rattle.std.specs.Prelude.{◌≡◌, [], ◌∷◌, ◌++◌, ◌+◌, ◌-◌, ◌*◌, ◌<◌, ◌≤◌, ◌^◌, max, length};
 ghost use Rattle.model.specs.Runs.{run};
-ghost use Rattle.run_lists.specs.RunLists.{RunWithin, Sound, addRun, shiftRun, shiftRuns, run_at, runsInWords, writeRuns};
+ghost use Rattle.run_lists.specs.RunLists.{RunWithin, Sound, add_run, shift_run, shift_runs, run_at, runs_in_words, write_runs_of};
 ghost use Rattle.run_lists.specs.Answers.{Room, Adds};
-ghost use Rattle.run_union.specs.Unions.{withShifted, FitsWhere};
+ghost use Rattle.run_union.specs.Unions.{with_shifted, FitsWhere};
 
 use run_lists::inner::Added;
 
@@ -27,7 +27,7 @@ fn place(
     high: u64,
 ) -> Added
     requires { Room words.old start count capacity }
-    ensures { Adds words.old words.new start capacity (runsInWords words.old start count ++ run low high ∷ []) result }
+    ensures { Adds words.old words.new start capacity (runs_in_words words.old start count ++ run low high ∷ []) result }
 {
     if count < capacity {
         let at = 2 * (start + count);
@@ -51,7 +51,7 @@ pub fn append(
 ) -> Added
     requires room { Room words.old start count capacity }
     requires le_low { 1 ≤ low }
-    ensures { Adds words.old words.new start capacity (addRun (runsInWords words.old start count) (run low high)) result }
+    ensures { Adds words.old words.new start capacity (add_run (runs_in_words words.old start count) (run low high)) result }
 {
     if count == 0 {
         return place(words, start, count, capacity, low, high);
@@ -77,7 +77,7 @@ fn append_run_shifted(
     requires room { Room words.old start count capacity }
     requires i_lt_start { (i < start) × (offset ≤ 2 ^ 62) }
     requires run_within { RunWithin (2 ^ 62) (run_at words.old i) }
-    ensures { Adds words.old words.new start capacity (addRun (runsInWords words.old start count) (shiftRun offset (run_at words.old i))) result }
+    ensures { Adds words.old words.new start capacity (add_run (runs_in_words words.old start count) (shift_run offset (run_at words.old i))) result }
 {
     let low = words[2 * i] + offset;
     let high = words[2 * i + 1] + offset;
@@ -96,8 +96,8 @@ fn append_each(
 ) -> Added
     requires room { Room words.old start count capacity }
     requires from_le_to { (from ≤ to) × (to ≤ start) × (offset ≤ 2 ^ 62) }
-    requires sound { Sound (2 ^ 62) (runsInWords words.old from (to - from)) }
-    ensures { Adds words.old words.new start capacity (withShifted words.old from to start count offset) result }
+    requires sound { Sound (2 ^ 62) (runs_in_words words.old from (to - from)) }
+    ensures { Adds words.old words.new start capacity (with_shifted words.old from to start count offset) result }
 {
     let mut i = from;
     let mut n = count;
@@ -138,8 +138,8 @@ fn fit_after(
 // Places the runs from..to of the same words, shifted, from a run place on.
 fn place_shifted(words: &mut [u64], from: usize, to: usize, place: usize, offset: u64)
     requires from_le_to { (from ≤ to) × (to ≤ place) × (2 * (place + (to - from)) ≤ length words.old) × (offset ≤ 2 ^ 62) }
-    requires sound { Sound (2 ^ 62) (runsInWords words.old from (to - from)) }
-    ensures { words.new ≡ writeRuns words.old place (shiftRuns offset (runsInWords words.old from (to - from))) }
+    requires sound { Sound (2 ^ 62) (runs_in_words words.old from (to - from)) }
+    ensures { words.new ≡ write_runs_of words.old place (shift_runs offset (runs_in_words words.old from (to - from))) }
 {
     let mut i = from;
     let mut at = place;
@@ -165,8 +165,8 @@ fn append_rest(
 ) -> Added
     requires room { Room words.old start count capacity }
     requires from_le_to { (from ≤ to) × (to ≤ start) × (offset ≤ 2 ^ 62) }
-    requires sound { Sound (2 ^ 62) (runsInWords words.old from (to - from)) }
-    ensures { Adds words.old words.new start capacity (withShifted words.old from to start count offset) result }
+    requires sound { Sound (2 ^ 62) (runs_in_words words.old from (to - from)) }
+    ensures { Adds words.old words.new start capacity (with_shifted words.old from to start count offset) result }
 {
     if to <= from {
         return Added::Count(count);
@@ -192,8 +192,8 @@ pub fn append_shifted(
 ) -> Added
     requires room { Room words.old start count capacity }
     requires from_le_to { (from ≤ to) × (to ≤ start) × (offset ≤ 2 ^ 62) }
-    requires sound { Sound (2 ^ 62) (runsInWords words.old from (to - from)) }
-    ensures { Adds words.old words.new start capacity (withShifted words.old from to start count offset) result }
+    requires sound { Sound (2 ^ 62) (runs_in_words words.old from (to - from)) }
+    ensures { Adds words.old words.new start capacity (with_shifted words.old from to start count offset) result }
 {
     if to <= from {
         return Added::Count(count);
@@ -207,7 +207,7 @@ pub fn append_shifted(
 // Copies runs to other words.
 pub fn copy(source: &[u64], from: usize, count: usize, words: &mut [u64], start: usize)
     requires { (2 * (from + count) ≤ length source.now) × (2 * (start + count) ≤ length words.old) }
-    ensures { words.new ≡ writeRuns words.old start (runsInWords source.now from count) }
+    ensures { words.new ≡ write_runs_of words.old start (runs_in_words source.now from count) }
 {
     let mut k = 0;
     while k < count {

@@ -2,14 +2,14 @@
 use Rattle.model.proofs.Prelude.{ℕ, ◌≤◌, ◌<◌, ◌≡◌, ◌∙◌, ap, refl, sym, true, Bool, false, not, List, [], ◌∷◌, length, leb, eqb, arith, ne_eqb, eq-eqb}
 use Rattle.model.proofs.Prelude.{not-true, not-false, le-leb, lt-leb}
 use Rattle.model.specs.Base.{Answer, refused, value, ◌into◌, ◌then◌, checks}
-use Rattle.model.specs.Netlist.{Netlist, pathTotal}
-use Rattle.model.specs.Read.{within, readNetlist, class_of, classRule}
-use Rattle.model.specs.Store.{storeWords}
-use Rattle.model.specs.Calls.{workWords, storeRule, workRule, beforeTest, testStage, testCall, testAnswer, testStore}
-use Rattle.model.specs.Refusals.{refusalNumber}
+use Rattle.model.specs.Netlist.{Netlist, path_total}
+use Rattle.model.specs.Read.{within, read_netlist, class_of, class_rule}
+use Rattle.model.specs.Store.{store_words_count}
+use Rattle.model.specs.Calls.{work_words_count, store_rule, work_rule, before_test, test_stage, test_call, test_answer, test_store}
+use Rattle.model.specs.Refusals.{refusal_number_of}
 use Rattle.model.specs.declared.Refusal.{Refusal}
 use Rattle.model.specs.declared.Refusal.TheVariants as why
-use Rattle.model.proofs.AnswerLaws.{AllPass, not-refused, checks→, →checks, pass-first, pass-second, checks-both}
+use Rattle.model.proofs.AnswerLaws.{AllPass, not_refused, checks→, →checks, pass_first, pass_second, checks-both}
 use Rattle.model.proofs.ReadLaws.{limits}
 use Rattle.model.proofs.RefusalLaws.{refused-inj}
 use Rattle.netlist.specs.Answers.{LegalLoad, LoadTrue}
@@ -17,10 +17,10 @@ use Rattle.netlist.specs.Tables.{CircuitTables}
 use Rattle.netlist.specs.declared.inner.LoadAnswer.{LoadAnswer}
 use Rattle.netlist.specs.declared.inner.LoadAnswer.TheVariants as load
 use Rattle.netlist.specs.declared.inner.Shape.{Shape}
-use Rattle.store_coverage.specs.Stage.{placeRules, storeAfter}
+use Rattle.store_coverage.specs.Stage.{place_rules, store_after}
 use Rattle.single_stage.specs.LegalStage.{LegalReady}
-use Rattle.store_coverage.specs.TestCall.{returnedBy, TestedIs}
-use Rattle.single_call.specs.TestPromise.{CheckReady, checkedOf, TestTrue}
+use Rattle.store_coverage.specs.TestCall.{returned_by, TestedIs}
+use Rattle.single_call.specs.TestPromise.{CheckReady, checked_of, TestTrue}
 use Rattle.store_coverage.specs.declared.TestAnswer.{TestAnswer}
 use Rattle.store_coverage.specs.declared.TestAnswer.TheVariants.{Refused}
 use Rattle.single_call.specs.declared.Checked.{Checked}
@@ -30,47 +30,47 @@ use Rattle.store_coverage.proofs.StageLaws.{stage-refused, passes-test, passes-s
 -- ---- the class, before the places Test and Store
 
 module _ (class inputs paths : ℕ) (rec ws : List ℕ) (k : Bool) (e : k ≡ within 1 2 class) where
-  pub class-unknown : not k ≡ true → (N : Netlist) → inputs ≡ N.inputs → paths ≡ pathTotal N
-      → refused (refusalNumber why.UnknownClass) ≡ checks (classRule class ∷ placeRules N rec ws)
+  pub class-unknown : not k ≡ true → (N : Netlist) → inputs ≡ N.inputs → paths ≡ path_total N
+      → refused (refusal_number_of why.UnknownClass) ≡ checks (class_rule class ∷ place_rules N rec ws)
   class-unknown h N i p = let q : within 1 2 class ≡ false = sym e ∙ not-true k h in rw q refl
 
   pub class-known : not k ≡ false → (c : Checked)
-      → ((N : Netlist) → inputs ≡ N.inputs → paths ≡ pathTotal N → checkedOf c ≡ checks (placeRules N rec ws))
-      → (N : Netlist) → inputs ≡ N.inputs → paths ≡ pathTotal N → checkedOf c ≡ checks (classRule class ∷ placeRules N rec ws)
+      → ((N : Netlist) → inputs ≡ N.inputs → paths ≡ path_total N → checked_of c ≡ checks (place_rules N rec ws))
+      → (N : Netlist) → inputs ≡ N.inputs → paths ≡ path_total N → checked_of c ≡ checks (class_rule class ∷ place_rules N rec ws)
   class-known h c made N i p = let q : within 1 2 class ≡ true = sym e ∙ not-false k h in made N i p ∙ rw q refl
 
 -- ---- the test stage was not reached
 
 module _ (netlist : List ℕ) (class : ℕ) (rec ws work : List ℕ) where
-  not-reached : (w : Refusal) → beforeTest netlist class ws work ≡ refused (refusalNumber w) → TestTrue (Refused w) netlist class rec ws ws work work
-  unfolding testAnswer testStore testCall
-  not-reached w e = record {
+  not_reached_lem : (w : Refusal) → before_test netlist class ws work ≡ refused (refusal_number_of w) → TestTrue (Refused w) netlist class rec ws ws work work
+  unfolding test_answer test_store test_call
+  not_reached_lem w e = record {
     answer = rw e refl;
     store = rw e refl;
-    memory = record { sameLength = refl; pastWork = refl; notReached = λ n q. refl };
+    memory = record { same_length_of = refl; past_work = refl; not_reached = λ n q. refl };
   }
 
-  pub no_store : (length ws ≡ storeWords → ⊥) → TestTrue (Refused why.StoreLength) netlist class rec ws ws work work
+  pub no_store : (length ws ≡ store_words_count → ⊥) → TestTrue (Refused why.StoreLength) netlist class rec ws ws work work
   no_store h =
-      let e : eqb (length ws) storeWords ≡ false = ne_eqb (length ws) storeWords h in
-      not-reached why.StoreLength (rw e refl)
+      let e : eqb (length ws) store_words_count ≡ false = ne_eqb (length ws) store_words_count h in
+      not_reached_lem why.StoreLength (rw e refl)
 
-  module _ (l : length ws ≡ storeWords) where
-    long : eqb (length ws) storeWords ≡ true
-    long = eq-eqb (length ws) storeWords l
+  module _ (l : length ws ≡ store_words_count) where
+    long : eqb (length ws) store_words_count ≡ true
+    long = eq-eqb (length ws) store_words_count l
 
-    pub no-work : length work < workWords → TestTrue (Refused why.WorkLength) netlist class rec ws ws work work
+    pub no-work : length work < work_words_count → TestTrue (Refused why.WorkLength) netlist class rec ws ws work work
     no-work h =
-        let e : leb workWords (length work) ≡ false = lt-leb workWords (length work) h in
-        not-reached why.WorkLength (rw (long, e) refl)
+        let e : leb work_words_count (length work) ≡ false = lt-leb work_words_count (length work) h in
+        not_reached_lem why.WorkLength (rw (long, e) refl)
 
-    module _ (k : workWords ≤ length work) where
-      lent : checks (storeRule ws ∷ workRule work ∷ []) ≡ value tt
-      lent = let e : leb workWords (length work) ≡ true = le-leb workWords (length work) k in rw (long, e) refl
+    module _ (k : work_words_count ≤ length work) where
+      lent : checks (store_rule ws ∷ work_rule work ∷ []) ≡ value tt
+      lent = let e : leb work_words_count (length work) ≡ true = le-leb work_words_count (length work) k in rw (long, e) refl
 
       module _ (counts positions : List ℕ) (a : LoadAnswer) (t : LoadTrue a netlist counts positions) where
         pub no-netlist : {w : Refusal} → a ≡ load.Refused w → TestTrue (Refused w) netlist class rec ws ws work work
-        no-netlist {w = w} e = let r : readNetlist netlist ≡ refused (refusalNumber w) = rw e at t in not-reached w (rw (lent, r) refl)
+        no-netlist {w = w} e = let r : read_netlist netlist ≡ refused (refusal_number_of w) = rw e at t in not_reached_lem w (rw (lent, r) refl)
 
         module _ {shape : Shape} {total : ℕ} (e : a ≡ load.Legal shape total) where
           here : LegalLoad netlist counts positions shape total
@@ -80,76 +80,76 @@ module _ (netlist : List ℕ) (class : ℕ) (rec ws work : List ℕ) where
           call-checks =
               let m = limits netlist here.circuit here.tables.legal in
               record {
-                someInput = omega (arith, here.tables.inputsAre, m.someInput);
-                fewInputs = omega (arith, here.tables.inputsAre, m.fewInputs);
+                some_input = omega (arith, here.tables.inputs_are, m.some_input);
+                few_inputs = omega (arith, here.tables.inputs_are, m.few_inputs);
                 long = l;
-                fewPaths = omega (arith, here.totalIs, m.totalFits);
+                few_paths = omega (arith, here.total_is, m.total_fits);
               }
 
-          before-is : beforeTest netlist class ws work ≡ (checks (classRule class ∷ []) then value here.circuit)
+          before-is : before_test netlist class ws work ≡ (checks (class_rule class ∷ []) then value here.circuit)
           before-is = rw (lent, here.tables.legal) refl
 
-          call-is : (x : Answer (Unit {0})) → checks (classRule class ∷ []) ≡ x
-              → testCall netlist class rec ws work ≡ (x then testStage here.circuit (class_of class) rec ws)
-          unfolding testCall
+          call-is : (x : Answer (Unit {0})) → checks (class_rule class ∷ []) ≡ x
+              → test_call netlist class rec ws work ≡ (x then test_stage here.circuit (class_of class) rec ws)
+          unfolding test_call
           call-is x q = rw (before-is, q) (go x)
             where
-              go : (y : Answer (Unit {0})) → (y then value here.circuit into λ N. testStage N (class_of class) rec ws) ≡ (y then testStage here.circuit (class_of class) rec ws)
+              go : (y : Answer (Unit {0})) → (y then value here.circuit into λ N. test_stage N (class_of class) rec ws) ≡ (y then test_stage here.circuit (class_of class) rec ws)
               go (refused n) = refl
               go (value u) = refl
 
           module _ (c : Checked)
-              (made : (N : Netlist) → shape.inputs ≡ N.inputs → total ≡ pathTotal N → checkedOf c ≡ checks (classRule class ∷ placeRules N rec ws)) where
-            rules-are : checkedOf c ≡ checks (classRule class ∷ placeRules here.circuit rec ws)
-            rules-are = made here.circuit here.tables.inputsAre here.totalIs
+              (made : (N : Netlist) → shape.inputs ≡ N.inputs → total ≡ path_total N → checked_of c ≡ checks (class_rule class ∷ place_rules N rec ws)) where
+            rules-are : checked_of c ≡ checks (class_rule class ∷ place_rules here.circuit rec ws)
+            rules-are = made here.circuit here.tables.inputs_are here.total_is
 
             pub call-refused : {w : Refusal} → c ≡ checked.Refused w → TestTrue (Refused w) netlist class rec ws ws work work
-            unfolding testAnswer testStore
+            unfolding test_answer test_store
             call-refused {w = w} d =
-                let q : testCall netlist class rec ws work ≡ refused (refusalNumber w) =
-                call-is (checks (classRule class ∷ [])) refl
-                ∙ go (checks (classRule class ∷ [])) (sym (ap checkedOf d) ∙ rules-are ∙ checks-both (classRule class ∷ []) (placeRules here.circuit rec ws)) in
-                record { answer = rw q refl; store = rw q refl; memory = record { sameLength = refl; pastWork = refl; notReached = λ n p. refl } }
+                let q : test_call netlist class rec ws work ≡ refused (refusal_number_of w) =
+                call-is (checks (class_rule class ∷ [])) refl
+                ∙ go (checks (class_rule class ∷ [])) (sym (ap checked_of d) ∙ rules-are ∙ checks-both (class_rule class ∷ []) (place_rules here.circuit rec ws)) in
+                record { answer = rw q refl; store = rw q refl; memory = record { same_length_of = refl; past_work = refl; not_reached = λ n p. refl } }
               where
-                go : (x : Answer (Unit {0})) → refused (refusalNumber w) ≡ (x then checks (placeRules here.circuit rec ws))
-                    → (x then testStage here.circuit (class_of class) rec ws) ≡ refused (refusalNumber w)
+                go : (x : Answer (Unit {0})) → refused (refusal_number_of w) ≡ (x then checks (place_rules here.circuit rec ws))
+                    → (x then test_stage here.circuit (class_of class) rec ws) ≡ refused (refusal_number_of w)
                 go (refused n) p = ap (λ k. refused k) (sym (refused-inj p))
-                go (value u) p = stage-refused here.circuit (class_of class) rec ws (refusalNumber w) p
+                go (value u) p = stage-refused here.circuit (class_of class) rec ws (refusal_number_of w) p
 
             module _ (d : c ≡ checked.Passed) where
-              all_pass : AllPass (classRule class ∷ placeRules here.circuit rec ws)
-              all_pass = checks→ (classRule class ∷ placeRules here.circuit rec ws) (record { got = tt; is = sym (sym (ap checkedOf d) ∙ rules-are) })
+              all_pass : AllPass (class_rule class ∷ place_rules here.circuit rec ws)
+              all_pass = checks→ (class_rule class ∷ place_rules here.circuit rec ws) (record { got = tt; is = sym (sym (ap checked_of d) ∙ rules-are) })
 
-              class-passes : checks (classRule class ∷ []) ≡ value tt
-              class-passes = →checks (classRule class ∷ []) (pass-first (classRule class ∷ []) (placeRules here.circuit rec ws) all_pass)
+              class-passes : checks (class_rule class ∷ []) ≡ value tt
+              class-passes = →checks (class_rule class ∷ []) (pass_first (class_rule class ∷ []) (place_rules here.circuit rec ws) all_pass)
 
-              places-pass : value tt ≡ checks (placeRules here.circuit rec ws)
-              places-pass = sym (→checks (placeRules here.circuit rec ws) (pass-second (classRule class ∷ []) (placeRules here.circuit rec ws) all_pass))
+              places-pass : value tt ≡ checks (place_rules here.circuit rec ws)
+              places-pass = sym (→checks (place_rules here.circuit rec ws) (pass_second (class_rule class ∷ []) (place_rules here.circuit rec ws) all_pass))
 
               pub call-legal : LegalReady netlist positions counts shape rec ws work
               call-legal = record {
                 stage = record {
                   circuit = here.circuit;
                   tables = here.tables;
-                  memory = record { storeLength = l; sound = passes-store here.circuit rec ws places-pass; workLength = k };
+                  memory = record { store_length = l; sound = passes-store here.circuit rec ws places-pass; work_length = k };
                 };
-                legalRecord = passes-test here.circuit rec ws places-pass;
+                legal_record = passes-test here.circuit rec ws places-pass;
               }
 
               pub call-true : {ws' work' : List ℕ} {a : TestAnswer}
-                  → ((N : Netlist) → CircuitTables N netlist positions counts shape → TestedIs (testStage N (class_of class) rec ws) ws ws' work work' a)
+                  → ((N : Netlist) → CircuitTables N netlist positions counts shape → TestedIs (test_stage N (class_of class) rec ws) ws ws' work work' a)
                   → TestTrue a netlist class rec ws ws' work work'
-              unfolding testAnswer testStore returnedBy storeAfter
+              unfolding test_answer test_store returned_by store_after
               call-true tested =
                   let s = tested here.circuit here.tables in
-                  let q : testCall netlist class rec ws work ≡ testStage here.circuit (class_of class) rec ws = call-is (value tt) class-passes in
-                  let b : beforeTest netlist class ws work ≡ value here.circuit = before-is ∙ rw class-passes refl in
+                  let q : test_call netlist class rec ws work ≡ test_stage here.circuit (class_of class) rec ws = call-is (value tt) class-passes in
+                  let b : before_test netlist class ws work ≡ value here.circuit = before-is ∙ rw class-passes refl in
                   record {
                     answer = s.answer ∙ rw q refl;
                     store = s.store ∙ rw q refl;
                     memory = record {
-                      sameLength = s.sameLength;
-                      pastWork = s.pastWork;
-                      notReached = λ n p. absurd (not-refused (sym p ∙ b));
+                      same_length_of = s.same_length_of;
+                      past_work = s.past_work;
+                      not_reached = λ n p. absurd (not_refused (sym p ∙ b));
                     };
                   }

@@ -1,23 +1,23 @@
 -- The places Test and Store for one record, and the stage of a legal record with the faults counted.
 use Rattle.model.proofs.Prelude.{ℕ, ◌^◌, ◌≡◌, ◌∙◌, ap, refl, sym, List}
 use Rattle.model.specs.Base.{Answer, refused, value, checks}
-use Rattle.model.specs.Netlist.{Netlist, pathTotal}
+use Rattle.model.specs.Netlist.{Netlist, path_total}
 use Rattle.model.specs.Detect.{Test}
-use Rattle.model.specs.Read.{testRules, class_of, test_of}
-use Rattle.model.specs.Store.{storeRules}
-use Rattle.model.specs.Calls.{Tested, testStage}
-use Rattle.model.specs.Refusals.{refusalNumber}
+use Rattle.model.specs.Read.{test_rules, class_of, test_of}
+use Rattle.model.specs.Store.{store_rules}
+use Rattle.model.specs.Calls.{Tested, test_stage}
+use Rattle.model.specs.Refusals.{refusal_number_of}
 use Rattle.model.specs.declared.Refusal.{Refusal}
 use Rattle.model.proofs.AnswerLaws.{checks-both}
 use Rattle.netlist.specs.Tables.{CircuitTables}
 use Rattle.netlist.specs.declared.inner.Shape.{Shape}
-use Rattle.record_test.specs.Records.{recordOf, RecordTrue}
+use Rattle.record_test.specs.Records.{record_of, RecordTrue}
 use Rattle.record_test.specs.declared.inner.RecordAnswer.{RecordAnswer}
 use Rattle.record_test.specs.declared.inner.RecordAnswer.TheVariants as record-answer
-use Rattle.store_words.specs.WordAnswers.{checkOf, totalsIn, totalsBoth}
+use Rattle.store_words.specs.WordAnswers.{check_of, totals_in, totals_both}
 use Rattle.store_words.specs.declared.inner.StoreCheck.{StoreCheck}
 use Rattle.store_words.specs.declared.inner.StoreCheck.TheVariants as check
-use Rattle.store_coverage.specs.Stage.{placeRules}
+use Rattle.store_coverage.specs.Stage.{place_rules}
 use Rattle.single_stage.specs.LegalStage.{LegalReady, StageTrue}
 use Rattle.store_coverage.specs.declared.inner.StageAnswer.{StageAnswer}
 use Rattle.store_words.specs.Sound.{SoundWords}
@@ -31,53 +31,53 @@ use Rattle.store_coverage.proofs.StageLaws.{stage-is-work}
 -- ---- the places Test and Store
 
 module _ (inputs paths : ℕ) (rec ws : List ℕ) {q : RecordAnswer} (e : RecordTrue q inputs rec) where
-  pub place-test : (w : Refusal) → q ≡ record-answer.Refused w → (N : Netlist) → inputs ≡ N.inputs → paths ≡ pathTotal N
-      → refused (refusalNumber w) ≡ checks (placeRules N rec ws)
+  pub place-test : (w : Refusal) → q ≡ record-answer.Refused w → (N : Netlist) → inputs ≡ N.inputs → paths ≡ path_total N
+      → refused (refusal_number_of w) ≡ checks (place_rules N rec ws)
   place-test w r N i p =
-      let t : checks (testRules N rec) ≡ refused (refusalNumber w) = sym (e.answer N (sym i)) ∙ ap recordOf r in
-      sym (checks-both (testRules N rec) (storeRules (pathTotal N) ws) ∙ rw t refl)
+      let t : checks (test_rules N rec) ≡ refused (refusal_number_of w) = sym (e.answer N (sym i)) ∙ ap record_of r in
+      sym (checks-both (test_rules N rec) (store_rules (path_total N) ws) ∙ rw t refl)
 
   module _ (r : q ≡ record-answer.Legal) where
-    place-store : (N : Netlist) → inputs ≡ N.inputs → checks (placeRules N rec ws) ≡ checks (storeRules (pathTotal N) ws)
+    place-store : (N : Netlist) → inputs ≡ N.inputs → checks (place_rules N rec ws) ≡ checks (store_rules (path_total N) ws)
     place-store N i =
-        let t : checks (testRules N rec) ≡ value tt = sym (e.answer N (sym i)) ∙ ap recordOf r in
-        checks-both (testRules N rec) (storeRules (pathTotal N) ws) ∙ rw t refl
+        let t : checks (test_rules N rec) ≡ value tt = sym (e.answer N (sym i)) ∙ ap record_of r in
+        checks-both (test_rules N rec) (store_rules (path_total N) ws) ∙ rw t refl
 
-    module _ (a : StoreCheck) (ea : checkOf a ≡ checks (storeRules paths ws)) where
-      place-checked : (N : Netlist) → inputs ≡ N.inputs → paths ≡ pathTotal N → checkOf a ≡ checks (placeRules N rec ws)
-      place-checked N i p = ea ∙ ap (λ m. checks (storeRules m ws)) p ∙ sym (place-store N i)
+    module _ (a : StoreCheck) (ea : check_of a ≡ checks (store_rules paths ws)) where
+      place-checked : (N : Netlist) → inputs ≡ N.inputs → paths ≡ path_total N → check_of a ≡ checks (place_rules N rec ws)
+      place-checked N i p = ea ∙ ap (λ m. checks (store_rules m ws)) p ∙ sym (place-store N i)
 
-      pub place-refused : (w : Refusal) → a ≡ check.Refused w → (N : Netlist) → inputs ≡ N.inputs → paths ≡ pathTotal N
-          → refused (refusalNumber w) ≡ checks (placeRules N rec ws)
-      place-refused w o N i p = sym (ap checkOf o) ∙ place-checked N i p
+      pub place-refused : (w : Refusal) → a ≡ check.Refused w → (N : Netlist) → inputs ≡ N.inputs → paths ≡ path_total N
+          → refused (refusal_number_of w) ≡ checks (place_rules N rec ws)
+      place-refused w o N i p = sym (ap check_of o) ∙ place-checked N i p
 
-      pub place-sound : a ≡ check.Sound → (N : Netlist) → inputs ≡ N.inputs → paths ≡ pathTotal N → value tt ≡ checks (placeRules N rec ws)
-      place-sound o N i p = sym (ap checkOf o) ∙ place-checked N i p
+      pub place-sound : a ≡ check.Sound → (N : Netlist) → inputs ≡ N.inputs → paths ≡ path_total N → value tt ≡ checks (place_rules N rec ws)
+      place-sound o N i p = sym (ap check_of o) ∙ place-checked N i p
 
 -- ---- a legal record, counted
 
 -- for every netlist that the tables are of
 module _ {file ps cs : List ℕ} {shape : Shape} {rec ws work : List ℕ} (h : LegalReady file ps cs shape rec ws work) where
   pub before-sound : SoundWords (2 ^ 62) ws
-  before-sound = sound_more (pathTotal h.stage.circuit) (2 ^ 62) ws (few-paths h.stage.tables) (memory-sound h.stage.memory)
+  before-sound = sound_more (path_total h.stage.circuit) (2 ^ 62) ws (few-paths h.stage.tables) (memory-sound h.stage.memory)
 
-  module _ (class : ℕ) {before : StoreTotals} (eb : totalsIn before ≡ totalsBoth ws) {ws' work' : List ℕ} {r : StageAnswer}
+  module _ (class : ℕ) {before : StoreTotals} (eb : totals_in before ≡ totals_both ws) {ws' work' : List ℕ} {r : StageAnswer}
       (s : (N : Netlist) → CircuitTables N file ps cs shape → StageTrue N (class_of class) rec ws ws' work work' r) where
     counting-of : (N : Netlist) → CircuitTables N file ps cs shape
-        → Counting N (test_of N (class_of class) rec) (testStage N (class_of class) rec ws) ws ws' work work' before r
+        → Counting N (test_of N (class_of class) rec) (test_stage N (class_of class) rec ws) ws ws' work work' before r
     counting-of N c = record {
       memory = same_memory h.stage c;
-      fewPaths = few-paths c;
+      few_paths = few-paths c;
       totals = eb;
       stage = s N c;
-      isWork = stage-is-work N (class_of class) rec ws;
+      is_work = stage-is-work N (class_of class) rec ws;
     }
 
     pub legal-counting : SomeCounting before r ws'
     legal-counting = record {
       circuit = h.stage.circuit;
       test = test_of h.stage.circuit (class_of class) rec;
-      made = testStage h.stage.circuit (class_of class) rec ws;
+      made = test_stage h.stage.circuit (class_of class) rec ws;
       held = ws;
       work = work;
       work' = work';
@@ -86,5 +86,5 @@ module _ {file ps cs : List ℕ} {shape : Shape} {rec ws work : List ℕ} (h : L
 
     pub legal-counted : {a : TestAnswer}
         → ((N : Netlist) (t : Test) (x : Answer Tested) (held old new : List ℕ) → Counting N t x held ws' old new before r → TestedIs x held ws' old new a)
-        → (N : Netlist) → CircuitTables N file ps cs shape → TestedIs (testStage N (class_of class) rec ws) ws ws' work work' a
-    legal-counted counts N c = counts N (test_of N (class_of class) rec) (testStage N (class_of class) rec ws) ws work work' (counting-of N c)
+        → (N : Netlist) → CircuitTables N file ps cs shape → TestedIs (test_stage N (class_of class) rec ws) ws ws' work work' a
+    legal-counted counts N c = counts N (test_of N (class_of class) rec) (test_stage N (class_of class) rec ws) ws work work' (counting-of N c)

@@ -1,15 +1,15 @@
 // The test call: one record on a store.
 ghost use Rattle.std.specs.Prelude.{◌≡◌, ◌∷◌, ◌≤◌, length};
 ghost use Rattle.model.specs.Base.{checks};
-ghost use Rattle.model.specs.Netlist.{Netlist, pathTotal};
-ghost use Rattle.model.specs.Read.{class_of, classRule};
-ghost use Rattle.model.specs.Store.{storeWords};
-ghost use Rattle.model.specs.Calls.{testStage, workWords};
+ghost use Rattle.model.specs.Netlist.{Netlist, path_total};
+ghost use Rattle.model.specs.Read.{class_of, class_rule};
+ghost use Rattle.model.specs.Store.{store_words_count};
+ghost use Rattle.model.specs.Calls.{test_stage, work_words_count};
 ghost use Rattle.netlist.specs.Tables.{CircuitTables};
-ghost use Rattle.store_coverage.specs.Stage.{placeRules};
+ghost use Rattle.store_coverage.specs.Stage.{place_rules};
 ghost use Rattle.store_coverage.specs.TestCall.{TestedIs};
 ghost use Rattle.single_stage.specs.LegalStage.{LegalReady};
-ghost use Rattle.single_call.specs.TestPromise.{CheckReady, checkedOf, TestTrue};
+ghost use Rattle.single_call.specs.TestPromise.{CheckReady, checked_of, TestTrue};
 
 use model::{Refusal, STORE_WORDS, WORK_WORDS, known_class};
 use netlist::inner::{LoadAnswer, Shape, load};
@@ -29,8 +29,8 @@ enum Checked {
 // The places Test and Store for one record, in this order.
 fn check_places(test: &[u8], inputs: usize, store: &[u64], paths: u64) -> Checked
     requires { CheckReady inputs store.now paths }
-    ensures { (N : Netlist) → inputs ≡ N.inputs → paths ≡ pathTotal N
-        → checkedOf result ≡ checks (placeRules N test.now store.now) }
+    ensures { (N : Netlist) → inputs ≡ N.inputs → paths ≡ path_total N
+        → checked_of result ≡ checks (place_rules N test.now store.now) }
 {
     match check_record(test, inputs) {
         RecordAnswer::Refused(why) => Checked::Refused(why),
@@ -54,7 +54,7 @@ fn count_new(
 ) -> TestAnswer
     requires { LegalReady netlist.now positions.now counts.now shape test.now store.old work.old }
     ensures { (N : Netlist) → CircuitTables N netlist.now positions.now counts.now shape
-        → TestedIs (testStage N (class_of class) test.now store.old)
+        → TestedIs (test_stage N (class_of class) test.now store.old)
         store.old store.new work.old work.new result }
 {
     let before = totals_of(store);
@@ -65,8 +65,8 @@ fn count_new(
 // The class, then the places Test and Store for one record, on a store that is not checked yet.
 fn check_call(test: &[u8], class: u32, inputs: usize, store: &[u64], paths: u64) -> Checked
     requires { CheckReady inputs store.now paths }
-    ensures { (N : Netlist) → inputs ≡ N.inputs → paths ≡ pathTotal N
-        → checkedOf result ≡ checks (classRule class ∷ placeRules N test.now store.now) }
+    ensures { (N : Netlist) → inputs ≡ N.inputs → paths ≡ path_total N
+        → checked_of result ≡ checks (class_rule class ∷ place_rules N test.now store.now) }
 {
     if !known_class(class) {
         return Checked::Refused(Refusal::UnknownClass);
@@ -82,7 +82,7 @@ fn test_netlist(
     store: &mut [u64],
     work: &mut [u64],
 ) -> TestAnswer
-    requires { (length store.old ≡ storeWords) × (workWords ≤ length work.old) }
+    requires { (length store.old ≡ store_words_count) × (work_words_count ≤ length work.old) }
     ensures { TestTrue result netlist.now class test.now store.old store.new work.old work.new }
 {
     let mut counts = [0u64; 512];

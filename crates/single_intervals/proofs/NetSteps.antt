@@ -2,26 +2,26 @@
 use Rattle.model.proofs.Prelude.{ℕ, ◌≤◌, ◌<◌, ◌+◌, ◌-◌, ◌*◌, ◌≡◌, ◌∙◌, ap, refl, sym, subst, subst⁻¹, List, length, get_or, take, set, arith, needs}
 use mir.Val.{Fits}
 use mir.Syntax.{w16, w64}
-use Rattle.model.specs.Netlist.{Netlist, nets, pinsOf, pinNet, pinCounts}
-use Rattle.model.specs.Store.{maxRuns}
-use Rattle.model.proofs.NumberLaws.{length-pinCounts, pinCounts-at}
+use Rattle.model.specs.Netlist.{Netlist, nets, pins_of, pin_net, pin_counts}
+use Rattle.model.specs.Store.{max_runs}
+use Rattle.model.proofs.NumberLaws.{length-pin_counts, pin_counts-at}
 use Rattle.model.proofs.ReadLaws.{legal, limits}
 use Rattle.model.proofs.WellFormed.{WellFormed}
-use Rattle.netlist.specs.Tables.{GatePart, pinCountIn, gatePart}
+use Rattle.netlist.specs.Tables.{GatePart, pin_count_in, gate_part_of}
 use Rattle.netlist.specs.declared.inner.Shape.{Shape}
 use Rattle.netlist.proofs.TableLaws.{few-nets, inputs-below, gate-part, gate-inside, count_at}
-use Rattle.run_lists.specs.RunLists.{runsInWords}
+use Rattle.run_lists.specs.RunLists.{runs_in_words}
 use Rattle.run_lists.specs.Answers.{Adds}
 use Rattle.run_lists.specs.declared.inner.Added.{Added}
 use Rattle.run_lists.specs.declared.inner.Added.TheVariants.{Count, Full}
 use Rattle.run_union.proofs.Adding.{answer-over, adds-count}
-use Rattle.detection.specs.Cases.{Case, setRuns}
+use Rattle.detection.specs.Cases.{Case, set_runs_of}
 use Rattle.detection.specs.Walks.{Kept}
-use Rattle.detection.proofs.AddedLaws.{as-adds, take_short, full-count}
+use Rattle.detection.proofs.AddedLaws.{as_adds, take_short, full-count}
 use Rattle.detection.proofs.KeptLaws.{runs-next, runs-mono, kept_refl, kept_then, kept-write}
 use Rattle.detection.proofs.PlaceRunLaws.{paths-most}
 use Rattle.detection.proofs.DetectedLaws.{PinIs, pins-all, gate-set, set-sound, working-all}
-use Rattle.run_shifted.specs.RunsOfPlaces.{gatePlaces, runsIn, gateRuns, NetReady, GateReady}
+use Rattle.run_shifted.specs.RunsOfPlaces.{gate_places, runs_in, gate_runs_of, NetReady, GateReady}
 use Rattle.single_intervals.specs.Nets.{Stand, NetsAt, SomeNetsAt, NetsMade}
 use Rattle.single_intervals.proofs.StandLaws.{stand-runs, stand-net, stand-more}
 
@@ -30,20 +30,20 @@ pub record NetsDone (file ps cs masks : List ℕ) (shape : Shape) (ws₀ starts�
   pub begun : shape.inputs ≤ net
   pub within : net ≤ shape.nets
   pub kept : Kept ws₀ ws
-  pub stand : (K : Case) → NetsAt K file ps cs masks shape ws₀ starts₀ first → Stand (setRuns K) ws starts net start
+  pub stand : (K : Case) → NetsAt K file ps cs masks shape ws₀ starts₀ first → Stand (set_runs_of K) ws starts net start
 
 module _ {file ps cs masks : List ℕ} {shape : Shape} {ws₀ starts₀ : List ℕ} {first : ℕ} where
   pub nets-start : SomeNetsAt file ps cs masks shape ws₀ starts₀ first → NetsDone file ps cs masks shape ws₀ starts₀ first ws₀ starts₀ shape.inputs first
-  nets-start s = record { some = s; begun = omega arith; within = inputs-below s.at-nets.tables; kept = kept_refl ws₀; stand = λ K a. a.inputsStand }
+  nets-start s = record { some = s; begun = omega arith; within = inputs-below s.at-nets.tables; kept = kept_refl ws₀; stand = λ K a. a.inputs_stand }
 
   module _ {ws starts : List ℕ} {net start : ℕ} (i : NetsDone file ps cs masks shape ws₀ starts₀ first ws starts net start) where
     pub nets-done : shape.nets ≤ net → (K : Case) → NetsAt K file ps cs masks shape ws₀ starts₀ first → NetsMade K ws₀ ws starts (Count start)
     nets-done h K a =
-        let all : net ≡ nets K.netlist = omega (arith, i.within, a.tables.netsAre) in
+        let all : net ≡ nets K.netlist = omega (arith, i.within, a.tables.nets_are) in
         record {
           kept = i.kept;
           stand = λ n q. let m : start ≡ n = cc in
-              subst (λ x. Stand (setRuns K) ws starts (nets K.netlist) x) m (subst (λ x. Stand (setRuns K) ws starts x start) all (i.stand K a));
+              subst (λ x. Stand (set_runs_of K) ws starts (nets K.netlist) x) m (subst (λ x. Stand (set_runs_of K) ws starts x start) all (i.stand K a));
           full = λ q. absurd (full-count (sym q));
         }
 
@@ -60,13 +60,13 @@ module _ {file ps cs masks : List ℕ} {shape : Shape} {ws₀ starts₀ : List �
       pub nets-inside : get_or ps net 0 ≤ length file
       nets-inside = gate-inside i.some.at-nets.tables net i.begun h
 
-      module _ {part : List ℕ} (e : part ≡ gatePart file ps net) where
+      module _ {part : List ℕ} (e : part ≡ gate_part_of file ps net) where
         -- the gate, by the tables
         module _ (K : Case) (a : NetsAt K file ps cs masks shape ws₀ starts₀ first) where
           abbrev N : Netlist
           N = K.netlist
 
-          s : Stand (setRuns K) ws starts net start
+          s : Stand (set_runs_of K) ws starts net start
           s = i.stand K a
 
           w : WellFormed N
@@ -76,76 +76,76 @@ module _ {file ps cs masks : List ℕ} {shape : Shape} {ws₀ starts₀ : List �
           g = subst⁻¹ (λ x. GatePart x N net) e (gate-part a.tables net i.begun h)
 
           low : N.inputs ≤ net
-          low = omega (arith, i.begun, a.tables.inputsAre)
+          low = omega (arith, i.begun, a.tables.inputs_are)
 
           high : net < nets N
-          high = omega (arith, a.tables.netsAre)
+          high = omega (arith, a.tables.nets_are)
 
-          many : pinCountIn part ≡ length (pinCounts N net)
-          many = g.pinCount ∙ sym (length-pinCounts N w net)
+          many : pin_count_in part ≡ length (pin_counts N net)
+          many = g.pin_count ∙ sym (length-pin_counts N w net)
 
-          is : (p : ℕ) → p < length (pinCounts N net) → PinIs K w net low high (gatePlaces part (get_or masks net 0) cs) (runsIn starts ws) p
+          is : (p : ℕ) → p < length (pin_counts N net) → PinIs K w net low high (gate_places part (get_or masks net 0) cs) (runs_in starts ws) p
           is p l =
-              let q : p < pinCountIn part = omega (arith, many) in
-              let k : p < length (pinsOf N net) = omega (arith, g.pinCount) in
+              let q : p < pin_count_in part = omega (arith, many) in
+              let k : p < length (pins_of N net) = omega (arith, g.pin_count) in
               let below = g.lower p q in
               record {
-                opensAre = a.openPins.opens net p low high k;
-                pathsAre = ap (λ x. get_or cs x 0) (g.pinIs p q) ∙ count_at a.tables (pinNet N net p) (omega arith) ∙ sym (pinCounts-at N w net p k);
-                runsAre = ap (runsIn starts ws) (g.pinIs p q) ∙ stand-runs s (pinNet N net p) below;
+                opens_are = a.open_pins.opens net p low high k;
+                paths_are = ap (λ x. get_or cs x 0) (g.pin_is p q) ∙ count_at a.tables (pin_net N net p) (omega arith) ∙ sym (pin_counts-at N w net p k);
+                runs_are = ap (runs_in starts ws) (g.pin_is p q) ∙ stand-runs s (pin_net N net p) below;
               }
 
           ready : GateReady part (get_or masks net 0) cs starts ws start
           ready =
               let lim = limits file N a.tables.legal in
               record {
-                fewPins = g.fewPins;
+                few_pins = g.few_pins;
                 inside = g.inside;
                 used = s.fits;
                 ready = record {
                   room = omega (arith, s.fits, a.room, i.kept.same);
-                  at_place = λ p l. subst⁻¹ (λ x. NetReady starts ws start x) (g.pinIs p l)
-                      (stand-net s start (omega arith) (omega (arith, nets-below)) (pinNet N net p) (g.lower p l) (set-sound K lim (pinNet N net p)));
+                  at_place = λ p l. subst⁻¹ (λ x. NetReady starts ws start x) (g.pin_is p l)
+                      (stand-net s start (omega arith) (omega (arith, nets-below)) (pin_net N net p) (g.lower p l) (set-sound K lim (pin_net N net p)));
                   offsets = λ p l.
-                      let most = paths-most (gatePlaces part (get_or masks net 0) cs) (runsIn starts ws) (pinCounts N net)
-                      (K.isOpen net) (λ x. setRuns K (pinNet N net x)) is p (omega (arith, many)) in
-                      omega (arith, most, pins-all K w net low high, lim.countsFit net);
+                      let most = paths-most (gate_places part (get_or masks net 0) cs) (runs_in starts ws) (pin_counts N net)
+                      (K.is_open net) (λ x. set_runs_of K (pin_net N net x)) is p (omega (arith, many)) in
+                      omega (arith, most, pins-all K w net low high, lim.counts_fit net);
                 };
               }
 
-          makes : gateRuns part (get_or masks net 0) cs starts ws ≡ setRuns K net
-          makes = gate-set K w net low high (gatePlaces part (get_or masks net 0) cs) (runsIn starts ws) is many
+          makes : gate_runs_of part (get_or masks net 0) cs starts ws ≡ set_runs_of K net
+          makes = gate-set K w net low high (gate_places part (get_or masks net 0) cs) (runs_in starts ws) is many
 
         pub nets-gate : GateReady part (get_or masks net 0) cs starts ws start
         nets-gate = ready i.some.case i.some.at-nets
 
-        module _ {ws' : List ℕ} {q : Added} (d : Adds ws ws' start (maxRuns - start) (gateRuns part (get_or masks net 0) cs starts ws) q) where
-          made : (K : Case) → NetsAt K file ps cs masks shape ws₀ starts₀ first → Adds ws ws' start (maxRuns - start) (setRuns K net) q
-          made K a = as-adds (makes K a) refl d
+        module _ {ws' : List ℕ} {q : Added} (d : Adds ws ws' start (max_runs - start) (gate_runs_of part (get_or masks net 0) cs starts ws) q) where
+          made : (K : Case) → NetsAt K file ps cs masks shape ws₀ starts₀ first → Adds ws ws' start (max_runs - start) (set_runs_of K net) q
+          made K a = as_adds (makes K a) refl d
 
           kept : Kept ws₀ ws'
           kept =
               let K = i.some.case in
               let a = i.some.at-nets in
               kept_then i.kept
-              (kept-write start (take (maxRuns - start) (setRuns K net)) (made K a).writes (omega (arith, take_short (maxRuns - start) (setRuns K net), (s K a).fits)))
+              (kept-write start (take (max_runs - start) (set_runs_of K net)) (made K a).writes (omega (arith, take_short (max_runs - start) (set_runs_of K net), (s K a).fits)))
 
           pub nets-full : (starts' : List ℕ) → q ≡ Full → (K : Case) → NetsAt K file ps cs masks shape ws₀ starts₀ first → NetsMade K ws₀ ws' starts' Full
           nets-full starts' t K a = record {
             kept = kept;
             stand = λ n p. absurd (full-count p);
             full = λ p.
-                let over = answer-over (maxRuns - start) (setRuns K net) (sym t ∙ (made K a).answers) in
-                let more = runs-mono (setRuns K) (net + 1) (nets K.netlist) (omega (arith, a.tables.netsAre)) in
-                omega (arith, working-all K, over, more, runs-next (setRuns K) net, (s K a).used, (s K a).fits);
+                let over = answer-over (max_runs - start) (set_runs_of K net) (sym t ∙ (made K a).answers) in
+                let more = runs-mono (set_runs_of K) (net + 1) (nets K.netlist) (omega (arith, a.tables.nets_are)) in
+                omega (arith, working-all K, over, more, runs-next (set_runs_of K) net, (s K a).used, (s K a).fits);
           }
 
           module _ {c : ℕ} (t : q ≡ Count c) where
             added : (K : Case) → NetsAt K file ps cs masks shape ws₀ starts₀ first
-                → (length (setRuns K net) ≤ maxRuns - start) × (c ≡ length (setRuns K net)) × (runsInWords ws' start c ≡ setRuns K net)
-            added K a = adds-count ws ws' start (maxRuns - start) c (setRuns K net) q (omega (arith, a.room, i.kept.same, (s K a).fits)) t (made K a)
+                → (length (set_runs_of K net) ≤ max_runs - start) × (c ≡ length (set_runs_of K net)) × (runs_in_words ws' start c ≡ set_runs_of K net)
+            added K a = adds-count ws ws' start (max_runs - start) c (set_runs_of K net) q (omega (arith, a.room, i.kept.same, (s K a).fits)) t (made K a)
 
-            fits : start + c ≤ maxRuns
+            fits : start + c ≤ max_runs
             fits = let m = added i.some.case i.some.at-nets in omega (arith, m.0, m.1, (s i.some.case i.some.at-nets).fits)
 
             pub nets-sum : Fits w64 (start + c)
@@ -162,7 +162,7 @@ module _ {file ps cs masks : List ℕ} {shape : Shape} {ws₀ starts₀ : List �
               kept = kept;
               stand = λ K a.
                   let m = added K a in
-                  stand-more (s K a) (take (maxRuns - start) (setRuns K net)) (made K a).writes nets-below (ap (runsInWords ws' start) (sym m.1) ∙ m.2) (omega (arith, m.1)) fits;
+                  stand-more (s K a) (take (max_runs - start) (set_runs_of K net)) (made K a).writes nets-below (ap (runs_in_words ws' start) (sym m.1) ∙ m.2) (omega (arith, m.1)) fits;
             }
 
 pub ruleset gate-cases =

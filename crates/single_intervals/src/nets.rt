@@ -1,12 +1,12 @@
 // The runs of every net, one net after the other from the first word on.
 ghost use Rattle.std.specs.Prelude.{◌≡◌, ◌+◌, ◌-◌, ◌*◌, ◌<◌, ◌≤◌, eqb, length, get_or};
-ghost use Rattle.model.specs.Store.{maxRuns};
-ghost use Rattle.netlist.specs.Tables.{pinCountIn};
+ghost use Rattle.model.specs.Store.{max_runs};
+ghost use Rattle.netlist.specs.Tables.{pin_count_in};
 ghost use Rattle.run_lists.specs.Answers.{Adds};
 ghost use Rattle.detection.specs.Cases.{Case};
-ghost use Rattle.detection.specs.Walks.{inputRuns, Kept};
-ghost use Rattle.run_shifted.specs.RunsOfPlaces.{GateReady, gateRuns};
-ghost use Rattle.single_intervals.specs.OpenRuns.{PinsReady, pinRuns, openRuns, countIf, runCount};
+ghost use Rattle.detection.specs.Walks.{input_runs_of, Kept};
+ghost use Rattle.run_shifted.specs.RunsOfPlaces.{GateReady, gate_runs_of};
+ghost use Rattle.single_intervals.specs.OpenRuns.{PinsReady, pin_runs_of, open_runs_of, count_if, run_count};
 ghost use Rattle.single_intervals.specs.Nets.{Stand, NetsAt, SomeNetsAt, NetsMade};
 
 use detection::inner::digit;
@@ -23,8 +23,8 @@ pub(crate) fn input_runs(
     starts: &mut [u16; 513],
     words: &mut [u64],
 ) -> usize
-    requires { (inputs ≤ 64) × (length starts.old ≡ 513) × (2 * maxRuns ≤ length words.old) }
-    ensures { Stand (inputRuns edges) words.new starts.new inputs result × Kept words.old words.new }
+    requires { (inputs ≤ 64) × (length starts.old ≡ 513) × (2 * max_runs ≤ length words.old) }
+    ensures { Stand (input_runs_of edges) words.new starts.new inputs result × Kept words.old words.new }
 {
     let mut input = 0;
     let mut start = 0;
@@ -42,7 +42,7 @@ pub(crate) fn input_runs(
 // How many runs a net has where `opened` is 1, and 0 where it is 0.
 fn open_count(opened: usize, starts: &[u16; 513], net: usize) -> usize
     requires { (opened < 2) × (net < 512) × (get_or starts.now net 0 ≤ get_or starts.now (net + 1) 0) }
-    ensures { (result ≡ countIf (eqb opened 1) (runCount starts.now net)) × (result < 65536) }
+    ensures { (result ≡ count_if (eqb opened 1) (run_count starts.now net)) × (result < 65536) }
 {
     let from = wide_word(starts[net]);
     let to = wide_word(starts[net + 1]);
@@ -51,8 +51,8 @@ fn open_count(opened: usize, starts: &[u16; 513], net: usize) -> usize
 
 // How many runs the net of a gate's pin has where the pin is open, and 0 where it is not.
 fn pin_runs(part: &[u8], mask: u8, starts: &[u16; 513], pin: usize) -> usize
-    requires { PinsReady part.now starts.now × (pin < pinCountIn part.now) }
-    ensures { (result ≡ pinRuns part.now mask starts.now pin) × (result < 65536) }
+    requires { PinsReady part.now starts.now × (pin < pin_count_in part.now) }
+    ensures { (result ≡ pin_runs_of part.now mask starts.now pin) × (result < 65536) }
 {
     let net = pin_net(part, pin);
     open_count(digit(mask as u64, pin as u64), starts, net)
@@ -61,7 +61,7 @@ fn pin_runs(part: &[u8], mask: u8, starts: &[u16; 513], pin: usize) -> usize
 // How many runs the nets of a gate's open pins have together. Most gates have two pins: of these without a loop.
 fn open_runs(part: &[u8], mask: u8, starts: &[u16; 513]) -> usize
     requires { PinsReady part.now starts.now }
-    ensures { result ≡ openRuns part.now mask starts.now (pinCountIn part.now) }
+    ensures { result ≡ open_runs_of part.now mask starts.now (pin_count_in part.now) }
 {
     let pins = wide(part[3]);
     if pins == 2 {
@@ -86,8 +86,8 @@ fn add_gate(
     start: usize,
 ) -> Added
     requires { GateReady part.now mask counts.now starts.now words.old start }
-    ensures { Adds words.old words.new start (maxRuns - start)
-        (gateRuns part.now mask counts.now starts.now words.old) result }
+    ensures { Adds words.old words.new start (max_runs - start)
+        (gate_runs_of part.now mask counts.now starts.now words.old) result }
 {
     if open_runs(part, mask, starts) == 0 {
         return Added::Count(0);

@@ -6,15 +6,15 @@ use Rattle.model.specs.Detect.{Evaluation}
 use Rattle.model.proofs.BoolLaws.{equal_or_not}
 use Rattle.model.proofs.ListLaws.{zeros-at}
 use Rattle.gate_logic.specs.States.{word_of}
-use Rattle.single_simulation.specs.StateWords.{stateIn, IsState}
-use Rattle.single_simulation.specs.Simulated.{inputState, InputStates}
+use Rattle.single_simulation.specs.StateWords.{state_in, IsState}
+use Rattle.single_simulation.specs.Simulated.{input_state_of, InputStates}
 use Rattle.single_simulation.proofs.PackStates.{word-form, word_back}
 
 -- the state of an input, from its two digits
 pub digit-state : (first last i x y : ℕ) → (x < 2) × (eqb x 1 ≡ bit first i) → (y < 2) × (eqb y 1 ≡ bit last i)
-    → word_of (record { underV1 = eqb x 1; underV2 = eqb y 1; steady = eqb x y }) ≡ word_of (inputState first last i)
+    → word_of (record { under_v1 = eqb x 1; under_v2 = eqb y 1; steady = eqb x y }) ≡ word_of (input_state_of first last i)
 digit-state first last i x y a b =
-    ap word_of (λ j. record { underV1 = a.1 j; underV2 = b.1 j; steady = (same-digit x y a.0 b.0 ∙ ap₂ Bool·beq a.1 b.1) j })
+    ap word_of (λ j. record { under_v1 = a.1 j; under_v2 = b.1 j; steady = (same-digit x y a.0 b.0 ∙ ap₂ Bool·beq a.1 b.1) j })
   where
     same-digit : (x y : ℕ) → x < 2 → y < 2 → eqb x y ≡ Bool·beq (eqb x 1) (eqb y 1)
     same-digit zero zero h l = refl
@@ -29,8 +29,8 @@ digit-state first last i x y a b =
 state-form : {c : ℕ} (n : Evaluation) → c ≡ word_of n → IsState c
 state-form {c} n e = rw e (word-form n)
 
-state-told : {c : ℕ} (n : Evaluation) → c ≡ word_of n → stateIn c ≡ n
-state-told {c} n e = ap stateIn e ∙ word_back n
+state-told : {c : ℕ} (n : Evaluation) → c ≡ word_of n → state_in c ≡ n
+state-told {c} n e = ap state_in e ∙ word_back n
 
 -- an array with one entry set
 module _ (array : List ℕ) (i c : ℕ) (l : i < length array) where
@@ -67,7 +67,7 @@ module _ (first last inputs : ℕ) where
       }
 
   module _ (i : ℕ) (array : List ℕ) where
-    pub inputs-more : (c : ℕ) → inputs ≤ 64 → i < inputs → InputsTo first last inputs i array → c ≡ word_of (inputState first last i)
+    pub inputs-more : (c : ℕ) → inputs ≤ 64 → i < inputs → InputsTo first last inputs i array → c ≡ word_of (input_state_of first last i)
         → InputsTo first last inputs (i + 1) (set array i c)
     inputs-more c few h x e =
         let l : i < length array = omega (arith, x.filled.room) in
@@ -75,8 +75,8 @@ module _ (first last inputs : ℕ) where
           within = omega arith;
           filled = record {
             room = length-set array i c ∙ x.filled.room;
-            each = set-each array i c l IsState (state-form (inputState first last i) e) x.filled.each;
-            same = set_more array i c l (λ k w. stateIn w ≡ inputState first last k) (state-told (inputState first last i) e) x.filled.same;
+            each = set-each array i c l IsState (state-form (input_state_of first last i) e) x.filled.each;
+            same = set_more array i c l (λ k w. state_in w ≡ input_state_of first last k) (state-told (input_state_of first last i) e) x.filled.same;
           };
         }
 

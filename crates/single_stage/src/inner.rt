@@ -4,7 +4,7 @@ ghost use Rattle.model.specs.Detect.{Test};
 ghost use Rattle.model.specs.Read.{class_of};
 ghost use Rattle.netlist.specs.Tables.{CircuitTables};
 ghost use Rattle.store_coverage.specs.Both.{CoversBoth};
-ghost use Rattle.store_coverage.specs.Stage.{workStage, StageIs};
+ghost use Rattle.store_coverage.specs.Stage.{work_stage, StageIs};
 ghost use Rattle.single_stage.specs.LegalStage.{PinsOf, LegalReady, WorkReady, StageTrue};
 
 use netlist::inner::Shape;
@@ -54,7 +54,7 @@ fn work_on(
     requires { WorkReady netlist.now positions.now counts.now masks.now edges shape store.old work.old }
     ensures { (N : Netlist) (t : Test) → CircuitTables N netlist.now positions.now counts.now shape
         → PinsOf N t masks.now edges
-        → StageIs (workStage N t store.old)
+        → StageIs (work_stage N t store.old)
         store.old store.new work.old work.new result }
 {
     let answer = cover_both(netlist, positions, counts, masks, edges, shape, store, work);

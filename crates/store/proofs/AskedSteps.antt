@@ -1,60 +1,60 @@
 -- Steps of the questions to a store's words: the checks' answer, and what stands on it.
 use Rattle.model.proofs.Prelude.{ℕ, ◌≤◌, ◌<◌, ◌*◌, ◌≡◌, ◌∙◌, ap, refl, sym, ap₂, Bool, and-false, List, [], ◌∷◌, leb, le-leb, lt-leb}
 use Rattle.model.specs.Base.{refused, value, checks, Answer, ◌then◌}
-use Rattle.model.specs.Path.{Edge, edgeOfFault, pathOfFault}
-use Rattle.model.specs.Runs.{inRuns}
+use Rattle.model.specs.Path.{Edge, edge_of_fault, path_of_fault}
+use Rattle.model.specs.Runs.{in_runs}
 use Rattle.model.specs.Read.{within}
-use Rattle.model.specs.Store.{storeRuns, storeRules}
-use Rattle.model.specs.Refusals.{refusalNumber}
+use Rattle.model.specs.Store.{store_runs, store_rules}
+use Rattle.model.specs.Refusals.{refusal_number_of}
 use Rattle.model.specs.declared.Refusal.{Refusal}
 use Rattle.model.proofs.AnswerLaws.{checks-both}
-use Rattle.store_words.specs.WordAnswers.{checkOf, totalsIn, totalsBoth}
+use Rattle.store_words.specs.WordAnswers.{check_of, totals_in, totals_both}
 use Rattle.store_words.specs.declared.inner.StoreCheck.{StoreCheck}
 use Rattle.store_words.specs.declared.inner.StoreCheck.TheVariants as check
 use Rattle.store_words.specs.declared.inner.StoreTotals.{StoreTotals}
-use Rattle.store.specs.Answers.{totalsOn, faultOn}
+use Rattle.store.specs.Answers.{totals_on_of, fault_on_of}
 
-module _ (paths : ℕ) (ws : List ℕ) (r : StoreCheck) (checked : checkOf r ≡ checks (storeRules paths ws)) where
-  pub checked_refused : (w : Refusal) → r ≡ check.Refused w → refused (refusalNumber w) ≡ totalsOn paths ws
-  unfolding totalsOn
-  checked_refused w e = rw (sym checked ∙ ap checkOf e) refl
+module _ (paths : ℕ) (ws : List ℕ) (r : StoreCheck) (checked : check_of r ≡ checks (store_rules paths ws)) where
+  pub checked_refused : (w : Refusal) → r ≡ check.Refused w → refused (refusal_number_of w) ≡ totals_on_of paths ws
+  unfolding totals_on_of
+  checked_refused w e = rw (sym checked ∙ ap check_of e) refl
 
-  pub checked-totals : r ≡ check.Sound → (t : StoreTotals) → totalsIn t ≡ totalsBoth ws → value (totalsIn t) ≡ totalsOn paths ws
-  unfolding totalsOn
-  checked-totals e t d = rw (sym checked ∙ ap checkOf e) (ap value d)
+  pub checked_totals : r ≡ check.Sound → (t : StoreTotals) → totals_in t ≡ totals_both ws → value (totals_in t) ≡ totals_on_of paths ws
+  unfolding totals_on_of
+  checked_totals e t d = rw (sym checked ∙ ap check_of e) (ap value d)
 
   module _ (fault : ℕ) where
-    in-range : Bool
-    in-range = within 1 (2 * paths) fault
+    in_range : Bool
+    in_range = within 1 (2 * paths) fault
 
     found : Bool
-    found = inRuns (storeRuns ws (edgeOfFault fault)) (pathOfFault fault)
+    found = in_runs (store_runs ws (edge_of_fault fault)) (path_of_fault fault)
 
     -- the rules of the store's words, then the one of the question
-    as-asked : (a : Answer (Unit {0})) → a ≡ checks (storeRules paths ws) → (a then checks ((60, in-range) ∷ []) then value found) ≡ faultOn paths ws fault
-    unfolding faultOn in-range found
-    as-asked a e = ap (λ (x : Answer (Unit {0})). x then checks ((60, in-range) ∷ []) then value found) e
-        ∙ ap (λ (x : Answer (Unit {0})). x then value found) (sym (checks-both (storeRules paths ws) ((60, in-range) ∷ [])))
+    as_asked : (a : Answer (Unit {0})) → a ≡ checks (store_rules paths ws) → (a then checks ((60, in_range) ∷ []) then value found) ≡ fault_on_of paths ws fault
+    unfolding fault_on_of in_range found
+    as_asked a e = ap (λ (x : Answer (Unit {0})). x then checks ((60, in_range) ∷ []) then value found) e
+        ∙ ap (λ (x : Answer (Unit {0})). x then value found) (sym (checks-both (store_rules paths ws) ((60, in_range) ∷ [])))
 
-    pub fault-refused : (w : Refusal) → r ≡ check.Refused w → refused (refusalNumber w) ≡ faultOn paths ws fault
-    fault-refused w e = as-asked (refused (refusalNumber w)) (sym (ap checkOf e) ∙ checked)
+    pub fault-refused : (w : Refusal) → r ≡ check.Refused w → refused (refusal_number_of w) ≡ fault_on_of paths ws fault
+    fault-refused w e = as_asked (refused (refusal_number_of w)) (sym (ap check_of e) ∙ checked)
 
     module _ (e : r ≡ check.Sound) where
-      sound-asked : (checks ((60, in-range) ∷ []) then value found) ≡ faultOn paths ws fault
-      sound-asked = as-asked (value tt) (sym (ap checkOf e) ∙ checked)
+      sound-asked : (checks ((60, in_range) ∷ []) then value found) ≡ fault_on_of paths ws fault
+      sound-asked = as_asked (value tt) (sym (ap check_of e) ∙ checked)
 
-      pub fault-low : fault < 1 → refused 60 ≡ faultOn paths ws fault
-      unfolding in-range
+      pub fault-low : fault < 1 → refused 60 ≡ fault_on_of paths ws fault
+      unfolding in_range
       fault-low h = rw (lt-leb 1 fault h) at sound-asked
 
-      pub fault-high : 2 * paths < fault → refused 60 ≡ faultOn paths ws fault
-      unfolding in-range
+      pub fault-high : 2 * paths < fault → refused 60 ≡ fault_on_of paths ws fault
+      unfolding in_range
       fault-high h = rw (lt-leb fault (2 * paths) h, and-false (leb 1 fault)) at sound-asked
 
-      module _ (low : 1 ≤ fault) (high : fault ≤ 2 * paths) (d : Edge) (de : d ≡ edgeOfFault fault) (i : ℕ) (ie : i ≡ pathOfFault fault)
-          (b : Bool) (be : b ≡ inRuns (storeRuns ws d) i) where
-        pub fault-found : (v : Bool) → b ≡ v → value v ≡ faultOn paths ws fault
-        unfolding in-range found
+      module _ (low : 1 ≤ fault) (high : fault ≤ 2 * paths) (d : Edge) (de : d ≡ edge_of_fault fault) (i : ℕ) (ie : i ≡ path_of_fault fault)
+          (b : Bool) (be : b ≡ in_runs (store_runs ws d) i) where
+        pub fault-found : (v : Bool) → b ≡ v → value v ≡ fault_on_of paths ws fault
+        unfolding in_range found
         fault-found v t =
-            let f : v ≡ found = sym t ∙ be ∙ ap₂ (λ (x : Edge) (y : ℕ). inRuns (storeRuns ws x) y) de ie in
+            let f : v ≡ found = sym t ∙ be ∙ ap₂ (λ (x : Edge) (y : ℕ). in_runs (store_runs ws x) y) de ie in
             ap value f ∙ (rw (le-leb 1 fault low, le-leb fault (2 * paths) high) at sound-asked)

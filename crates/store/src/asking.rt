@@ -1,7 +1,7 @@
 // A store's words asked once the netlist is read: the checks, then the question.
 ghost use Rattle.std.specs.Prelude.{◌≡◌, ◌^◌, ◌≤◌, length};
-ghost use Rattle.model.specs.Store.{storeWords};
-ghost use Rattle.store.specs.Answers.{totalsOf, totalsOn, held_of, faultOn};
+ghost use Rattle.model.specs.Store.{store_words_count};
+ghost use Rattle.store.specs.Answers.{totals_among, totals_on_of, held_of, fault_on_of};
 
 use crate::{HeldAnswer, TotalsAnswer};
 use model::Refusal;
@@ -10,9 +10,9 @@ use store_words::inner::{StoreCheck, check_words, held, totals_of};
 
 // The totals of a store's words, for path numbers 1 to `paths`.
 pub(crate) fn totals_on(words: &[u64], paths: u64) -> TotalsAnswer
-    requires words_len { length words.now ≡ storeWords }
+    requires words_len { length words.now ≡ store_words_count }
     requires paths_bound { paths ≤ 2 ^ 62 }
-    ensures { totalsOf result ≡ totalsOn paths words.now }
+    ensures { totals_among result ≡ totals_on_of paths words.now }
 {
     match check_words(words, paths) {
         StoreCheck::Refused(why) => TotalsAnswer::Refused(why),
@@ -28,9 +28,9 @@ pub(crate) fn totals_on(words: &[u64], paths: u64) -> TotalsAnswer
 
 // Whether a store's words hold a fault, for path numbers 1 to `paths`.
 pub(crate) fn fault_on(words: &[u64], paths: u64, fault: FaultNo) -> HeldAnswer
-    requires words_len { length words.now ≡ storeWords }
+    requires words_len { length words.now ≡ store_words_count }
     requires paths_bound { paths ≤ 2 ^ 62 }
-    ensures { held_of result ≡ faultOn paths words.now fault.0 }
+    ensures { held_of result ≡ fault_on_of paths words.now fault.0 }
 {
     let number = fault.0;
     match check_words(words, paths) {

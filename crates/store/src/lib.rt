@@ -2,8 +2,8 @@
 mod asking;
 
 ghost use Rattle.std.specs.Prelude.{◌≡◌};
-ghost use Rattle.model.specs.Calls.{totalsCall, faultCall};
-ghost use Rattle.store.specs.Answers.{EmptyTrue, totalsOf, held_of};
+ghost use Rattle.model.specs.Calls.{totals_call, fault_call};
+ghost use Rattle.store.specs.Answers.{EmptyTrue, totals_among, held_of};
 
 use crate::asking::{fault_on, totals_on};
 use model::{Refusal, STORE_WORDS};
@@ -46,7 +46,7 @@ pub fn empty(store: &mut [u64]) -> EmptyAnswer
 
 // The number of faults of each edge that a store holds.
 pub fn totals(netlist: &[u8], store: &[u64]) -> TotalsAnswer
-    ensures { totalsOf result ≡ totalsCall netlist.now store.now }
+    ensures { totals_among result ≡ totals_call netlist.now store.now }
 {
     if store.len() != STORE_WORDS {
         return TotalsAnswer::Refused(Refusal::StoreLength);
@@ -61,7 +61,7 @@ pub fn totals(netlist: &[u8], store: &[u64]) -> TotalsAnswer
 
 // Whether a store holds a fault.
 pub fn fault_in_store(netlist: &[u8], store: &[u64], fault: FaultNo) -> HeldAnswer
-    ensures { held_of result ≡ faultCall netlist.now store.now fault.0 }
+    ensures { held_of result ≡ fault_call netlist.now store.now fault.0 }
 {
     if store.len() != STORE_WORDS {
         return HeldAnswer::Refused(Refusal::StoreLength);

@@ -5,9 +5,9 @@ ghost use Rattle.std.specs.Prelude.{◌≡◌, List, ℕ, length};
 ghost use Rattle.model.specs.Base.{Answer};
 ghost use Rattle.model.specs.Netlist.{Netlist};
 ghost use Rattle.model.specs.Detect.{Test};
-ghost use Rattle.model.specs.Store.{storeWords};
+ghost use Rattle.model.specs.Store.{store_words_count};
 ghost use Rattle.model.specs.Calls.{Tested};
-ghost use Rattle.store_coverage.specs.Stage.{BothMade, SomeBothMade, stageOf, refusedAfter, workStage, StageIs};
+ghost use Rattle.store_coverage.specs.Stage.{BothMade, SomeBothMade, stage_of, refused_after, work_stage, StageIs};
 ghost use Rattle.store_coverage.specs.TestCall.{TestedIs, Counting, SomeCounting};
 
 use crate::TestAnswer;
@@ -27,8 +27,8 @@ pub enum StageAnswer {
 
 // Why a test is refused whose runs do not fit: that no more tests are counted comes first.
 fn refuse(why: Refusal, store: &[u64]) -> StageAnswer
-    requires { length store.now ≡ storeWords }
-    ensures { stageOf result ≡ refusedAfter store.now why }
+    requires { length store.now ≡ store_words_count }
+    ensures { stage_of result ≡ refused_after store.now why }
 {
     if tests_left(store) {
         return StageAnswer::Refused(why);
@@ -41,7 +41,7 @@ fn refuse(why: Refusal, store: &[u64]) -> StageAnswer
 pub fn write_both(answer: BothAnswer, store: &mut [u64], work: &[u64]) -> StageAnswer
     requires { SomeBothMade answer store.old work.now }
     ensures { (N : Netlist) (t : Test) (found : List ℕ) → BothMade N t store.old found work.now answer
-        → StageIs (workStage N t store.old) store.old store.new found work.now result }
+        → StageIs (work_stage N t store.old) store.old store.new found work.now result }
 {
     match answer {
         BothAnswer::Fits(rising, falling) => {

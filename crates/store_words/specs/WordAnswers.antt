@@ -2,28 +2,28 @@
 use Rattle.std.specs.Prelude.{Bool, List, ℕ, eqb, take, drop}
 use Rattle.model.specs.Base.{Answer, refused, value, all_of}
 use Rattle.model.specs.Runs.{size}
-use Rattle.model.specs.Store.{ByEdge, byEdge, storeRuns}
-use Rattle.model.specs.Refusals.{refusalNumber}
+use Rattle.model.specs.Store.{ByEdge, by_edge, store_runs}
+use Rattle.model.specs.Refusals.{refusal_number_of}
 use Rattle.store_words.specs.declared.inner.StoreCheck.{StoreCheck}
 use Rattle.store_words.specs.declared.inner.StoreCheck.TheVariants as check
 use Rattle.store_words.specs.declared.inner.StoreTotals.{StoreTotals}
 
 -- the checks of a store's words: the number of a refusal, or that there is none
-abbrev pub checkOf : StoreCheck → Answer (Unit {0})
-checkOf check.Sound = value tt
-checkOf (check.Refused w) = refused (refusalNumber w)
+abbrev pub check_of : StoreCheck → Answer (Unit {0})
+check_of check.Sound = value tt
+check_of (check.Refused w) = refused (refusal_number_of w)
 
 -- the numbers of faults held, edge by edge
-abbrev pub totalsIn : StoreTotals → ByEdge ℕ
-totalsIn t = record { onRising = t.rising; onFalling = t.falling }
+abbrev pub totals_in : StoreTotals → ByEdge ℕ
+totals_in t = record { on_rising = t.rising; on_falling = t.falling }
 
-abbrev pub totalsBoth : List ℕ → ByEdge ℕ
-totalsBoth ws = byEdge (λ e. size (storeRuns ws e))
+abbrev pub totals_both : List ℕ → ByEdge ℕ
+totals_both ws = by_edge (λ e. size (store_runs ws e))
 
 -- the n words from word `at` on are all zero
-abbrev pub zeroWords : List ℕ → ℕ → ℕ → Bool
-zeroWords ws at n = all_of (λ w. eqb w 0) (take n (drop at ws))
+abbrev pub zero_words_of : List ℕ → ℕ → ℕ → Bool
+zero_words_of ws at n = all_of (λ w. eqb w 0) (take n (drop at ws))
 
 -- so many words are read in a row
-abbrev pub rowWords : ℕ
-rowWords = 32
+abbrev pub row_words : ℕ
+row_words = 32

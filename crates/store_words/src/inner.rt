@@ -4,10 +4,10 @@ pub mod parts;
 
 ghost use Rattle.std.specs.Prelude.{◌≡◌, ◌+◌, ◌^◌, ◌≤◌, eqb, leb, length, take, drop};
 ghost use Rattle.model.specs.Base.{all_of, checks};
-ghost use Rattle.model.specs.Runs.{inRuns, separatedRuns};
-ghost use Rattle.model.specs.Store.{maxRuns, maxTests, storeWords, bothEdges, runCount, testsTaken, runsOfTests, storeRuns, wordsAfter, storeRules};
-ghost use Rattle.path_faults.specs.Answers.{modelEdge};
-ghost use Rattle.store_words.specs.WordAnswers.{checkOf, totalsIn, totalsBoth, zeroWords, rowWords};
+ghost use Rattle.model.specs.Runs.{in_runs, separated_runs_of};
+ghost use Rattle.model.specs.Store.{max_runs, max_tests, store_words_count, both_edges, run_count, tests_taken_of, runs_of_tests_of, store_runs, words_after, store_rules};
+ghost use Rattle.path_faults.specs.Answers.{model_edge};
+ghost use Rattle.store_words.specs.WordAnswers.{check_of, totals_in, totals_both, zero_words_of, row_words};
 ghost use Rattle.store_words.specs.Sound.{FewRuns, SoundWords};
 
 use model::{HEAD_WORDS, MAX_RUNS, MAX_TESTS, PLACE_WORDS, Refusal, TESTS_WORD};
@@ -41,8 +41,8 @@ pub struct StoreTotals {
 
 // The bits of ROW_WORDS words together, from word `at` on: 0 where all are zero.
 fn row_bits(words: &[u64], at: usize) -> u64
-    requires { at + rowWords ≤ length words.now }
-    ensures { eqb result 0 ≡ zeroWords words.now at rowWords }
+    requires { at + row_words ≤ length words.now }
+    ensures { eqb result 0 ≡ zero_words_of words.now at row_words }
 {
     let mut seen: u64 = 0;
     let mut i = 0;
@@ -56,7 +56,7 @@ fn row_bits(words: &[u64], at: usize) -> u64
 // Whether the n words from word `at` on are zero.
 fn few_zero(words: &[u64], at: usize, n: usize) -> bool
     requires { at + n ≤ length words.now }
-    ensures { result ≡ zeroWords words.now at n }
+    ensures { result ≡ zero_words_of words.now at n }
 {
     let mut place = at;
     let mut left = n;
@@ -73,7 +73,7 @@ fn few_zero(words: &[u64], at: usize, n: usize) -> bool
 // first is read alone: a store's runs begin at an odd word, and reads of two words from an even one on do not cross the ends of cache lines.
 fn zero_words(words: &[u64], at: usize, n: usize) -> bool
     requires { at + n ≤ length words.now }
-    ensures { result ≡ zeroWords words.now at n }
+    ensures { result ≡ zero_words_of words.now at n }
 {
     if n == 0 {
         return true;
@@ -94,8 +94,8 @@ fn zero_words(words: &[u64], at: usize, n: usize) -> bool
 
 // Whether neither edge has more runs than places.
 fn few_runs(words: &[u64]) -> bool
-    requires { length words.now ≡ storeWords }
-    ensures { result ≡ bothEdges (λ e. leb (runCount words.now e) maxRuns) }
+    requires { length words.now ≡ store_words_count }
+    ensures { result ≡ both_edges (λ e. leb (run_count words.now e) max_runs) }
 {
     let rising = words[RISING_COUNT] as usize;
     let falling = words[FALLING_COUNT] as usize;
@@ -104,16 +104,16 @@ fn few_runs(words: &[u64]) -> bool
 
 // Whether the number of tests taken is one that a store counts.
 fn few_tests(words: &[u64]) -> bool
-    requires { length words.now ≡ storeWords }
-    ensures { result ≡ leb (testsTaken words.now) maxTests }
+    requires { length words.now ≡ store_words_count }
+    ensures { result ≡ leb (tests_taken_of words.now) max_tests }
 {
     words[TESTS_WORD] <= MAX_TESTS
 }
 
 // Whether a store without tests has no runs.
 fn runs_of_tests(words: &[u64]) -> bool
-    requires { length words.now ≡ storeWords }
-    ensures { result ≡ runsOfTests words.now }
+    requires { length words.now ≡ store_words_count }
+    ensures { result ≡ runs_of_tests_of words.now }
 {
     if 0 < words[TESTS_WORD] {
         return true;
@@ -125,7 +125,7 @@ fn runs_of_tests(words: &[u64]) -> bool
 fn separated_runs(words: &[u64], paths: u64) -> bool
     requires few_runs { FewRuns words.now }
     requires paths_bound { paths ≤ 2 ^ 62 }
-    ensures { result ≡ bothEdges (λ e. separatedRuns paths 1 (storeRuns words.now e)) }
+    ensures { result ≡ both_edges (λ e. separated_runs_of paths 1 (store_runs words.now e)) }
 {
     let rising = words[RISING_COUNT] as usize;
     let falling = words[FALLING_COUNT] as usize;
@@ -136,7 +136,7 @@ fn separated_runs(words: &[u64], paths: u64) -> bool
 // Whether the words past the last run of each edge are zero.
 fn zeros_after(words: &[u64]) -> bool
     requires { FewRuns words.now }
-    ensures { result ≡ bothEdges (λ e. all_of (λ w. eqb w 0) (wordsAfter words.now e)) }
+    ensures { result ≡ both_edges (λ e. all_of (λ w. eqb w 0) (words_after words.now e)) }
 {
     let rising = 2 * words[RISING_COUNT] as usize;
     let falling = 2 * words[FALLING_COUNT] as usize;
@@ -146,9 +146,9 @@ fn zeros_after(words: &[u64]) -> bool
 
 // The checks of a store's words, for path numbers 1 to `paths`.
 pub fn check_words(words: &[u64], paths: u64) -> StoreCheck
-    requires words_len { length words.now ≡ storeWords }
+    requires words_len { length words.now ≡ store_words_count }
     requires paths_bound { paths ≤ 2 ^ 62 }
-    ensures { checkOf result ≡ checks (storeRules paths words.now) }
+    ensures { check_of result ≡ checks (store_rules paths words.now) }
 {
     if !few_runs(words) {
         return StoreCheck::Refused(Refusal::RunCount);
@@ -171,7 +171,7 @@ pub fn check_words(words: &[u64], paths: u64) -> StoreCheck
 // The number of faults of each edge that sound words hold.
 pub fn totals_of(words: &[u64]) -> StoreTotals
     requires { SoundWords (2 ^ 62) words.now }
-    ensures { totalsIn result ≡ totalsBoth words.now }
+    ensures { totals_in result ≡ totals_both words.now }
 {
     let places = &words[HEAD_WORDS..];
     let rising = size(places, 0, words[RISING_COUNT] as usize);
@@ -182,7 +182,7 @@ pub fn totals_of(words: &[u64]) -> StoreTotals
 // Whether sound words hold a path's fault of an edge.
 pub fn held(words: &[u64], edge: Edge, path: PathNo) -> bool
     requires { SoundWords (2 ^ 62) words.now }
-    ensures { result ≡ inRuns (storeRuns words.now (modelEdge edge)) path.0 }
+    ensures { result ≡ in_runs (store_runs words.now (model_edge edge)) path.0 }
 {
     let number = path.0;
     let places = &words[HEAD_WORDS..];

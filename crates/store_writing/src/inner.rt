@@ -1,9 +1,9 @@
 // Writing an edge's runs over those that a store holds, counting a test, and making words zero.
 ghost use Rattle.std.specs.Prelude.{◌≡◌, ◌+◌, ◌-◌, ◌*◌, ◌≤◌, ◌<◌, length, set, replicate};
-ghost use Rattle.model.specs.Store.{maxRuns, maxTests, headWords, storeWords, countWord, testsWord, testsTaken};
-ghost use Rattle.run_lists.specs.RunLists.{runsInWords, writeRuns};
-ghost use Rattle.path_faults.specs.Answers.{modelEdge};
-ghost use Rattle.store_writing.specs.Writing.{zeroed, paddedRuns, ZeroWords, firstRun, replaced, Writable, Rewritten};
+ghost use Rattle.model.specs.Store.{max_runs, max_tests, head_words, store_words_count, count_word_of, tests_word, tests_taken_of};
+ghost use Rattle.run_lists.specs.RunLists.{runs_in_words, write_runs_of};
+ghost use Rattle.path_faults.specs.Answers.{model_edge};
+ghost use Rattle.store_writing.specs.Writing.{zeroed, padded_runs, ZeroWords, first_run_of, replaced, Writable, Rewritten};
 
 use model::{HEAD_WORDS, MAX_RUNS, TESTS_WORD};
 use path_faults::Edge;
@@ -32,7 +32,7 @@ fn clear_part(words: &mut [u64], from: usize, to: usize)
 
 // The word with the number of an edge's runs.
 fn count_word(edge: Edge) -> usize
-    ensures { (result ≡ countWord (modelEdge edge)) × (result < headWords) }
+    ensures { (result ≡ count_word_of (model_edge edge)) × (result < head_words) }
 {
     match edge {
         Edge::Rising => RISING_COUNT,
@@ -42,7 +42,7 @@ fn count_word(edge: Edge) -> usize
 
 // The run place where an edge's runs begin, in the words after the head.
 fn first_run(edge: Edge) -> usize
-    ensures { (result ≡ firstRun (modelEdge edge)) × (result ≤ maxRuns) }
+    ensures { (result ≡ first_run_of (model_edge edge)) × (result ≤ max_runs) }
 {
     match edge {
         Edge::Rising => 0,
@@ -61,11 +61,11 @@ fn write_places(
     from: usize,
     to: usize,
 )
-    requires from_le_to { (from ≤ to) × (to ≤ held) × (held ≤ maxRuns) × (from + count + (held - to) ≤ maxRuns) }
-    requires count_in_bounds { (2 * (made + count) ≤ length words.now) × (2 * (first + maxRuns) ≤ length places.old) }
-    requires zero_words { ZeroWords places.old (2 * (first + held)) (2 * (first + maxRuns)) }
-    ensures { places.new ≡ writeRuns places.old first (paddedRuns
-        (replaced from to (runsInWords words.now made count) (runsInWords places.old first held))) }
+    requires from_le_to { (from ≤ to) × (to ≤ held) × (held ≤ max_runs) × (from + count + (held - to) ≤ max_runs) }
+    requires count_in_bounds { (2 * (made + count) ≤ length words.now) × (2 * (first + max_runs) ≤ length places.old) }
+    requires zero_words { ZeroWords places.old (2 * (first + held)) (2 * (first + max_runs)) }
+    ensures { places.new ≡ write_runs_of places.old first (padded_runs
+        (replaced from to (runs_in_words words.now made count) (runs_in_words places.old first held))) }
 {
     let after = from + count;
     let rest = held - to;
@@ -76,8 +76,8 @@ fn write_places(
 
 // Writes an edge's runs to a store: some of them replaced by those made in other words from run place `made` on, or nothing where they are kept.
 pub fn write_runs(words: &[u64], made: usize, change: Change, store: &mut [u64], edge: Edge)
-    requires { Writable words.now made change (modelEdge edge) store.old }
-    ensures { Rewritten words.now made change (modelEdge edge) store.old store.new }
+    requires { Writable words.now made change (model_edge edge) store.old }
+    ensures { Rewritten words.now made change (model_edge edge) store.old store.new }
 {
     match change {
         Change::Kept => {}
@@ -102,8 +102,8 @@ pub fn write_runs(words: &[u64], made: usize, change: Change, store: &mut [u64],
 
 // Counts one more test.
 pub fn count_test(store: &mut [u64])
-    requires { (length store.old ≡ storeWords) × (testsTaken store.old < maxTests) }
-    ensures { store.new ≡ set store.old testsWord (testsTaken store.old + 1) }
+    requires { (length store.old ≡ store_words_count) × (tests_taken_of store.old < max_tests) }
+    ensures { store.new ≡ set store.old tests_word (tests_taken_of store.old + 1) }
 {
     store[TESTS_WORD] = store[TESTS_WORD] + 1;
 }

@@ -4,7 +4,7 @@ mod refusing;
 
 ghost use Rattle.std.specs.Prelude.{◌≡◌, length};
 ghost use Rattle.io.specs.Counts.{IsPrefixLen};
-ghost use Rattle.model.specs.Calls.{workWords};
+ghost use Rattle.model.specs.Calls.{work_words_count};
 ghost use Rattle.testfile_argument.specs.NamedTests.{FileReported, TestsReported, TestsStored};
 
 use model::{REPORT_BYTES, WORK_WORDS};
@@ -32,7 +32,7 @@ pub struct ToldStore {
 
 // Zeros for working memory: a caller's proof sees the length alone.
 fn no_work() -> [u64; WORK_WORDS]
-    ensures { workWords ≡ length result }
+    ensures { work_words_count ≡ length result }
 {
     [0; WORK_WORDS]
 }

@@ -1,8 +1,8 @@
 // What the programs say on standard error where a netlist, a class, a test file or one of its records is refused.
 ghost use Rattle.std.specs.Prelude.{◌≡◌, ◌+◌, min};
-ghost use Rattle.model.specs.Refusals.{refusalNumber};
+ghost use Rattle.model.specs.Refusals.{refusal_number_of};
 ghost use Rattle.text_line.specs.Lines.{text_of};
-ghost use Rattle.testfile_argument.specs.Refusing.{lastPlace, refusedLine};
+ghost use Rattle.testfile_argument.specs.Refusing.{last_place, refused_line_of};
 
 use libc::STDERR_FILENO;
 use model::Refusal;
@@ -20,7 +20,7 @@ pub fn print_refused(why: Refusal, taken: usize) {
 
 // The number of a refusal; for a test record also its place, after so many that were taken.
 pub fn refused_line(why: Refusal, taken: usize) -> Line
-    ensures { text_of result ≡ refusedLine (refusalNumber why) taken }
+    ensures { text_of result ≡ refused_line_of (refusal_number_of why) taken }
 {
     if is_of_record(why) {
         let place = with_number(with_text(empty_line(), b"record "), place_after(taken));
@@ -31,7 +31,7 @@ pub fn refused_line(why: Refusal, taken: usize) -> Line
 
 // The place of the record after so many. No file has so many that there is none.
 fn place_after(taken: usize) -> u64
-    ensures { result ≡ min (taken + 1) lastPlace }
+    ensures { result ≡ min (taken + 1) last_place }
 {
     if taken < usize::MAX {
         return (taken + 1) as u64;

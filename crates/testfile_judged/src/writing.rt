@@ -2,8 +2,8 @@
 ghost use Rattle.std.specs.Prelude.{◌≡◌};
 ghost use Rattle.io.specs.Counts.{IsPrefixLen};
 ghost use Rattle.report.specs.Answers.{written_of};
-ghost use Rattle.audit_block.specs.RecordsTaken.{fileOf};
-ghost use Rattle.testfile_judged.specs.TrueReport.{Wrote, writerAfter, lengthIn};
+ghost use Rattle.audit_block.specs.RecordsTaken.{file_of};
+ghost use Rattle.testfile_judged.specs.TrueReport.{Wrote, writer_after, length_in};
 
 use audit_block::inner::TakenRecords;
 use report::{WriteAnswer, write_report};
@@ -18,7 +18,7 @@ pub struct Written {
 
 // An answer with its length.
 fn with_length(answer: WriteAnswer) -> Written
-    ensures { (result.answer ≡ answer) × (result.length ≡ lengthIn (written_of answer)) }
+    ensures { (result.answer ≡ answer) × (result.length ≡ length_in (written_of answer)) }
 {
     match answer {
         WriteAnswer::Refused(why) => Written {
@@ -39,7 +39,7 @@ pub(crate) fn true_report(
     store: &[u64],
     truth: &mut [u8],
 ) -> Written
-    ensures wrote { Wrote result (writerAfter netlist.now (fileOf records.answer store.now) truth.old)
+    ensures wrote { Wrote result (writer_after netlist.now (file_of records.answer store.now) truth.old)
         truth.old truth.new }
     ensures prefix_len { IsPrefixLen result.length truth.new }
 {

@@ -4,7 +4,7 @@ use Rattle.model.proofs.Prelude.{length-append, length-take-le, mod-lt, mod-eq_o
 use native.Mathlib.Nat.{mul-mod_left, mul-add-mod_self_right, div-add-mod', mod-le}
 use Rattle.model.specs.Base.{value}
 use Rattle.model.specs.Netlist.{Netlist}
-use Rattle.model.specs.Read.{vectorBytes, recordLength, readNetlist}
+use Rattle.model.specs.Read.{vector_bytes_of, record_length, read_netlist}
 use Rattle.model.proofs.AnswerLaws.{value_inj}
 use Rattle.testfile_reading.specs.Space.{InSpace}
 
@@ -36,65 +36,65 @@ part-most n most part l h k m = omega (arith, h, k, length-take-le most l m)
 pub ruleset read-cases = (part_length, part-within, part-counts, part-most, needs)
 
 -- the bytes with one piece more
-pub file-more : (bytes n : ℕ) (testFile space : List ℕ) → bytes ≡ length testFile → n ≤ length space → bytes + n ≡ length (testFile ++ take n space)
-file-more bytes n testFile space b h = omega (arith, b, length-append testFile (take n space), length-take-le n space h)
+pub file-more : (bytes n : ℕ) (test_file space : List ℕ) → bytes ≡ length test_file → n ≤ length space → bytes + n ≡ length (test_file ++ take n space)
+file-more bytes n test_file space b h = omega (arith, b, length-append test_file (take n space), length-take-le n space h)
 
 module _ (netlist : List ℕ) (full most : ℕ) where
   -- What was read so far is a whole number of records, and nothing or a full piece at least
-  pub record FileSoFar (testFile : List ℕ) (bytes : ℕ) (space : List ℕ) : Type 0 where
-    pub bytesAre : bytes ≡ length testFile
-    pub first : (testFile ≡ []) ⊎ (full ≤ length testFile)
-    pub whole : (N : Netlist) → readNetlist netlist ≡ value N → length testFile % recordLength N ≡ 0
-    pub spaceLength : length space ≡ most
+  pub record FileSoFar (test_file : List ℕ) (bytes : ℕ) (space : List ℕ) : Type 0 where
+    pub bytes_are : bytes ≡ length test_file
+    pub first : (test_file ≡ []) ⊎ (full ≤ length test_file)
+    pub whole : (N : Netlist) → read_netlist netlist ≡ value N → length test_file % record_length N ≡ 0
+    pub space_length : length space ≡ most
 
   pub file-start : (space : List ℕ) → length space ≡ most → FileSoFar [] 0 space
   file-start space l = record {
-    bytesAre = refl;
+    bytes_are = refl;
     first = inl refl;
     whole = λ N q. mod-eq_of_lt (omega arith);
-    spaceLength = l;
+    space_length = l;
   }
 
   -- the file of a netlist, whose inputs say how many bytes a record has
-  module _ {C : Netlist} {inputs recordBytes : ℕ} (legal : readNetlist netlist ≡ value C) (are : inputs ≡ C.inputs)
-      (eb : recordBytes ≡ 2 + 2 * vectorBytes inputs) (near : most < full + recordBytes)
+  module _ {C : Netlist} {inputs record_bytes : ℕ} (legal : read_netlist netlist ≡ value C) (are : inputs ≡ C.inputs)
+      (eb : record_bytes ≡ 2 + 2 * vector_bytes_of inputs) (near : most < full + record_bytes)
       {f : List ℕ} {bytes : ℕ} {space : List ℕ} (g : FileSoFar f bytes space) where
-    len : (N : Netlist) → readNetlist netlist ≡ value N → recordBytes ≡ recordLength N
+    len : (N : Netlist) → read_netlist netlist ≡ value N → record_bytes ≡ record_length N
     len N e =
         let same : inputs ≡ N.inputs = are ∙ ap (λ (M : Netlist). M.inputs) (value_inj (sym legal ∙ e)) in
-        eb ∙ ap (λ (k : ℕ). 2 + 2 * vectorBytes k) same
+        eb ∙ ap (λ (k : ℕ). 2 + 2 * vector_bytes_of k) same
 
     -- a file as long as a full piece does not fit
     pub file-over : 0 < bytes → InSpace netlist f space
     file-over h N e k = absurd (fits g.first)
       where
         fits : (f ≡ []) ⊎ (full ≤ length f) → ⊥
-        fits (inl z) = let l : length f ≡ 0 = ap (length {A = ℕ}) z in omega (arith, h, g.bytesAre, l)
-        fits (inr long) = omega (arith, k, long, near, g.spaceLength, len N e)
+        fits (inl z) = let l : length f ≡ 0 = ap (length {A = ℕ}) z in omega (arith, h, g.bytes_are, l)
+        fits (inr long) = omega (arith, k, long, near, g.space_length, len N e)
 
     module _ (n : ℕ) (space' : List ℕ) (cn : n ≤ length space') (cm : n ≤ full) (l : length space' ≡ length space) where
       abbrev piece : List ℕ
       piece = take n space'
 
       more-length : bytes + n ≡ length (f ++ piece)
-      more-length = file-more bytes n f space' g.bytesAre cn
+      more-length = file-more bytes n f space' g.bytes_are cn
 
-      whole_sum : (N : Netlist) → readNetlist netlist ≡ value N → n % recordLength N ≡ 0 → length (f ++ piece) % recordLength N ≡ 0
+      whole_sum : (N : Netlist) → read_netlist netlist ≡ value N → n % record_length N ≡ 0 → length (f ++ piece) % record_length N ≡ 0
       whole_sum N e k =
-          let each : ℕ = recordLength N in
+          let each : ℕ = record_length N in
           let q : length f ≡ length f / each * each = omega (arith, div-add-mod' (length f) each, g.whole N e) in
-          let s : length (f ++ piece) ≡ length f / each * each + n = omega (arith, more-length, g.bytesAre, q) in
+          let s : length (f ++ piece) ≡ length f / each * each + n = omega (arith, more-length, g.bytes_are, q) in
           ap (λ (m : ℕ). m % each) s ∙ mul-add-mod_self_right (length f / each) each n ∙ k
 
       -- one full piece more
-      pub file-next : full ≤ n → full % recordBytes ≡ 0 → FileSoFar (f ++ piece) (bytes + n) space'
+      pub file-next : full ≤ n → full % record_bytes ≡ 0 → FileSoFar (f ++ piece) (bytes + n) space'
       file-next enough w = record {
-        bytesAre = more-length;
+        bytes_are = more-length;
         first = inr (omega (arith, more-length, enough));
         whole = λ N e.
-            let b : full % recordLength N ≡ 0 = subst (λ (m : ℕ). full % m ≡ 0) (len N e) w in
-            whole_sum N e (subst (λ (m : ℕ). m % recordLength N ≡ 0) (omega (arith, enough, cm)) b);
-        spaceLength = l ∙ g.spaceLength;
+            let b : full % record_length N ≡ 0 = subst (λ (m : ℕ). full % m ≡ 0) (len N e) w in
+            whole_sum N e (subst (λ (m : ℕ). m % record_length N ≡ 0) (omega (arith, enough, cm)) b);
+        space_length = l ∙ g.space_length;
       }
 
       -- the last piece
@@ -105,4 +105,4 @@ module _ (netlist : List ℕ) (full most : ℕ) where
           one_piece (inl z) =
               let m : length (f ++ piece) ≡ n = ap (λ (x : List ℕ). length (x ++ piece)) z ∙ length-take-le n space' cn in
               ap (λ (x : List ℕ). x ++ piece) z ∙ ap (λ (i : ℕ). take i space') (sym m)
-          one_piece (inr long) = absurd (omega (arith, k, long, near, l, g.spaceLength, more-length, g.bytesAre, len N e))
+          one_piece (inr long) = absurd (omega (arith, k, long, near, l, g.space_length, more-length, g.bytes_are, len N e))

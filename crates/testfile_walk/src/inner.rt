@@ -1,8 +1,8 @@
 // The test calls with the records of a test file, a piece of whole records at a time: a caller proves what a function requires.
 ghost use Rattle.std.specs.Prelude.{◌≡◌};
-ghost use Rattle.model.specs.Store.{emptyStore};
+ghost use Rattle.model.specs.Store.{empty_store};
 ghost use Rattle.audit_records.specs.FileRecords.{Ready};
-ghost use Rattle.testfile_walk.specs.Walked.{Walked, recordsTaken, fileTaken};
+ghost use Rattle.testfile_walk.specs.Walked.{Walked, records_taken, file_taken};
 
 use audit_block::inner::TakenRecords;
 use audit_judging::inner::whole_length;
@@ -40,8 +40,8 @@ fn apply_pieces(
     store: &mut [u64],
     work: &mut [u64],
 ) -> Walk
-    requires { Ready netlist.now loaded store.old work.old × (store.old ≡ emptyStore) }
-    ensures { Walked recordsTaken result netlist.now loaded class space.new store.new work.old work.new }
+    requires { Ready netlist.now loaded store.old work.old × (store.old ≡ empty_store) }
+    ensures { Walked records_taken result netlist.now loaded class space.new store.new work.old work.new }
 {
     let bytes = record_length(loaded.shape.inputs);
     let full = whole_part(space.len(), bytes);
@@ -82,8 +82,8 @@ pub fn walk_file(
     store: &mut [u64],
     work: &mut [u64],
 ) -> Walk
-    requires { Ready netlist.now loaded store.old work.old × (store.old ≡ emptyStore) }
-    ensures { Walked fileTaken result netlist.now loaded class space.new store.new work.old work.new }
+    requires { Ready netlist.now loaded store.old work.old × (store.old ≡ empty_store) }
+    ensures { Walked file_taken result netlist.now loaded class space.new store.new work.old work.new }
 {
     let walk = apply_pieces(fd, netlist, loaded, class, space, store, work);
     end_progress();

@@ -8,8 +8,8 @@ use borrow.Author.Tests.{lt-ltb, le-ltb}
 use lib.ListN.{length, take, drop, length-append}
 use lib.Seq.{sets, sets-eq, length-sets, take_at, drop_at, length-take-le}
 use Rattle.io.specs.Counts.{IsPrefixLen}
-use Rattle.record_bytes.proofs.ByteLaws.{sets-append}
-use Rattle.text_buffer.specs.Written.{Written, eachBelow, inRoom}
+use Rattle.record_bytes.proofs.ByteLaws.{sets_append}
+use Rattle.text_buffer.specs.Written.{Written, each_below_of, in_room}
 
 -- from what `text_line::inner` promises
 pub written : {out out' : List ℕ} {at r : ℕ} {t : List ℕ} → at + length t ≤ length out → (out' ≡ sets out at t) × (r ≡ at + length t)
@@ -25,7 +25,7 @@ none_written out at h = record { bytes = refl; place = omega arith; inside = h }
 -- one part after the other
 pub then-written : {out o1 o2 : List ℕ} {at m r : ℕ} {s t : List ℕ} → Written out o1 at s m → Written o1 o2 m t r → Written out o2 at (s ++ t) r
 then-written {out} {o1} {o2} {at} {m} {r} {s} {t} p q = record {
-  bytes = q.bytes ∙ ap (λ (x : List ℕ). sets x m t) p.bytes ∙ sets-append s t out at m p.place;
+  bytes = q.bytes ∙ ap (λ (x : List ℕ). sets x m t) p.bytes ∙ sets_append s t out at m p.place;
   place = omega (arith, q.place, p.place, length-append s t);
   inside = q.inside;
 }
@@ -63,21 +63,21 @@ pub counts-bytes : {out out' : List ℕ} {r : ℕ} {t : List ℕ} → Written ou
 counts-bytes {out} {out'} {r} {t} p = (p.inside, sym (length-take-le r out' p.inside))
 
 -- The texts of the numbers below one: none yet, and one more
-pub none_below : (f : ℕ → List ℕ) (out : List ℕ) (at : ℕ) → at ≤ length out → Written out out at (eachBelow f 0) at
-unfolding eachBelow
+pub none_below : (f : ℕ → List ℕ) (out : List ℕ) (at : ℕ) → at ≤ length out → Written out out at (each_below_of f 0) at
+unfolding each_below_of
 none_below f out at h = none_written out at h
 
-pub one-more-below : (f : ℕ → List ℕ) (i : ℕ) {out o1 o2 : List ℕ} {at m r : ℕ} → Written out o1 at (eachBelow f i) m → Written o1 o2 m (f i) r
-    → Written out o2 at (eachBelow f (i + 1)) r
-unfolding eachBelow
-one-more-below f i p q = rw (add-one i, eachBelow) (then-written p q)
+pub one-more-below : (f : ℕ → List ℕ) (i : ℕ) {out o1 o2 : List ℕ} {at m r : ℕ} → Written out o1 at (each_below_of f i) m → Written o1 o2 m (f i) r
+    → Written out o2 at (each_below_of f (i + 1)) r
+unfolding each_below_of
+one-more-below f i p q = rw (add-one i, each_below_of) (then-written p q)
 
 -- A buffer that is too short is left as it is; in another the text is written
 module _ (least : ℕ) (out text : List ℕ) where
-  pub no_room : length out < least → Written out out 0 (inRoom least out text) 0
-  unfolding inRoom
-  no_room h = rw (lt-ltb (length out) least h, inRoom) (none_written out 0 (omega arith))
+  pub no_room : length out < least → Written out out 0 (in_room least out text) 0
+  unfolding in_room
+  no_room h = rw (lt-ltb (length out) least h, in_room) (none_written out 0 (omega arith))
 
-  pub room-there : {out' : List ℕ} {r : ℕ} → least ≤ length out → Written out out' 0 text r → Written out out' 0 (inRoom least out text) r
-  unfolding inRoom
-  room-there h p = rw (le-ltb (length out) least h, inRoom) p
+  pub room-there : {out' : List ℕ} {r : ℕ} → least ≤ length out → Written out out' 0 text r → Written out out' 0 (in_room least out text) r
+  unfolding in_room
+  room-there h p = rw (le-ltb (length out) least h, in_room) p

@@ -3,23 +3,23 @@ use Rattle.model.proofs.Prelude.{ℕ, ◌≤◌, ◌<◌, ◌+◌, suc, zero, mi
 use Rattle.model.proofs.Prelude.{length, get_or, drop, take, set, drop_of_length-le, sets, length-take-le, drop-cons, take_all, take_at, min-eq_left}
 use Rattle.model.proofs.Prelude.{min-eq_right, add-one, arith}
 use lib.Seq.{take-suc-set, append_snoc}
-use Rattle.model.proofs.BoolLaws.{le-or-lt}
-use Rattle.text_line.specs.Lines.{onLine}
+use Rattle.model.proofs.BoolLaws.{le_or_lt}
+use Rattle.text_line.specs.Lines.{on_line}
 
 -- Bytes `b` of a line that ends at `at`, and the rest of a text from its byte `i` on
 module _ (b text : List ℕ) (long : length b ≡ 128) where
   -- the line as `with_text` finds it
-  pub line-start : (l at : ℕ) → at ≡ min l 128 → onLine (take at b) (drop 0 text) ≡ onLine (take l b) text
+  pub line-start : (l at : ℕ) → at ≡ min l 128 → on_line (take at b) (drop 0 text) ≡ on_line (take l b) text
   line-start l at e =
       let same : take at b ≡ take l b =
       ⊎_elim (λ h. ap (λ (k : ℕ). take k b) (e ∙ min-eq_left h))
-      (λ h. take_all at b (omega (arith, e ∙ min-eq_right {n = 128} {m = l} (omega arith))) ∙ sym (take_all l b (omega arith))) (le-or-lt l 128) in
-      ap (λ (t : List ℕ). onLine t text) same
+      (λ h. take_all at b (omega (arith, e ∙ min-eq_right {n = 128} {m = l} (omega arith))) ∙ sym (take_all l b (omega arith))) (le_or_lt l 128) in
+      ap (λ (t : List ℕ). on_line t text) same
 
   -- one byte more
   pub line_step : (at i : ℕ) → at < 128 → i < length text
-      → onLine (take (at + 1) (set b at (get_or text i 0))) (drop (i + 1) text) ≡ onLine (take at b) (drop i text)
-  unfolding onLine
+      → on_line (take (at + 1) (set b at (get_or text i 0))) (drop (i + 1) text) ≡ on_line (take at b) (drop i text)
+  unfolding on_line
   line_step at i h l =
       let x : ℕ = get_or text i 0 in
       let front : take (at + 1) (set b at x) ≡ take at b ++ (x ∷ []) = rw (add-one at) (take-suc-set b at x (omega arith)) in
@@ -29,13 +29,13 @@ module _ (b text : List ℕ) (long : length b ≡ 128) where
       ∙ ap (λ (t : List ℕ). take 128 (take at b ++ t)) rest
 
   -- a full line
-  pub line-full : (at i : ℕ) → at ≤ 128 → 128 ≤ at → take at b ≡ onLine (take at b) (drop i text)
-  unfolding onLine
+  pub line-full : (at i : ℕ) → at ≤ 128 → 128 ≤ at → take at b ≡ on_line (take at b) (drop i text)
+  unfolding on_line
   line-full at i h l = sym (take_at (take at b) (drop i text) 128 (length-take-le at b (omega arith) ∙ omega arith))
 
   -- the end of the text
-  pub line-end : (at i : ℕ) → at ≤ 128 → length text ≤ i → take at b ≡ onLine (take at b) (drop i text)
-  unfolding onLine
+  pub line-end : (at i : ℕ) → at ≤ 128 → length text ≤ i → take at b ≡ on_line (take at b) (drop i text)
+  unfolding on_line
   line-end at i h l =
       let none : drop i text ≡ [] = drop_of_length-le text {i = i} l in
       let short : length (take at b) ≤ 128 = omega (arith, length-take-le at b (omega arith)) in
@@ -47,26 +47,26 @@ take-front (suc n) [] ys = refl
 take-front (suc n) (x ∷ xs) ys = ap (λ (l : List ℕ). x ∷ l) (take-front n xs ys)
 
 -- two texts one after the other
-pub onLine-twice : (t a b : List ℕ) → onLine (onLine t a) b ≡ onLine t (a ++ b)
-unfolding onLine
-onLine-twice t a b = take-front 128 (t ++ a) b ∙ ap (λ (l : List ℕ). take 128 l) (append_assoc t a b)
+pub on_line-twice : (t a b : List ℕ) → on_line (on_line t a) b ≡ on_line t (a ++ b)
+unfolding on_line
+on_line-twice t a b = take-front 128 (t ++ a) b ∙ ap (λ (l : List ℕ). take 128 l) (append_assoc t a b)
 
 -- a line with one part more at its end
-pub then-part : (t x y a b : List ℕ) → x ≡ onLine t a → y ≡ onLine x b → y ≡ onLine t (a ++ b)
-then-part t x y a b e f = f ∙ ap (λ (z : List ℕ). onLine z b) e ∙ onLine-twice t a b
+pub then-part : (t x y a b : List ℕ) → x ≡ on_line t a → y ≡ on_line x b → y ≡ on_line t (a ++ b)
+then-part t x y a b e f = f ∙ ap (λ (z : List ℕ). on_line z b) e ∙ on_line-twice t a b
 
 -- the first part of a line
-pub first_part : (x y a : List ℕ) → x ≡ [] → y ≡ onLine x a → y ≡ onLine [] a
-first_part x y a e f = f ∙ ap (λ (z : List ℕ). onLine z a) e
+pub first_part : (x y a : List ℕ) → x ≡ [] → y ≡ on_line x a → y ≡ on_line [] a
+first_part x y a e f = f ∙ ap (λ (z : List ℕ). on_line z a) e
 
 -- the same part in other words
-pub as-part : (t y a b : List ℕ) → y ≡ onLine t a → a ≡ b → y ≡ onLine t b
-as-part t y a b e f = e ∙ ap (λ (z : List ℕ). onLine t z) f
+pub as_part : (t y a b : List ℕ) → y ≡ on_line t a → a ≡ b → y ≡ on_line t b
+as_part t y a b e f = e ∙ ap (λ (z : List ℕ). on_line t z) f
 
 -- a text alone on a line
-pub onLine-alone : (a : List ℕ) → length a ≤ 128 → onLine [] a ≡ a
-unfolding onLine
-onLine-alone a h = take_all 128 a h
+pub on_line-alone : (a : List ℕ) → length a ≤ 128 → on_line [] a ≡ a
+unfolding on_line
+on_line-alone a h = take_all 128 a h
 
 -- A text put into a buffer byte by byte: what is left to write, written, gives the whole
 module _ (out text : List ℕ) (place i : ℕ) where

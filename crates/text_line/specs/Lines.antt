@@ -14,5 +14,5 @@ abbrev pub text_of : Line → List ℕ
 text_of line = take line.length line.bytes
 
 -- a text with more at its end, on a line: what goes past 128 bytes is lost
-unfoldable pub onLine : List ℕ → List ℕ → List ℕ
-onLine before more = take 128 (before ++ more)
+unfoldable pub on_line : List ℕ → List ℕ → List ℕ
+on_line before more = take 128 (before ++ more)

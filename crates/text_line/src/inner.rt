@@ -1,7 +1,7 @@
 // Text in a lent buffer. Each caller proves that there is room.
 ghost use Rattle.std.specs.Prelude.{◌≡◌, ◌+◌, ◌≤◌, length};
 ghost use Rattle.std.proofs.lemmas.List.Edits.{sets};
-ghost use Rattle.text_line.specs.Decimal.{decimalText};
+ghost use Rattle.text_line.specs.Decimal.{decimal_text};
 
 // Writes a text from a place on; the place after it.
 pub fn put_text(out: &mut [u8], at: usize, text: &[u8]) -> usize
@@ -21,7 +21,7 @@ pub fn put_text(out: &mut [u8], at: usize, text: &[u8]) -> usize
 // Writes a number in decimal digits from a place on; the place after it. No number has over 20 digits.
 pub fn put_number(out: &mut [u8], at: usize, number: u64) -> usize
     requires { at + 20 ≤ length out.old }
-    ensures { (out.new ≡ sets out.old at (decimalText number)) × (result ≡ at + length (decimalText number)) }
+    ensures { (out.new ≡ sets out.old at (decimal_text number)) × (result ≡ at + length (decimal_text number)) }
 {
     let mut digits = [0u8; 20];
     let k = io::decimal(number, &mut digits);

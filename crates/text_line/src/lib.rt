@@ -2,9 +2,9 @@
 pub mod inner;
 
 ghost use Rattle.std.specs.Prelude.{◌≡◌, [], ◌≤◌, min};
-ghost use Rattle.model.specs.Refusals.{refusalNumber};
-ghost use Rattle.text_line.specs.Decimal.{decimalText, refusedText};
-ghost use Rattle.text_line.specs.Lines.{text_of, onLine};
+ghost use Rattle.model.specs.Refusals.{refusal_number_of};
+ghost use Rattle.text_line.specs.Decimal.{decimal_text, refused_text};
+ghost use Rattle.text_line.specs.Lines.{text_of, on_line};
 
 use model::Refusal;
 use model_refusals::refusal_number;
@@ -42,7 +42,7 @@ fn end_of(length: usize) -> usize
 
 // The line with a text at its end.
 pub fn with_text(line: Line, text: &[u8]) -> Line
-    ensures { text_of result ≡ onLine (text_of line) text.now }
+    ensures { text_of result ≡ on_line (text_of line) text.now }
 {
     let mut longer = line;
     let mut at = end_of(longer.length);
@@ -61,7 +61,7 @@ pub fn with_text(line: Line, text: &[u8]) -> Line
 
 // The line with a number at its end, in decimal digits.
 pub fn with_number(line: Line, number: u64) -> Line
-    ensures { text_of result ≡ onLine (text_of line) (decimalText number) }
+    ensures { text_of result ≡ on_line (text_of line) (decimal_text number) }
 {
     let mut digits = [0u8; 20];
     let k = io::decimal(number, &mut digits);
@@ -70,7 +70,7 @@ pub fn with_number(line: Line, number: u64) -> Line
 
 // The line with `refused` and document 01's number at its end.
 pub fn with_refusal(line: Line, why: Refusal) -> Line
-    ensures { text_of result ≡ onLine (text_of line) (refusedText (refusalNumber why)) }
+    ensures { text_of result ≡ on_line (text_of line) (refused_text (refusal_number_of why)) }
 {
     with_number(with_text(line, b"refused "), refusal_number(why) as u64)
 }

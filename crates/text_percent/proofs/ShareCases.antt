@@ -2,23 +2,23 @@
 use Rattle.model.proofs.Prelude.{ℕ, ◌≤◌, ◌<◌, ◌*◌, ◌/◌, ◌%◌, ◌≡◌, ◌∙◌, ap, refl, sym, true, Bool, false, ◌&&◌, [], ◌++◌, leb, leb→le, ltb, ltb→lt}
 use Rattle.model.proofs.Prelude.{arith, ne_eqb, eq-eqb, lt-ltb, le-ltb}
 use Rattle.model.proofs.BoolLaws.{and_left, and_right, true→T}
-use Rattle.text_line.specs.Decimal.{decimalText}
+use Rattle.text_line.specs.Decimal.{decimal_text}
 use Rattle.text_line.specs.Lines.{ascii}
-use Rattle.text_percent.specs.Shares.{countText, percentText, claimedShare, trueShare}
+use Rattle.text_percent.specs.Shares.{count_text, percent_text, claimed_share, true_share}
 
-pub count-one : (paths : ℕ) → paths ≡ 1 → decimalText paths ++ ascii " path" ≡ countText paths
-unfolding countText
-count-one paths h = sym (rw (eq-eqb paths 1 h, countText) refl)
+pub count-one : (paths : ℕ) → paths ≡ 1 → decimal_text paths ++ ascii " path" ≡ count_text paths
+unfolding count_text
+count-one paths h = sym (rw (eq-eqb paths 1 h, count_text) refl)
 
-pub count-more : (paths : ℕ) → (paths ≡ 1 → ⊥) → decimalText paths ++ ascii " paths" ≡ countText paths
-unfolding countText
-count-more paths h = sym (rw (ne_eqb paths 1 h, countText) refl)
+pub count-more : (paths : ℕ) → (paths ≡ 1 → ⊥) → decimal_text paths ++ ascii " paths" ≡ count_text paths
+unfolding count_text
+count-more paths h = sym (rw (ne_eqb paths 1 h, count_text) refl)
 
-pub percent-parts : (share part whole : ℕ) → share ≡ part * 1000 / whole
-    → decimalText (share / 10) ++ ascii "." ++ decimalText (share % 10) ++ ascii " %" ≡ percentText part whole
-unfolding percentText
-percent-parts share part whole e =
-    ap (λ (n : ℕ). decimalText (n / 10) ++ ascii "." ++ decimalText (n % 10) ++ ascii " %") e
+pub percent_parts : (share part whole : ℕ) → share ≡ part * 1000 / whole
+    → decimal_text (share / 10) ++ ascii "." ++ decimal_text (share % 10) ++ ascii " %" ≡ percent_text part whole
+unfolding percent_text
+percent_parts share part whole e =
+    ap (λ (n : ℕ). decimal_text (n / 10) ++ ascii "." ++ decimal_text (n % 10) ++ ascii " %") e
 
 -- Whether a number is a part of the paths
 module _ (part paths : ℕ) where
@@ -37,19 +37,19 @@ module _ (part paths : ℕ) where
     part-there h =
         leb→le part paths (and_right (ltb 0 paths) (leb part paths) (true→T (ltb 0 paths && leb part paths) (sym e ∙ h)))
 
-    pub claimed-part : b ≡ true
-        → ascii " (" ++ percentText part paths ++ ascii " of " ++ countText paths ++ ascii ")" ≡ claimedShare part paths
-    unfolding claimedShare
-    claimed-part h = let t : (ltb 0 paths && leb part paths) ≡ true = sym e ∙ h in sym (rw (t, claimedShare) refl)
+    pub claimed_part : b ≡ true
+        → ascii " (" ++ percent_text part paths ++ ascii " of " ++ count_text paths ++ ascii ")" ≡ claimed_share part paths
+    unfolding claimed_share
+    claimed_part h = let t : (ltb 0 paths && leb part paths) ≡ true = sym e ∙ h in sym (rw (t, claimed_share) refl)
 
-    pub claimed-over : b ≡ false → ascii " (of " ++ countText paths ++ ascii ")" ≡ claimedShare part paths
-    unfolding claimedShare
-    claimed-over h = let t : (ltb 0 paths && leb part paths) ≡ false = sym e ∙ h in sym (rw (t, claimedShare) refl)
+    pub claimed_over : b ≡ false → ascii " (of " ++ count_text paths ++ ascii ")" ≡ claimed_share part paths
+    unfolding claimed_share
+    claimed_over h = let t : (ltb 0 paths && leb part paths) ≡ false = sym e ∙ h in sym (rw (t, claimed_share) refl)
 
-    pub true-part : b ≡ true → ascii " (" ++ percentText part paths ++ ascii ")" ≡ trueShare part paths
-    unfolding trueShare
-    true-part h = let t : (ltb 0 paths && leb part paths) ≡ true = sym e ∙ h in sym (rw (t, trueShare) refl)
+    pub true_part : b ≡ true → ascii " (" ++ percent_text part paths ++ ascii ")" ≡ true_share part paths
+    unfolding true_share
+    true_part h = let t : (ltb 0 paths && leb part paths) ≡ true = sym e ∙ h in sym (rw (t, true_share) refl)
 
-    pub true-over : b ≡ false → [] ≡ trueShare part paths
-    unfolding trueShare
-    true-over h = let t : (ltb 0 paths && leb part paths) ≡ false = sym e ∙ h in sym (rw (t, trueShare) refl)
+    pub true_over : b ≡ false → [] ≡ true_share part paths
+    unfolding true_share
+    true_over h = let t : (ltb 0 paths && leb part paths) ≡ false = sym e ∙ h in sym (rw (t, true_share) refl)

@@ -2,9 +2,9 @@
 ghost use Rattle.std.specs.Prelude.{◌≡◌, ◌+◌, ◌≤◌, ◌^◌, length};
 ghost use Rattle.model.specs.Runs.{size};
 ghost use Rattle.model.specs.Base.{value};
-ghost use Rattle.tree_words.specs.TreeLayout.{treeRuns, runIn};
-ghost use Rattle.tree.specs.Answers.{searchOf};
-ghost use Rattle.tree_words.specs.Calls.{run_of, found, overlaps, adjacent, searchRuns};
+ghost use Rattle.tree_words.specs.TreeLayout.{tree_runs, run_in_of};
+ghost use Rattle.tree.specs.Answers.{search_of};
+ghost use Rattle.tree_words.specs.Calls.{run_of, found, overlaps, adjacent, search_runs_of};
 ghost use Rattle.tree_words.specs.Nodes.{SoundTree};
 
 use crate::TreeFound;
@@ -14,7 +14,7 @@ use tree_words::inner::{total_at, word};
 // How many numbers sound words hold.
 pub(crate) fn total_of(words: &[u64]) -> u64
     requires { SoundTree words.now }
-    ensures { result ≡ size (treeRuns words.now) }
+    ensures { result ≡ size (tree_runs words.now) }
 {
     let levels = word(words, 0);
     if levels == 0 {
@@ -27,7 +27,7 @@ pub(crate) fn total_of(words: &[u64]) -> u64
 // The run of a leaf.
 fn run_at(words: &[u64], at: usize) -> TreeFound
     requires { at + 3 ≤ length words.now }
-    ensures { searchOf result ≡ value (found (runIn words.now at)) }
+    ensures { search_of result ≡ value (found (run_in_of words.now at)) }
 {
     TreeFound::Run {
         low: words[at],
@@ -38,7 +38,7 @@ fn run_at(words: &[u64], at: usize) -> TreeFound
 // The least run that overlaps low..high, else the adjacent one with the least low.
 pub(crate) fn search_runs(words: &[u64], low: u64, high: u64) -> TreeFound
     requires { SoundTree words.now × (1 ≤ low) × (low ≤ high) × (high ≤ 2 ^ 62) }
-    ensures { searchOf result ≡ value (searchRuns (treeRuns words.now) (run_of low high)) }
+    ensures { search_of result ≡ value (search_runs_of (tree_runs words.now) (run_of low high)) }
 {
     let over = overlapping(words, low, high);
     if over != 0 {

@@ -1,8 +1,8 @@
 // Sound words asked without another check, for our own crates: a caller proves what a function requires.
 ghost use Rattle.std.specs.Prelude.{◌≡◌, length};
-ghost use Rattle.model.specs.Runs.{inRuns};
-ghost use Rattle.tree_words.specs.TreeLayout.{treeRuns};
-ghost use Rattle.tree_words.specs.Ways.{wayTo};
+ghost use Rattle.model.specs.Runs.{in_runs};
+ghost use Rattle.tree_words.specs.TreeLayout.{tree_runs};
+ghost use Rattle.tree_words.specs.Ways.{way_to};
 ghost use Rattle.tree_words.specs.Nodes.{SoundTree};
 
 use tree_check::inner::space_start;
@@ -12,7 +12,7 @@ use tree_words::inner::word;
 // Whether sound words hold a number, and the nodes visited, those on the way to its leaf.
 pub fn visit_root(words: &[u64], number: u64) -> Visit
     requires { SoundTree words.now }
-    ensures { (result.held ≡ inRuns (treeRuns words.now) number) × (result.visited ≡ length (wayTo words.now number)) }
+    ensures { (result.held ≡ in_runs (tree_runs words.now) number) × (result.visited ≡ length (way_to words.now number)) }
 {
     let levels = word(words, 0);
     if levels == 0 {

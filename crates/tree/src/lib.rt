@@ -4,9 +4,9 @@ mod each;
 pub mod inner;
 
 ghost use Rattle.std.specs.Prelude.{◌≡◌};
-ghost use Rattle.tree_words.specs.Calls.{totalCall, holdsCall, runLegal, searchCall, insertCall, deleteCall, run_of};
+ghost use Rattle.tree_words.specs.Calls.{total_call, holds_call, run_legal_of, search_call, insert_call, delete_call, run_of};
 ghost use Rattle.tree.specs.Each.{EachTrue};
-ghost use Rattle.tree.specs.Answers.{EmptiedTrue, ChangedTrue, totalIn, holds_of, searchOf};
+ghost use Rattle.tree.specs.Answers.{EmptiedTrue, ChangedTrue, total_in, holds_of, search_of};
 
 use crate::asking::{search_runs, total_of};
 use crate::each::answer_each;
@@ -75,7 +75,7 @@ pub fn tree_empty(words: &mut [u64]) -> TreeEmptied
 
 // How many numbers a tree holds.
 pub fn tree_total(words: &[u64]) -> TreeTotal
-    ensures { totalIn result ≡ totalCall words.now }
+    ensures { total_in result ≡ total_call words.now }
 {
     if words.len() < TREE_WORDS {
         return TreeTotal::Refused(Refusal::TreeLength);
@@ -89,7 +89,7 @@ pub fn tree_total(words: &[u64]) -> TreeTotal
 
 // Whether a tree holds a path number, with the nodes visited for the answer, root and leaf included.
 pub fn tree_holds(words: &[u64], path: PathNo) -> TreeHolds
-    ensures { holds_of result ≡ holdsCall words.now path.0 }
+    ensures { holds_of result ≡ holds_call words.now path.0 }
 {
     let number = path.0;
     if words.len() < TREE_WORDS {
@@ -130,7 +130,7 @@ pub fn tree_holds_each(words: &[u64], numbers: &[u64], answers: &mut [u64]) -> T
 
 // Whether low..high is a run of path numbers.
 fn run_legal(low: u64, high: u64) -> bool
-    ensures { result ≡ runLegal (run_of low high) }
+    ensures { result ≡ run_legal_of (run_of low high) }
 {
     if low < 1 {
         return false;
@@ -143,7 +143,7 @@ fn run_legal(low: u64, high: u64) -> bool
 
 // The least run that overlaps low..high, else the adjacent one with the least low.
 pub fn tree_search(words: &[u64], low: u64, high: u64) -> TreeFound
-    ensures { searchOf result ≡ searchCall words.now (run_of low high) }
+    ensures { search_of result ≡ search_call words.now (run_of low high) }
 {
     if words.len() < TREE_WORDS {
         return TreeFound::Refused(Refusal::TreeLength);
@@ -159,7 +159,7 @@ pub fn tree_search(words: &[u64], low: u64, high: u64) -> TreeFound
 
 // Inserts the run low..high, merged with the runs that overlap it or are adjacent.
 pub fn tree_insert(words: &mut [u64], low: u64, high: u64) -> TreeChanged
-    ensures { ChangedTrue (insertCall words.old (run_of low high)) result words.old words.new }
+    ensures { ChangedTrue (insert_call words.old (run_of low high)) result words.old words.new }
 {
     if words.len() < TREE_WORDS {
         return TreeChanged::Refused(Refusal::TreeLength);
@@ -179,7 +179,7 @@ pub fn tree_insert(words: &mut [u64], low: u64, high: u64) -> TreeChanged
 
 // Deletes the stored run low..high.
 pub fn tree_delete(words: &mut [u64], low: u64, high: u64) -> TreeChanged
-    ensures { ChangedTrue (deleteCall words.old (run_of low high)) result words.old words.new }
+    ensures { ChangedTrue (delete_call words.old (run_of low high)) result words.old words.new }
 {
     if words.len() < TREE_WORDS {
         return TreeChanged::Refused(Refusal::TreeLength);

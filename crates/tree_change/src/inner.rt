@@ -1,8 +1,8 @@
 // Insertion and deletion on sound words, for our own crates: the tree is cut at a run into what is below it and what is above it, and these are
 // joined again, with the merged run between them or without one. Each caller proves what a function requires.
 ghost use Rattle.std.specs.Prelude.{◌≡◌};
-ghost use Rattle.tree_words.specs.TreeLayout.{rootIn, spaceStart, treeRuns};
-ghost use Rattle.tree_words.specs.Calls.{run_of, runsWith, runsWithout};
+ghost use Rattle.tree_words.specs.TreeLayout.{root_in, space_start_of, tree_runs};
+ghost use Rattle.tree_words.specs.Calls.{run_of, runs_with, runs_without};
 ghost use Rattle.tree_lookup.specs.Lookup.{merged, removed};
 ghost use Rattle.tree_change.specs.Changing.{Ready, Cuts, InsertAsk, DeleteAsk, Rebuilt, Inserts, Deletes};
 
@@ -22,7 +22,7 @@ pub struct Parts {
 
 // The runs of the words below low..high, and those above it.
 fn cut(words: &mut [u64], start: usize, low: u64, high: u64) -> Parts
-    requires { Ready words.old high × (start ≡ spaceStart (rootIn words.old)) }
+    requires { Ready words.old high × (start ≡ space_start_of (root_in words.old)) }
     ensures { Cuts words.old words.new start low high result.under result.over }
 {
     let levels = word(words, 0);
@@ -36,7 +36,7 @@ fn cut(words: &mut [u64], start: usize, low: u64, high: u64) -> Parts
 // The tree with the run first..last, in place of the runs that low..high touches.
 fn put_between(words: &mut [u64], low: u64, high: u64, first: u64, last: u64)
     requires { InsertAsk words.old low high first last }
-    ensures { Rebuilt words.old words.new (merged low high (treeRuns words.old)) }
+    ensures { Rebuilt words.old words.new (merged low high (tree_runs words.old)) }
 {
     let root = word(words, 1);
     let start = space_start(root);
@@ -62,7 +62,7 @@ fn put_between(words: &mut [u64], low: u64, high: u64, first: u64, last: u64)
 // The tree without the stored run low..high.
 fn take_between(words: &mut [u64], low: u64, high: u64)
     requires { DeleteAsk words.old low high }
-    ensures { Rebuilt words.old words.new (removed low high (treeRuns words.old)) }
+    ensures { Rebuilt words.old words.new (removed low high (tree_runs words.old)) }
 {
     let root = word(words, 1);
     let start = space_start(root);
@@ -84,7 +84,7 @@ fn take_between(words: &mut [u64], low: u64, high: u64)
 // Inserts low..high into sound words that have a place for it.
 pub fn insert_run(words: &mut [u64], low: u64, high: u64)
     requires { Inserts words.old low high }
-    ensures { Rebuilt words.old words.new (runsWith (treeRuns words.old) (run_of low high)) }
+    ensures { Rebuilt words.old words.new (runs_with (tree_runs words.old) (run_of low high)) }
 {
     let levels = word(words, 0);
     if levels == 0 {
@@ -101,7 +101,7 @@ pub fn insert_run(words: &mut [u64], low: u64, high: u64)
 // Deletes a stored run from sound words.
 pub fn delete_run(words: &mut [u64], low: u64, high: u64)
     requires { Deletes words.old low high }
-    ensures { Rebuilt words.old words.new (runsWithout (treeRuns words.old) (run_of low high)) }
+    ensures { Rebuilt words.old words.new (runs_without (tree_runs words.old) (run_of low high)) }
 {
     compact(words);
     take_between(words, low, high);

@@ -1,106 +1,106 @@
 -- Cases of `sound_words`: the head's words, and the tree below the root.
 use Rattle.model.proofs.Prelude.{ℕ, ◌≤◌, ◌<◌, ◌-◌, suc, zero, ◌≡◌, ◌∙◌, ap, refl, sym, ⊎_elim, true, Bool, false, ◌&&◌, not, List, [], length, get_or}
 use Rattle.model.proofs.Prelude.{leb, eqb, arith, le-leb, lt-leb, ne_eqb, eq-eqb, not-true, not-false, lt-ltb, le-ltb, leb-true}
-use Rattle.model.proofs.BoolLaws.{le-or-lt, and_parts}
-use Rattle.tree_words.specs.TreeLayout.{levelsIn, rootIn, freeIn, leavesAt, leavesOf, treeRuns, spaceStart, spaceEnd, soundAt, soundFrom, soundWords}
+use Rattle.model.proofs.BoolLaws.{le_or_lt, and_parts}
+use Rattle.tree_words.specs.TreeLayout.{levels_in, root_in, free_in, leaves_at, leaves_of, tree_runs, space_start_of, space_end_of, sound_at_of, sound_from, sound_words_of}
 use Rattle.tree_words.specs.Nodes.{Good}
-use Rattle.tree_words.proofs.ChildLaws.{level-up}
+use Rattle.tree_words.proofs.ChildLaws.{level_up}
 use Rattle.tree_check.proofs.TreeTestCases.{sound-good, good-sound}
 
-pub end-le : (root : ℕ) → spaceEnd root ≤ 32768
+pub end-le : (root : ℕ) → space_end_of root ≤ 32768
 end-le root =
     ⊎_elim
     (λ (q : 16384 ≤ root). let w = le-ltb root 16384 q in rw w (omega arith))
     (λ (q : root < 16384). let w = lt-ltb root 16384 q in rw w (omega arith))
-    (le-or-lt 16384 root)
+    (le_or_lt 16384 root)
 
-pub start-ge : (root : ℕ) → 4 ≤ spaceStart root
+pub start-ge : (root : ℕ) → 4 ≤ space_start_of root
 start-ge root =
     ⊎_elim
     (λ (q : 16384 ≤ root). let w = le-ltb root 16384 q in rw w (omega arith))
     (λ (q : root < 16384). let w = lt-ltb root 16384 q in rw w (omega arith))
-    (le-or-lt 16384 root)
+    (le_or_lt 16384 root)
 
-from_zero : (ws : List ℕ) (l : ℕ) → l ≡ 0 → soundFrom ws l ≡ (eqb (rootIn ws) 0 && eqb (freeIn ws) 0)
-unfolding soundFrom
-from_zero ws l e = rw (e, soundFrom) refl
+from_zero : (ws : List ℕ) (l : ℕ) → l ≡ 0 → sound_from ws l ≡ (eqb (root_in ws) 0 && eqb (free_in ws) 0)
+unfolding sound_from
+from_zero ws l e = rw (e, sound_from) refl
 
-from_suc : (ws : List ℕ) (l h : ℕ) → l ≡ suc h → soundFrom ws l
-    ≡ (leb (suc h) 11 && leb (freeIn ws) (spaceEnd (rootIn ws)) && soundAt ws (spaceStart (rootIn ws)) (freeIn ws) h (rootIn ws) && leb (length (leavesAt ws h (rootIn ws))) 1024)
-unfolding soundFrom
-from_suc ws l h e = rw (e, soundFrom) refl
+from_suc : (ws : List ℕ) (l h : ℕ) → l ≡ suc h → sound_from ws l
+    ≡ (leb (suc h) 11 && leb (free_in ws) (space_end_of (root_in ws)) && sound_at_of ws (space_start_of (root_in ws)) (free_in ws) h (root_in ws) && leb (length (leaves_at ws h (root_in ws))) 1024)
+unfolding sound_from
+from_suc ws l h e = rw (e, sound_from) refl
 
 module _ (ws : List ℕ) (l root free : ℕ) (el : l ≡ get_or ws 0 0) (er : root ≡ get_or ws 1 0) (ef : free ≡ get_or ws 2 0) where
-  as-from : soundWords ws ≡ soundFrom ws l
-  unfolding soundWords
-  as-from = ap (soundFrom ws) (sym el)
+  as_from : sound_words_of ws ≡ sound_from ws l
+  unfolding sound_words_of
+  as_from = ap (sound_from ws) (sym el)
 
   module _ (z : l ≡ 0) where
-    pub empty-both : root ≡ 0 → eqb free 0 ≡ soundWords ws
+    pub empty-both : root ≡ 0 → eqb free 0 ≡ sound_words_of ws
     empty-both q =
-        let w = eq-eqb (rootIn ws) 0 (sym er ∙ q) in
-        sym (as-from ∙ from_zero ws l z ∙ rw w (ap (λ (x : ℕ). eqb x 0) (sym ef)))
+        let w = eq-eqb (root_in ws) 0 (sym er ∙ q) in
+        sym (as_from ∙ from_zero ws l z ∙ rw w (ap (λ (x : ℕ). eqb x 0) (sym ef)))
 
-    pub empty-first : (root ≡ 0 → ⊥) → eqb root 0 ≡ soundWords ws
+    pub empty-first : (root ≡ 0 → ⊥) → eqb root 0 ≡ sound_words_of ws
     empty-first q =
-        let w = ne_eqb (rootIn ws) 0 (λ y. q (er ∙ y)) in
-        ne_eqb root 0 q ∙ sym (as-from ∙ from_zero ws l z ∙ rw w refl)
+        let w = ne_eqb (root_in ws) 0 (λ y. q (er ∙ y)) in
+        ne_eqb root 0 q ∙ sym (as_from ∙ from_zero ws l z ∙ rw w refl)
 
   module _ (some : l ≡ 0 → ⊥) where
     hp : l ≡ suc (l - 1)
-    hp = level-up l some
+    hp = level_up l some
 
     pub levels-some : 1 ≤ l
     levels-some = omega (arith, hp)
 
-    as-suc : soundWords ws
-        ≡ (leb (suc (l - 1)) 11 && leb (freeIn ws) (spaceEnd (rootIn ws)) && soundAt ws (spaceStart (rootIn ws)) (freeIn ws) (l - 1) (rootIn ws) && leb
-        (length (leavesAt ws (l - 1) (rootIn ws))) 1024)
-    as-suc = as-from ∙ from_suc ws l (l - 1) hp
+    as_suc : sound_words_of ws
+        ≡ (leb (suc (l - 1)) 11 && leb (free_in ws) (space_end_of (root_in ws)) && sound_at_of ws (space_start_of (root_in ws)) (free_in ws) (l - 1) (root_in ws) && leb
+        (length (leaves_at ws (l - 1) (root_in ws))) 1024)
+    as_suc = as_from ∙ from_suc ws l (l - 1) hp
 
-    pub many-levels : 11 < l → false ≡ soundWords ws
-    many-levels q = let w = lt-leb (suc (l - 1)) 11 (omega arith) in sym (as-suc ∙ rw w refl)
+    pub many-levels : 11 < l → false ≡ sound_words_of ws
+    many-levels q = let w = lt-leb (suc (l - 1)) 11 (omega arith) in sym (as_suc ∙ rw w refl)
 
-    module _ (few : l ≤ 11) (end : ℕ) (ee : end ≡ spaceEnd root) where
+    module _ (few : l ≤ 11) (end : ℕ) (ee : end ≡ space_end_of root) where
       w1 : leb (suc (l - 1)) 11 ≡ true
       w1 = le-leb (suc (l - 1)) 11 (omega (arith, hp))
 
-      pub past_end : end < free → false ≡ soundWords ws
+      pub past_end : end < free → false ≡ sound_words_of ws
       past_end q =
-          let w = lt-leb (freeIn ws) (spaceEnd (rootIn ws)) (omega (arith, ef, ee ∙ ap spaceEnd er)) in
-          sym (as-suc ∙ rw (w1, w) refl)
+          let w = lt-leb (free_in ws) (space_end_of (root_in ws)) (omega (arith, ef, ee ∙ ap space_end_of er)) in
+          sym (as_suc ∙ rw (w1, w) refl)
 
       module _ (fits : free ≤ end) where
-        w2 : leb (freeIn ws) (spaceEnd (rootIn ws)) ≡ true
-        w2 = le-leb (freeIn ws) (spaceEnd (rootIn ws)) (omega (arith, ef, ee ∙ ap spaceEnd er))
+        w2 : leb (free_in ws) (space_end_of (root_in ws)) ≡ true
+        w2 = le-leb (free_in ws) (space_end_of (root_in ws)) (omega (arith, ef, ee ∙ ap space_end_of er))
 
         pub free-inside : 32768 ≤ length ws → free ≤ length ws
         free-inside q = omega (arith, end-le root)
 
-        module _ (start : ℕ) (es : start ≡ spaceStart root) (t : Bool) (et : t ≡ soundAt ws start free (l - 1) root) where
-          same_at : soundAt ws (spaceStart (rootIn ws)) (freeIn ws) (l - 1) (rootIn ws) ≡ t
+        module _ (start : ℕ) (es : start ≡ space_start_of root) (t : Bool) (et : t ≡ sound_at_of ws start free (l - 1) root) where
+          same_at : sound_at_of ws (space_start_of (root_in ws)) (free_in ws) (l - 1) (root_in ws) ≡ t
           same_at = sym (et ∙ rw (es, er, ef) refl)
 
-          pub not_sound : not t ≡ true → false ≡ soundWords ws
-          not_sound q = let w = same_at ∙ not-true t q in sym (as-suc ∙ rw (w1, w2, w) refl)
+          pub not_sound : not t ≡ true → false ≡ sound_words_of ws
+          not_sound q = let w = same_at ∙ not-true t q in sym (as_suc ∙ rw (w1, w2, w) refl)
 
           module _ (q : not t ≡ false) where
-            pub root-good : Good ws start free (l - 1) root
-            root-good = sound-good ws start free (l - 1) root (sym et ∙ not-false t q)
+            pub root_good : Good ws start free (l - 1) root
+            root_good = sound-good ws start free (l - 1) root (sym et ∙ not-false t q)
 
-            pub all-counted : (n : ℕ) → n ≡ length (leavesAt ws (l - 1) root) → leb n 1024 ≡ soundWords ws
+            pub all-counted : (n : ℕ) → n ≡ length (leaves_at ws (l - 1) root) → leb n 1024 ≡ sound_words_of ws
             all-counted n e =
                 let w = same_at ∙ not-false t q in
-                let v : length (leavesAt ws (l - 1) (rootIn ws)) ≡ n = sym (e ∙ ap (λ (x : ℕ). length (leavesAt ws (l - 1) x)) er) in
-                sym (as-suc ∙ rw (w1, w2, w, v) refl)
+                let v : length (leaves_at ws (l - 1) (root_in ws)) ≡ n = sym (e ∙ ap (λ (x : ℕ). length (leaves_at ws (l - 1) x)) er) in
+                sym (as_suc ∙ rw (w1, w2, w, v) refl)
 
 -- ---- what sound words tell
 
 pub record Sound (ws : List ℕ) : Type 0 where
-  pub few : levelsIn ws ≤ 11
-  pub ended : (levelsIn ws ≡ 0 → ⊥) → freeIn ws ≤ spaceEnd (rootIn ws)
-  pub good : (levelsIn ws ≡ 0 → ⊥) → Good ws (spaceStart (rootIn ws)) (freeIn ws) (levelsIn ws - 1) (rootIn ws)
-  pub runs : (levelsIn ws ≡ 0 → ⊥) → length (leavesAt ws (levelsIn ws - 1) (rootIn ws)) ≤ 1024
+  pub few : levels_in ws ≤ 11
+  pub ended : (levels_in ws ≡ 0 → ⊥) → free_in ws ≤ space_end_of (root_in ws)
+  pub good : (levels_in ws ≡ 0 → ⊥) → Good ws (space_start_of (root_in ws)) (free_in ws) (levels_in ws - 1) (root_in ws)
+  pub runs : (levels_in ws ≡ 0 → ⊥) → length (leaves_at ws (levels_in ws - 1) (root_in ws)) ≤ 1024
 
 four-true : (x y z w : Bool) → (x && y && z && w) ≡ true → (x ≡ true) × (y ≡ true) × (z ≡ true) × (w ≡ true)
 four-true x y z w e =
@@ -109,49 +109,49 @@ four-true x y z w e =
     let q = and_parts x y r.0 in
     (q.0, q.1, r.1, s.1)
 
-pub words-sound : (ws : List ℕ) → soundWords ws ≡ true → Sound ws
-words-sound ws e = go (levelsIn ws) refl
+pub words-sound : (ws : List ℕ) → sound_words_of ws ≡ true → Sound ws
+words-sound ws e = go (levels_in ws) refl
   where
-    some : (levelsIn ws ≡ 0 → ⊥)
-        → (leb (suc (levelsIn ws - 1)) 11 ≡ true) × (leb (freeIn ws) (spaceEnd (rootIn ws)) ≡ true) ×
-        (soundAt ws (spaceStart (rootIn ws)) (freeIn ws) (levelsIn ws - 1) (rootIn ws) ≡ true) × (leb (length (leavesAt ws (levelsIn ws - 1) (rootIn ws))) 1024 ≡ true)
+    some : (levels_in ws ≡ 0 → ⊥)
+        → (leb (suc (levels_in ws - 1)) 11 ≡ true) × (leb (free_in ws) (space_end_of (root_in ws)) ≡ true) ×
+        (sound_at_of ws (space_start_of (root_in ws)) (free_in ws) (levels_in ws - 1) (root_in ws) ≡ true) × (leb (length (leaves_at ws (levels_in ws - 1) (root_in ws))) 1024 ≡ true)
     some ne =
-        four-true (leb (suc (levelsIn ws - 1)) 11) (leb (freeIn ws) (spaceEnd (rootIn ws))) (soundAt ws (spaceStart (rootIn ws)) (freeIn ws) (levelsIn ws - 1) (rootIn ws))
-        (leb (length (leavesAt ws (levelsIn ws - 1) (rootIn ws))) 1024)
-        (sym (as-suc ws (levelsIn ws) (rootIn ws) (freeIn ws) refl refl refl ne) ∙ e)
+        four-true (leb (suc (levels_in ws - 1)) 11) (leb (free_in ws) (space_end_of (root_in ws))) (sound_at_of ws (space_start_of (root_in ws)) (free_in ws) (levels_in ws - 1) (root_in ws))
+        (leb (length (leaves_at ws (levels_in ws - 1) (root_in ws))) 1024)
+        (sym (as_suc ws (levels_in ws) (root_in ws) (free_in ws) refl refl refl ne) ∙ e)
 
-    go : (l : ℕ) → levelsIn ws ≡ l → Sound ws
+    go : (l : ℕ) → levels_in ws ≡ l → Sound ws
     go zero z = record { few = omega arith; ended = λ ne. absurd (ne z); good = λ ne. absurd (ne z); runs = λ ne. absurd (ne z) }
     go (suc h) z =
-        let ne : levelsIn ws ≡ 0 → ⊥ = λ y. omega arith in
+        let ne : levels_in ws ≡ 0 → ⊥ = λ y. omega arith in
         record {
-          few = omega (arith, leb-true (suc (levelsIn ws - 1)) 11 (some ne).0);
-          ended = λ n. leb-true (freeIn ws) (spaceEnd (rootIn ws)) (some n).1;
-          good = λ n. sound-good ws (spaceStart (rootIn ws)) (freeIn ws) (levelsIn ws - 1) (rootIn ws) (some n).2;
-          runs = λ n. leb-true (length (leavesAt ws (levelsIn ws - 1) (rootIn ws))) 1024 (some n).3;
+          few = omega (arith, leb-true (suc (levels_in ws - 1)) 11 (some ne).0);
+          ended = λ n. leb-true (free_in ws) (space_end_of (root_in ws)) (some n).1;
+          good = λ n. sound-good ws (space_start_of (root_in ws)) (free_in ws) (levels_in ws - 1) (root_in ws) (some n).2;
+          runs = λ n. leb-true (length (leaves_at ws (levels_in ws - 1) (root_in ws))) 1024 (some n).3;
         }
 
-pub runs_none : (ws : List ℕ) → levelsIn ws ≡ 0 → treeRuns ws ≡ []
-unfolding treeRuns
-runs_none ws z = ap (λ (l : ℕ). leavesOf ws l (rootIn ws)) z
+pub runs_none : (ws : List ℕ) → levels_in ws ≡ 0 → tree_runs ws ≡ []
+unfolding tree_runs
+runs_none ws z = ap (λ (l : ℕ). leaves_of ws l (root_in ws)) z
 
-pub runs-some : (ws : List ℕ) → (levelsIn ws ≡ 0 → ⊥) → treeRuns ws ≡ leavesAt ws (levelsIn ws - 1) (rootIn ws)
-unfolding treeRuns
-runs-some ws ne = ap (λ (l : ℕ). leavesOf ws l (rootIn ws)) (level-up (levelsIn ws) ne)
+pub runs-some : (ws : List ℕ) → (levels_in ws ≡ 0 → ⊥) → tree_runs ws ≡ leaves_at ws (levels_in ws - 1) (root_in ws)
+unfolding tree_runs
+runs-some ws ne = ap (λ (l : ℕ). leaves_of ws l (root_in ws)) (level_up (levels_in ws) ne)
 
 -- ---- and what makes words sound
 
-pub words-empty : (ws : List ℕ) → levelsIn ws ≡ 0 → rootIn ws ≡ 0 → freeIn ws ≡ 0 → soundWords ws ≡ true
+pub words-empty : (ws : List ℕ) → levels_in ws ≡ 0 → root_in ws ≡ 0 → free_in ws ≡ 0 → sound_words_of ws ≡ true
 words-empty ws z r f =
-    let w = eq-eqb (rootIn ws) 0 r in
-    let v = eq-eqb (freeIn ws) 0 f in
-    as-from ws (levelsIn ws) (rootIn ws) (freeIn ws) refl refl refl ∙ from_zero ws (levelsIn ws) z ∙ rw (w, v) refl
+    let w = eq-eqb (root_in ws) 0 r in
+    let v = eq-eqb (free_in ws) 0 f in
+    as_from ws (levels_in ws) (root_in ws) (free_in ws) refl refl refl ∙ from_zero ws (levels_in ws) z ∙ rw (w, v) refl
 
-pub words-good : (ws : List ℕ) (h : ℕ) → levelsIn ws ≡ suc h → suc h ≤ 11 → freeIn ws ≤ spaceEnd (rootIn ws)
-    → Good ws (spaceStart (rootIn ws)) (freeIn ws) h (rootIn ws) → length (leavesAt ws h (rootIn ws)) ≤ 1024 → soundWords ws ≡ true
+pub words-good : (ws : List ℕ) (h : ℕ) → levels_in ws ≡ suc h → suc h ≤ 11 → free_in ws ≤ space_end_of (root_in ws)
+    → Good ws (space_start_of (root_in ws)) (free_in ws) h (root_in ws) → length (leaves_at ws h (root_in ws)) ≤ 1024 → sound_words_of ws ≡ true
 words-good ws h e few fits g runs =
     let w1 = le-leb (suc h) 11 few in
-    let w2 = le-leb (freeIn ws) (spaceEnd (rootIn ws)) fits in
-    let w3 = good-sound ws (spaceStart (rootIn ws)) (freeIn ws) g in
-    let w4 = le-leb (length (leavesAt ws h (rootIn ws))) 1024 runs in
-    as-from ws (levelsIn ws) (rootIn ws) (freeIn ws) refl refl refl ∙ from_suc ws (levelsIn ws) h e ∙ rw (w1, w2, w3, w4) refl
+    let w2 = le-leb (free_in ws) (space_end_of (root_in ws)) fits in
+    let w3 = good-sound ws (space_start_of (root_in ws)) (free_in ws) g in
+    let w4 = le-leb (length (leaves_at ws h (root_in ws))) 1024 runs in
+    as_from ws (levels_in ws) (root_in ws) (free_in ws) refl refl refl ∙ from_suc ws (levels_in ws) h e ∙ rw (w1, w2, w3, w4) refl

@@ -1,7 +1,7 @@
 // Whether words are a tree in the layout, for our own crates. The check reads each node once. On words that are no tree it ends too: it goes down one level at
 // each call, and at the first node that is wrong it ends; until then the leaves read are ascending, so no leaf is read twice.
 ghost use Rattle.std.specs.Prelude.{◌≡◌, ◌+◌, ◌≤◌, leb, eqb, length};
-ghost use Rattle.tree_words.specs.TreeLayout.{treeWords, inSpace, leafTrue, leafSound, twoSound, threeSound, nodeSound, soundAt, soundWords, spaceStart, spaceEnd, leavesAt};
+ghost use Rattle.tree_words.specs.TreeLayout.{tree_words_count, in_space, leaf_true_of, leaf_sound_of, two_sound_of, three_sound_of, node_sound_of, sound_at_of, sound_words_of, space_start_of, space_end_of, leaves_at};
 ghost use Rattle.tree_words.specs.Nodes.{Good};
 
 use model::{MAX_COUNT, MAX_RUNS};
@@ -12,7 +12,7 @@ use tree_words::inner::{
 
 // The first word of a root's space, and the word after its last.
 pub fn space_start(root: usize) -> usize
-    ensures { result ≡ spaceStart root }
+    ensures { result ≡ space_start_of root }
 {
     if root < UPPER_START {
         LOWER_START
@@ -22,7 +22,7 @@ pub fn space_start(root: usize) -> usize
 }
 
 pub fn space_end(root: usize) -> usize
-    ensures { result ≡ spaceEnd root }
+    ensures { result ≡ space_end_of root }
 {
     if root < UPPER_START {
         UPPER_START
@@ -33,7 +33,7 @@ pub fn space_end(root: usize) -> usize
 
 // Whether n words from `at` on are used words of the space.
 fn inside(start: usize, free: usize, at: usize, n: usize) -> bool
-    ensures { result ≡ inSpace start free at n }
+    ensures { result ≡ in_space start free at n }
 {
     if at < start {
         return false;
@@ -74,7 +74,7 @@ fn is_sum_of_three(total: u64, a: u64, b: u64, c: u64) -> bool
 
 fn leaf_true(words: &[u64], at: usize) -> bool
     requires { at + 3 ≤ length words.now }
-    ensures { result ≡ leafTrue words.now at }
+    ensures { result ≡ leaf_true_of words.now at }
 {
     let low = words[at];
     let high = words[at + 1];
@@ -92,7 +92,7 @@ fn leaf_true(words: &[u64], at: usize) -> bool
 
 fn leaf_sound(words: &[u64], start: usize, free: usize, at: usize) -> bool
     requires { free ≤ length words.now }
-    ensures { result ≡ leafSound words.now start free at }
+    ensures { result ≡ leaf_sound_of words.now start free at }
 {
     if !inside(start, free, at, LEAF_WORDS) {
         return false;
@@ -102,7 +102,7 @@ fn leaf_sound(words: &[u64], start: usize, free: usize, at: usize) -> bool
 
 fn two_sound(words: &[u64], at: usize, b: usize, c: usize) -> bool
     requires { (at + 8 ≤ length words.now) × (b + 3 ≤ length words.now) × (c + 3 ≤ length words.now) }
-    ensures { result ≡ twoSound words.now at b c }
+    ensures { result ≡ two_sound_of words.now at b c }
 {
     if words[at] != words[b] {
         return false;
@@ -124,7 +124,7 @@ fn two_sound(words: &[u64], at: usize, b: usize, c: usize) -> bool
 
 fn three_sound(words: &[u64], at: usize, b: usize, c: usize, d: usize) -> bool
     requires { (at + 8 ≤ length words.now) × (b + 3 ≤ length words.now) × (c + 3 ≤ length words.now) × (d + 3 ≤ length words.now) }
-    ensures { result ≡ threeSound words.now at b c d }
+    ensures { result ≡ three_sound_of words.now at b c d }
 {
     if words[at] != words[b] {
         return false;
@@ -149,7 +149,7 @@ fn three_sound(words: &[u64], at: usize, b: usize, c: usize, d: usize) -> bool
 
 fn node_sound(words: &[u64], start: usize, free: usize, at: usize) -> bool
     requires { free ≤ length words.now }
-    ensures { result ≡ nodeSound words.now start free at }
+    ensures { result ≡ node_sound_of words.now start free at }
 {
     if !inside(start, free, at, NODE_WORDS) {
         return false;
@@ -175,7 +175,7 @@ fn node_sound(words: &[u64], start: usize, free: usize, at: usize) -> bool
 // Whether the words at `at` are a tree, `height` levels above its leaves.
 fn sound_at(words: &[u64], start: usize, free: usize, height: usize, at: usize) -> bool
     requires { free ≤ length words.now }
-    ensures { result ≡ soundAt words.now start free height at }
+    ensures { result ≡ sound_at_of words.now start free height at }
 {
     if height == 0 {
         return leaf_sound(words, start, free, at);
@@ -203,7 +203,7 @@ fn sound_at(words: &[u64], start: usize, free: usize, height: usize, at: usize) 
 pub fn count_at(words: &[u64], start: usize, free: usize, height: usize, at: usize) -> usize
     requires free_in_bounds { (free ≤ length words.now) × (height ≤ 10) }
     requires good { Good words.now start free height at }
-    ensures { result ≡ length (leavesAt words.now height at) }
+    ensures { result ≡ length (leaves_at words.now height at) }
 {
     if height == 0 {
         return 1;
@@ -221,8 +221,8 @@ pub fn count_at(words: &[u64], start: usize, free: usize, height: usize, at: usi
 
 // The check of all words.
 pub fn sound_words(words: &[u64]) -> bool
-    requires { treeWords ≤ length words.now }
-    ensures { result ≡ soundWords words.now }
+    requires { tree_words_count ≤ length words.now }
+    ensures { result ≡ sound_words_of words.now }
 {
     let levels = word(words, 0);
     let root = word(words, 1);

@@ -1,7 +1,7 @@
 // The head of the words, and room for one insertion or deletion, for our own crates. Each caller proves what a function requires.
 ghost use Rattle.std.specs.Prelude.{◌≡◌, ◌≤◌, length};
 ghost use Rattle.tree_words.specs.Nodes.{SoundTree};
-ghost use Rattle.tree_compaction.specs.Compaction.{putHead, otherStart, RootReady, RootWritten, HasSpace};
+ghost use Rattle.tree_compaction.specs.Compaction.{put_head_of, other_start_of, RootReady, RootWritten, HasSpace};
 
 use tree_check::inner::{space_end, space_start};
 use tree_copy::inner::copy_at;
@@ -13,7 +13,7 @@ pub const STEP_WORDS: usize = 1100;
 // Writes the head of the words: levels, root, free.
 fn put_head(words: &mut [u64], levels: usize, root: usize, free: usize)
     requires { 3 ≤ length words.old }
-    ensures { words.new ≡ putHead words.old levels root free }
+    ensures { words.new ≡ put_head_of words.old levels root free }
 {
     words[0] = levels as u64;
     words[1] = root as u64;
@@ -34,7 +34,7 @@ pub fn put_tree(words: &mut [u64], start: usize, levels: usize, root: usize, fre
 
 // The first word of the space that the root is not in.
 fn other_start(root: usize) -> usize
-    ensures { result ≡ otherStart root }
+    ensures { result ≡ other_start_of root }
 {
     if root < UPPER_START {
         UPPER_START

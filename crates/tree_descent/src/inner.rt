@@ -1,10 +1,10 @@
 // From a node to a leaf, for our own crates. Each caller proves what a function requires.
 ghost use Rattle.std.specs.Prelude.{◌≡◌, ◌+◌, ◌≤◌, length};
-ghost use Rattle.model.specs.Runs.{inRun};
-ghost use Rattle.tree_words.specs.TreeLayout.{runIn, highAt, lowAt};
+ghost use Rattle.model.specs.Runs.{in_run};
+ghost use Rattle.tree_words.specs.TreeLayout.{run_in_of, high_at_of, low_at_of};
 ghost use Rattle.tree_words.specs.Nodes.{Good};
-ghost use Rattle.tree_words.specs.Ways.{childFor};
-ghost use Rattle.tree_descent.specs.Descent.{Reaching, Readable, Starting, childReaching, VisitTrue};
+ghost use Rattle.tree_words.specs.Ways.{child_for};
+ghost use Rattle.tree_descent.specs.Descent.{Reaching, Readable, Starting, child_reaching, VisitTrue};
 
 use tree_words::inner::{first_child, second_child, third_child};
 
@@ -18,7 +18,7 @@ pub struct Visit {
 // The child below which a number lies, if it lies below the node.
 fn next_child(words: &[u64], at: usize, number: u64) -> usize
     requires { at + 8 ≤ length words.now }
-    ensures { result ≡ childFor words.now at number }
+    ensures { result ≡ child_for words.now at number }
 {
     if number < words[at + 3] {
         return first_child(words, at);
@@ -36,7 +36,7 @@ fn next_child(words: &[u64], at: usize, number: u64) -> usize
 // Whether a number lies in a leaf's run.
 fn in_leaf(words: &[u64], at: usize, number: u64) -> bool
     requires { at + 3 ≤ length words.now }
-    ensures { result ≡ inRun (runIn words.now at) number }
+    ensures { result ≡ in_run (run_in_of words.now at) number }
 {
     words[at] <= number && number <= words[at + 1]
 }
@@ -71,7 +71,7 @@ pub fn descend(
 // The child below which the first run that ends at `x` or above lies, if there is one below the node.
 fn reaching_child(words: &[u64], at: usize, x: u64) -> usize
     requires { Readable words.now at }
-    ensures { result ≡ childReaching words.now at x }
+    ensures { result ≡ child_reaching words.now at x }
 {
     let first = first_child(words, at);
     if x <= words[first + 1] {
@@ -97,7 +97,7 @@ pub fn first_reaching(
     at: usize,
     x: u64,
 ) -> usize
-    requires free_in_bounds { (free ≤ length words.now) × (x ≤ highAt words.now at) }
+    requires free_in_bounds { (free ≤ length words.now) × (x ≤ high_at_of words.now at) }
     requires good { Good words.now start free height at }
     ensures { Reaching words.now start free height at x result }
 {
@@ -117,7 +117,7 @@ pub fn last_starting(
     at: usize,
     x: u64,
 ) -> usize
-    requires free_in_bounds { (free ≤ length words.now) × (lowAt words.now at ≤ x) }
+    requires free_in_bounds { (free ≤ length words.now) × (low_at_of words.now at ≤ x) }
     requires good { Good words.now start free height at }
     ensures { Starting words.now start free height at x result }
 {

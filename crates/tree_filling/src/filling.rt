@@ -1,11 +1,11 @@
 // Trees filled once the netlist is read.
 ghost use Rattle.std.specs.Prelude.{◌≡◌, ◌/◌, ◌^◌, ◌≤◌, length};
 ghost use Rattle.model.specs.Base.{value};
-ghost use Rattle.model.specs.Store.{storeWords};
-ghost use Rattle.run_lists.specs.RunLists.{runsInWords};
-ghost use Rattle.tree_words.specs.TreeLayout.{treeWords};
+ghost use Rattle.model.specs.Store.{store_words_count};
+ghost use Rattle.run_lists.specs.RunLists.{runs_in_words};
+ghost use Rattle.tree_words.specs.TreeLayout.{tree_words_count};
 ghost use Rattle.tree_words.specs.Calls.{Holding};
-ghost use Rattle.tree_filling.specs.TreesOfStore.{FilledBy, fillOn, Fillable};
+ghost use Rattle.tree_filling.specs.TreesOfStore.{FilledBy, fill_on, Fillable};
 
 use crate::FillAnswer;
 use path_faults::Edge;
@@ -17,7 +17,7 @@ use tree_change::inner::insert_run;
 // Empties a tree and inserts the runs in some words, two for each, one after the other. They are known to be apart, so no step is checked again.
 fn fill(runs: &[u64], words: &mut [u64])
     requires { Fillable runs.now words.old }
-    ensures { Holding (value (runsInWords runs.now 0 (length runs.now / 2))) words.old words.new }
+    ensures { Holding (value (runs_in_words runs.now 0 (length runs.now / 2))) words.old words.new }
 {
     tree_empty(words);
     let count = runs.len() / 2;
@@ -35,8 +35,8 @@ pub(crate) fn fill_both(
     rising: &mut [u64],
     falling: &mut [u64],
 ) -> FillAnswer
-    requires { (length store.now ≡ storeWords) × (paths ≤ 2 ^ 62) × (treeWords ≤ length rising.old) × (treeWords ≤ length falling.old) }
-    ensures { FilledBy (fillOn paths store.now) result store.now rising.old rising.new
+    requires { (length store.now ≡ store_words_count) × (paths ≤ 2 ^ 62) × (tree_words_count ≤ length rising.old) × (tree_words_count ≤ length falling.old) }
+    ensures { FilledBy (fill_on paths store.now) result store.now rising.old rising.new
         falling.old falling.new }
 {
     let checked = check_words(store, paths);

@@ -1,7 +1,7 @@
 // Trees made of trees, for our own crates. Nodes are never changed once written: a new tree shares what it can with the trees that it is made of, and its other
 // nodes are written into free words. So whatever stood below `free` stands there afterwards. Each caller proves what a function requires.
 ghost use Rattle.std.specs.Prelude.{◌++◌, ◌+◌, ◌-◌, ◌*◌};
-ghost use Rattle.tree_words.specs.TreeLayout.{leavesAt};
+ghost use Rattle.tree_words.specs.TreeLayout.{leaves_at};
 ghost use Rattle.tree_words.specs.Nodes.{Sep};
 ghost use Rattle.tree_join.specs.Joining.{Beside, Room, Neighbours, AttachLast, AttachFirst, Pair, Both, Joins};
 ghost use Rattle.tree_join.specs.Joining.{Grouped, AttachedLast, AttachedFirst, JoinedRight, JoinedLeft, AttachedRoot};
@@ -124,7 +124,7 @@ fn join_right(
 ) -> Grown
     requires room { Room words.old start free (16 * (height - low)) }
     requires beside { Beside words.old start free height at low other }
-    requires sep { Sep (leavesAt words.old height at ++ leavesAt words.old low other) }
+    requires sep { Sep (leaves_at words.old height at ++ leaves_at words.old low other) }
     ensures { JoinedRight words.old words.new start free height at low other result }
 {
     if height == low {
@@ -152,7 +152,7 @@ fn join_left(
 ) -> Grown
     requires room { Room words.old start free (16 * (height - low)) }
     requires beside { Beside words.old start free height at low other }
-    requires sep { Sep (leavesAt words.old low other ++ leavesAt words.old height at) }
+    requires sep { Sep (leaves_at words.old low other ++ leaves_at words.old height at) }
     ensures { JoinedLeft words.old words.new start free height at low other result }
 {
     if height == low {

@@ -1,14 +1,14 @@
 -- The runs kept below and above a run that is stored are the runs of the numbers held without those of the run; and how many runs are kept.
 use Rattle.model.proofs.Prelude.{ℕ, ◌≤◌, ◌<◌, ◌+◌, ◌-◌, ◌^◌, ◌≡◌, ◌∙◌, ap, sym, subst, ap₂, ⊎_elim, inl, inr, ◌⊎◌, true, Bool, false, ◌&&◌, not, List}
 use Rattle.model.proofs.Prelude.{[], ◌∷◌, ◌++◌, length, length-append, leb, T, eqb, leb→le, eqb→eq, le→leb, arith, le-leb, lt-leb}
-use Rattle.model.specs.Runs.{Run, Separated, inRun, inRuns}
-use Rattle.model.proofs.BoolLaws.{le-or-lt, and_left, and_right, both, or_cases, T→true, true→T, false→not, not→false}
-use Rattle.model.proofs.RunLaws.{In, in→, →in, in-low, runs_by, separated-weaken}
-use Rattle.tree_words.specs.Calls.{Found, none, found, firstRun, stored, sameRun, runsWith, runsWithout, run_of}
+use Rattle.model.specs.Runs.{Run, Separated, in_run, in_runs}
+use Rattle.model.proofs.BoolLaws.{le_or_lt, and_left, and_right, both, or_cases, T→true, true→T, false→not, not→false}
+use Rattle.model.proofs.RunLaws.{In, in→, →in, in_low, runs_by, separated_weaken}
+use Rattle.tree_words.specs.Calls.{Found, none, found, first_run_of, stored, same_run, runs_with, runs_without, run_of}
 use Rattle.tree_words.specs.Nodes.{Sep}
-use Rattle.tree_words.specs.KeptRuns.{keepBelow, keepAbove}
+use Rattle.tree_words.specs.KeptRuns.{keep_below, keep_above}
 use Rattle.tree_descent.specs.Descent.{reaches}
-use Rattle.tree_lookup.specs.Lookup.{removed, joinLow, joinHigh}
+use Rattle.tree_lookup.specs.Lookup.{removed, join_low, join_high}
 use Rattle.tree_words.proofs.KeepLaws.{below_in, below_out, below-nil, above_in, above-out, above-nil}
 use Rattle.tree_descent.proofs.FoundLaws.{first-nil, first-in, first_out}
 use Rattle.tree_lookup.proofs.MergedEndLaws.{below_none}
@@ -18,13 +18,13 @@ stored-cases : (low high : ℕ) (r : Run) (rs : List Run) → T (stored (r ∷ r
 unfolding stored
 stored-cases low high r rs t =
     ⊎_elim
-    (λ (u : T (sameRun (run_of low high) r)). inl (
+    (λ (u : T (same_run (run_of low high) r)). inl (
       eqb→eq low r.low (and_left (eqb low r.low) (eqb high r.high) u),
       eqb→eq high r.high
           (and_right (eqb low r.low) (eqb high r.high) u),
     ))
     (λ (u : T (stored rs (run_of low high))). inr u)
-    (or_cases (sameRun (run_of low high) r) (stored rs (run_of low high)) t)
+    (or_cases (same_run (run_of low high) r) (stored rs (run_of low high)) t)
 
 stored-nil : (x : Run) → T (stored [] x) → ⊥
 unfolding stored
@@ -41,7 +41,7 @@ stored_low low high n least (r ∷ rs) s t =
     (λ u. let v = stored_low low high n (r.high + 2) rs s.3 u in (omega (arith, s.0, s.1, v.0), v.1, v.2))
     (stored-cases low high r rs t)
 
-pub above-whole : (high n least : ℕ) (rs : List Run) → Separated n least rs → high + 1 < least → keepAbove high rs ≡ rs
+pub above-whole : (high n least : ℕ) (rs : List Run) → Separated n least rs → high + 1 < least → keep_above high rs ≡ rs
 above-whole high n least [] s q = above-nil high
 above-whole high n least (r ∷ rs) s q = above_in high r rs (omega (arith, s.0)) ∙ ap (λ (l : List Run). r ∷ l) (above-whole high n (r.high + 2) rs s.3 (omega (arith, s.0, s.1)))
 
@@ -69,8 +69,8 @@ remove low high n least (r ∷ rs) some order s t =
   where
     gone : (low ≡ r.low) × (high ≡ r.high) → Removes n least low high (r ∷ rs) rs
     gone u = record {
-      sep = separated-weaken n (r.high + 2) least rs (omega (arith, s.0, s.1)) s.3;
-      out = λ j v. (inr v, inr (omega (arith, in-low n (r.high + 2) rs j s.3 v, u.1)));
+      sep = separated_weaken n (r.high + 2) least rs (omega (arith, s.0, s.1)) s.3;
+      out = λ j v. (inr v, inr (omega (arith, in_low n (r.high + 2) rs j s.3 v, u.1)));
       back = λ j v w. ⊎_elim (λ (x : (r.low ≤ j) × (j ≤ r.high)). absurd (⊎_elim (λ (y : j < low). omega (arith, x.0, u.0)) (λ (y : high < j). omega (arith, x.1, u.1)) w))
           (λ x. x) v;
     }
@@ -82,35 +82,35 @@ remove low high n least (r ∷ rs) some order s t =
       back = λ j v w. ⊎_elim (λ x. inl x) (λ x. inr (m.back j x w)) v;
     }
 
-pub removed-without : (low high : ℕ) (rs : List Run) → Sep rs → stored rs (record { low = low; high = high }) ≡ true → removed low high rs ≡ runsWithout rs
+pub removed-without : (low high : ℕ) (rs : List Run) → Sep rs → stored rs (record { low = low; high = high }) ≡ true → removed low high rs ≡ runs_without rs
     (record { low = low; high = high })
-unfolding runsWithout
+unfolding runs_without
 removed-without low high rs s e =
     let t = true→T (stored rs (run_of low high)) e in
     let b = stored_low low high (2 ^ 62) 1 rs s t in
     let m = remove low high (2 ^ 62) 1 rs b.0 b.1 s t in
-    runs_by (λ k. inRuns rs k && not (inRun (run_of low high) k)) (2 ^ 62) (removed low high rs) m.sep
-    (λ j u. let v = m.out j u in both (inRuns rs j) (not (inRun (run_of low high) j)) (→in rs j v.0) (false→not (inRun (run_of low high) j) (outside j v.1)))
-    (λ j p q u. m.back j (in→ rs j (and_left (inRuns rs j) (not (inRun (run_of low high) j)) u)) (apart j (and_right (inRuns rs j) (not (inRun (run_of low high) j)) u)))
+    runs_by (λ k. in_runs rs k && not (in_run (run_of low high) k)) (2 ^ 62) (removed low high rs) m.sep
+    (λ j u. let v = m.out j u in both (in_runs rs j) (not (in_run (run_of low high) j)) (→in rs j v.0) (false→not (in_run (run_of low high) j) (outside j v.1)))
+    (λ j p q u. m.back j (in→ rs j (and_left (in_runs rs j) (not (in_run (run_of low high) j)) u)) (apart j (and_right (in_runs rs j) (not (in_run (run_of low high) j)) u)))
   where
-    outside : (j : ℕ) → (j < low) ⊎ (high < j) → inRun (run_of low high) j ≡ false
+    outside : (j : ℕ) → (j < low) ⊎ (high < j) → in_run (run_of low high) j ≡ false
     outside j v =
-        not→false (inRun (run_of low high) j)
-        (λ (t : T (inRun (run_of low high) j)).
+        not→false (in_run (run_of low high) j)
+        (λ (t : T (in_run (run_of low high) j)).
         let x = leb→le low j (and_left (leb low j) (leb j high) t) in
         let y = leb→le j high (and_right (leb low j) (leb j high) t) in
         ⊎_elim (λ (z : j < low). omega arith) (λ (z : high < j). omega arith) v)
 
-    apart : (j : ℕ) → T (not (inRun (run_of low high) j)) → (j < low) ⊎ (high < j)
+    apart : (j : ℕ) → T (not (in_run (run_of low high) j)) → (j < low) ⊎ (high < j)
     apart j t =
         ⊎_elim
         (λ (p : low ≤ j).
         ⊎_elim
-        (λ (q : j ≤ high). absurd (subst (λ (b : Bool). T (not b)) (T→true (inRun (run_of low high) j) (both (leb low j) (leb j high) (le→leb low j p) (le→leb j high q))) t))
+        (λ (q : j ≤ high). absurd (subst (λ (b : Bool). T (not b)) (T→true (in_run (run_of low high) j) (both (leb low j) (leb j high) (le→leb low j p) (le→leb j high q))) t))
         (λ (q : high < j). inr q)
-        (le-or-lt j high))
+        (le_or_lt j high))
         (λ (p : j < low). inl p)
-        (le-or-lt low j)
+        (le_or_lt low j)
 
 pub removed-sep : (low high : ℕ) (rs : List Run) → Sep rs → stored rs (record { low = low; high = high }) ≡ true → Sep (removed low high rs)
 removed-sep low high rs s e =
@@ -121,7 +121,7 @@ removed-sep low high rs s e =
 -- ---- how many runs are kept
 
 -- no run is kept twice
-pub removed-few : (low high n least : ℕ) (rs : List Run) → low ≤ high → Separated n least rs → length (keepBelow low rs) + length (keepAbove high rs) ≤ length rs
+pub removed-few : (low high n least : ℕ) (rs : List Run) → low ≤ high → Separated n least rs → length (keep_below low rs) + length (keep_above high rs) ≤ length rs
 removed-few low high n least [] order s = let e1 = ap length (below-nil low) in let e2 = ap length (above-nil high) in omega (arith, e1, e2)
 removed-few low high n least (r ∷ rs) order s =
     let ih = removed-few low high n (r.high + 2) rs order s.3 in
@@ -131,12 +131,12 @@ removed-few low high n least (r ∷ rs) order s =
     ⊎_elim
     (λ (p : r.low ≤ high + 1). let e2 = ap length (above-out high r rs p) in omega (arith, e1, e2, ih))
     (λ (p : high + 1 < r.low). let e2 = ap length (above_in high r rs p) in omega (arith, e1, e2, ih))
-    (le-or-lt r.low (high + 1)))
+    (le_or_lt r.low (high + 1)))
     (λ (q : r.high + 1 < low).
     let e1 = ap length (below_in low r rs q) in
     let e2 = ap length (above-out high r rs (omega (arith, s.1))) in
     omega (arith, e1, e2, ih))
-    (le-or-lt low (r.high + 1))
+    (le_or_lt low (r.high + 1))
 
 -- the first run that reaches the neighbour below touches the run, or does not
 abbrev pub Touch : ℕ → Found → Type 0
@@ -147,17 +147,17 @@ abbrev pub Far : ℕ → Found → Type 0
 Far high none = Unit {0}
 Far high (found r) = high + 1 < r.low
 
-above-few : (high : ℕ) (rs : List Run) → length (keepAbove high rs) ≤ length rs
+above-few : (high : ℕ) (rs : List Run) → length (keep_above high rs) ≤ length rs
 above-few high [] = rw (above-nil high) (omega arith)
 above-few high (r ∷ rs) =
     ⊎_elim
     (λ (q : r.low ≤ high + 1). let e = ap length (above-out high r rs q) in omega (arith, e, above-few high rs))
     (λ (q : high + 1 < r.low). let e = ap length (above_in high r rs q) in omega (arith, e, above-few high rs))
-    (le-or-lt r.low (high + 1))
+    (le_or_lt r.low (high + 1))
 
 module _ (low high : ℕ) (some : 1 ≤ low) (order : low ≤ high) where
-  pub kept_less : (n least : ℕ) (rs : List Run) → Separated n least rs → Touch high (firstRun (reaches (low - 1)) rs)
-      → length (keepBelow low rs) + length (keepAbove high rs) + 1 ≤ length rs
+  pub kept_less : (n least : ℕ) (rs : List Run) → Separated n least rs → Touch high (first_run_of (reaches (low - 1)) rs)
+      → length (keep_below low rs) + length (keep_above high rs) + 1 ≤ length rs
   kept_less n least [] s t = absurd (subst (Touch high) (first-nil (reaches (low - 1))) t)
   kept_less n least (r ∷ rs) s t =
       ⊎_elim
@@ -171,10 +171,10 @@ module _ (low high : ℕ) (some : 1 ≤ low) (order : low ≤ high) where
       let e1 = ap length (below_in low r rs q) in
       let e2 = ap length (above-out high r rs (omega (arith, s.1))) in
       omega (arith, e1, e2, ih))
-      (le-or-lt low (r.high + 1))
+      (le_or_lt low (r.high + 1))
 
-  pub kept-all : (n least : ℕ) (rs : List Run) → Separated n least rs → Far high (firstRun (reaches (low - 1)) rs)
-      → length (keepBelow low rs) + length (keepAbove high rs) ≡ length rs
+  pub kept-all : (n least : ℕ) (rs : List Run) → Separated n least rs → Far high (first_run_of (reaches (low - 1)) rs)
+      → length (keep_below low rs) + length (keep_above high rs) ≡ length rs
   kept-all n least [] s t = let e1 = ap length (below-nil low) in let e2 = ap length (above-nil high) in omega (arith, e1, e2)
   kept-all n least (r ∷ rs) s t =
       ⊎_elim
@@ -188,17 +188,17 @@ module _ (low high : ℕ) (some : 1 ≤ low) (order : low ≤ high) where
       let e1 = ap length (below_in low r rs q) in
       let e2 = ap length (above-out high r rs (omega (arith, s.1))) in
       omega (arith, e1, e2, ih))
-      (le-or-lt low (r.high + 1))
+      (le_or_lt low (r.high + 1))
 
   module _ (rs : List Run) (s : Sep rs) (most : high ≤ 2 ^ 62) where
-    with-length : length (runsWith rs (record { low = low; high = high })) ≡ length (keepBelow low rs) + length (keepAbove high rs) + 1
+    with-length : length (runs_with rs (record { low = low; high = high })) ≡ length (keep_below low rs) + length (keep_above high rs) + 1
     with-length =
         let e = ap length (merged-with low high some order rs s most) in
-        let f = length-append (keepBelow low rs) (record { low = joinLow low rs; high = joinHigh high rs } ∷ keepAbove high rs) in
+        let f = length-append (keep_below low rs) (record { low = join_low low rs; high = join_high high rs } ∷ keep_above high rs) in
         omega (arith, e, f)
 
-    pub with-touch : Touch high (firstRun (reaches (low - 1)) rs) → length (runsWith rs (record { low = low; high = high })) ≤ length rs
+    pub with-touch : Touch high (first_run_of (reaches (low - 1)) rs) → length (runs_with rs (record { low = low; high = high })) ≤ length rs
     with-touch t = omega (arith, with-length, kept_less (2 ^ 62) 1 rs s t)
 
-    pub with-far : Far high (firstRun (reaches (low - 1)) rs) → length (runsWith rs (record { low = low; high = high })) ≡ length rs + 1
+    pub with-far : Far high (first_run_of (reaches (low - 1)) rs) → length (runs_with rs (record { low = low; high = high })) ≡ length rs + 1
     with-far t = omega (arith, with-length, kept-all (2 ^ 62) 1 rs s t)

@@ -2,8 +2,8 @@
 use Rattle.model.proofs.Prelude.{ℕ, ◌≤◌, ◌<◌, ◌+◌, ◌-◌, ◌≡◌, ◌∙◌, refl, sym, subst, ⊎_elim, ◌⊎◌, true, Bool, false, ◌&&◌, List, [], ◌∷◌, eqb, arith}
 use Rattle.model.proofs.Prelude.{le-leb, lt-leb, ne_eqb, eq-eqb}
 use Rattle.model.specs.Runs.{Run, Separated}
-use Rattle.model.proofs.BoolLaws.{le-or-lt}
-use Rattle.tree_words.specs.Calls.{Found, none, found, firstRun, overlaps, adjacent, stored, run_of}
+use Rattle.model.proofs.BoolLaws.{le_or_lt}
+use Rattle.tree_words.specs.Calls.{Found, none, found, first_run_of, overlaps, adjacent, stored, run_of}
 use Rattle.tree_descent.specs.Descent.{reaches}
 use Rattle.tree_descent.proofs.FoundLaws.{first-nil, first-in, first_out}
 
@@ -35,12 +35,12 @@ module _ (low high : ℕ) (order : low ≤ high) where
   over-high : (r : Run) → low ≤ r.high → high < r.low → overlaps (run_of low high) r ≡ false
   over-high r p q = let w = le-leb low r.high p in let v = lt-leb r.low high q in rw (w, v) refl
 
-  over_none : (n least : ℕ) (rs : List Run) → Separated n least rs → high < least → firstRun (overlaps (run_of low high)) rs ≡ none
+  over_none : (n least : ℕ) (rs : List Run) → Separated n least rs → high < least → first_run_of (overlaps (run_of low high)) rs ≡ none
   over_none n least [] s q = first-nil (overlaps (run_of low high))
   over_none n least (r ∷ rs) s q =
       first_out (overlaps (run_of low high)) r rs (over-high r (omega (arith, s.0, s.1)) (omega (arith, s.0))) ∙ over_none n (r.high + 2) rs s.3 (omega (arith, s.0, s.1))
 
-  pub over-found : (n least : ℕ) (rs : List Run) → Separated n least rs → Begun high (firstRun (reaches low) rs) → firstRun (overlaps (run_of low high)) rs ≡ firstRun (reaches low) rs
+  pub over-found : (n least : ℕ) (rs : List Run) → Separated n least rs → Begun high (first_run_of (reaches low) rs) → first_run_of (overlaps (run_of low high)) rs ≡ first_run_of (reaches low) rs
   over-found n least [] s t = absurd (subst (Begun high) (first-nil (reaches low)) t)
   over-found n least (r ∷ rs) s t =
       ⊎_elim
@@ -50,9 +50,9 @@ module _ (low high : ℕ) (order : low ≤ high) where
       (λ (q : r.high < low).
       let e = first_out (reaches low) r rs (lt-leb low r.high q) in
       first_out (overlaps (run_of low high)) r rs (over-low r q) ∙ over-found n (r.high + 2) rs s.3 (subst (Begun high) e t) ∙ sym e)
-      (le-or-lt low r.high)
+      (le_or_lt low r.high)
 
-  pub over-not : (n least : ℕ) (rs : List Run) → Separated n least rs → Behind high (firstRun (reaches low) rs) → firstRun (overlaps (run_of low high)) rs ≡ none
+  pub over-not : (n least : ℕ) (rs : List Run) → Separated n least rs → Behind high (first_run_of (reaches low) rs) → first_run_of (overlaps (run_of low high)) rs ≡ none
   over-not n least [] s t = first-nil (overlaps (run_of low high))
   over-not n least (r ∷ rs) s t =
       ⊎_elim
@@ -61,7 +61,7 @@ module _ (low high : ℕ) (order : low ≤ high) where
       over_none n r.low (r ∷ rs) (omega arith, s.1, s.2, s.3) b)
       (λ (q : r.high < low).
       first_out (overlaps (run_of low high)) r rs (over-low r q) ∙ over-not n (r.high + 2) rs s.3 (subst (Behind high) (first_out (reaches low) r rs (lt-leb low r.high q)) t))
-      (le-or-lt low r.high)
+      (le_or_lt low r.high)
 
   -- no overlap: what reaches `low` begins above `high`
   abbrev Some : Found → Type 0
@@ -71,12 +71,12 @@ module _ (low high : ℕ) (order : low ≤ high) where
   clash : (r : Run) → found r ≡ none → ⊥
   clash r p = subst Some p tt
 
-  no-over : (r : Run) (rs : List Run) → firstRun (overlaps (run_of low high)) (r ∷ rs) ≡ none → low ≤ r.high → high < r.low
+  no-over : (r : Run) (rs : List Run) → first_run_of (overlaps (run_of low high)) (r ∷ rs) ≡ none → low ≤ r.high → high < r.low
   no-over r rs e q =
       ⊎_elim
       (λ (u : r.low ≤ high). absurd (clash r (sym (first-in (overlaps (run_of low high)) r rs (over_yes r q u)) ∙ e)))
       (λ (u : high < r.low). u)
-      (le-or-lt r.low high)
+      (le_or_lt r.low high)
 
   module _ (some : 1 ≤ low) where
     next_low : (r : Run) → r.high + 1 ≡ low → adjacent (run_of low high) r ≡ true
@@ -88,13 +88,13 @@ module _ (low high : ℕ) (order : low ≤ high) where
     next-no : (r : Run) → (low ≡ r.high + 1 → ⊥) → (r.low ≡ high + 1 → ⊥) → adjacent (run_of low high) r ≡ false
     next-no r p q = let w = ne_eqb low (r.high + 1) p in let v = ne_eqb r.low (high + 1) q in rw (w, v) refl
 
-    next-none : (n least : ℕ) (rs : List Run) → Separated n least rs → high + 1 < least → firstRun (adjacent (run_of low high)) rs ≡ none
+    next-none : (n least : ℕ) (rs : List Run) → Separated n least rs → high + 1 < least → first_run_of (adjacent (run_of low high)) rs ≡ none
     next-none n least [] s q = first-nil (adjacent (run_of low high))
     next-none n least (r ∷ rs) s q =
         first_out (adjacent (run_of low high)) r rs (next-no r (λ e. omega (arith, s.0, s.1)) (λ e. omega (arith, s.0))) ∙ next-none n (r.high + 2) rs s.3 (omega (arith, s.0, s.1))
 
-    pub next-found : (n least : ℕ) (rs : List Run) → Separated n least rs → firstRun (overlaps (run_of low high)) rs ≡ none
-        → Next low high (firstRun (reaches (low - 1)) rs) → firstRun (adjacent (run_of low high)) rs ≡ firstRun (reaches (low - 1)) rs
+    pub next-found : (n least : ℕ) (rs : List Run) → Separated n least rs → first_run_of (overlaps (run_of low high)) rs ≡ none
+        → Next low high (first_run_of (reaches (low - 1)) rs) → first_run_of (adjacent (run_of low high)) rs ≡ first_run_of (reaches (low - 1)) rs
     next-found n least [] s o t = absurd (subst (Next low high) (first-nil (reaches (low - 1))) t)
     next-found n least (r ∷ rs) s o t =
         ⊎_elim
@@ -107,7 +107,7 @@ module _ (low high : ℕ) (order : low ≤ high) where
         let f = first_out (overlaps (run_of low high)) r rs (over-low r (omega arith)) in
         first_out (adjacent (run_of low high)) r rs (next-no r (λ x. omega arith) (λ x. omega (arith, s.1))) ∙ next-found n (r.high + 2) rs s.3 (sym f ∙ o) (subst (Next low high) e t)
         ∙ sym e)
-        (le-or-lt (low - 1) r.high)
+        (le_or_lt (low - 1) r.high)
       where
         here : low - 1 ≤ r.high → (r.high < low) ⊎ (r.low ≤ high + 1) → adjacent (run_of low high) r ≡ true
         here q u =
@@ -116,9 +116,9 @@ module _ (low high : ℕ) (order : low ≤ high) where
             let w = no-over r rs o v in
             next-high r (λ x. omega arith) (⊎_elim (λ (x : r.high < low). absurd (omega arith)) (λ (x : r.low ≤ high + 1). omega arith) u))
             (λ (v : r.high < low). next_low r (omega arith))
-            (le-or-lt low r.high)
+            (le_or_lt low r.high)
 
-    pub next-not : (n least : ℕ) (rs : List Run) → Separated n least rs → NotNext low high (firstRun (reaches (low - 1)) rs) → firstRun (adjacent (run_of low high)) rs ≡ none
+    pub next-not : (n least : ℕ) (rs : List Run) → Separated n least rs → NotNext low high (first_run_of (reaches (low - 1)) rs) → first_run_of (adjacent (run_of low high)) rs ≡ none
     next-not n least [] s t = first-nil (adjacent (run_of low high))
     next-not n least (r ∷ rs) s t =
         ⊎_elim
@@ -128,7 +128,7 @@ module _ (low high : ℕ) (order : low ≤ high) where
         (λ (q : r.high < low - 1).
         let e = first_out (reaches (low - 1)) r rs (lt-leb (low - 1) r.high q) in
         first_out (adjacent (run_of low high)) r rs (next-no r (λ x. omega arith) (λ x. omega (arith, s.1))) ∙ next-not n (r.high + 2) rs s.3 (subst (NotNext low high) e t))
-        (le-or-lt (low - 1) r.high)
+        (le_or_lt (low - 1) r.high)
 
 -- ---- whether a run is stored
 
@@ -162,7 +162,7 @@ module _ (low high : ℕ) where
   stored-none n least [] s q = refl
   stored-none n least (r ∷ rs) s q = stored-high r rs (λ e. omega (arith, s.0, s.1)) ∙ stored-none n (r.high + 2) rs s.3 (omega (arith, s.0, s.1))
 
-  pub stored-yes : (n least : ℕ) (rs : List Run) → Separated n least rs → Is (firstRun (reaches high) rs) → stored rs (run_of low high) ≡ true
+  pub stored-yes : (n least : ℕ) (rs : List Run) → Separated n least rs → Is (first_run_of (reaches high) rs) → stored rs (run_of low high) ≡ true
   stored-yes n least [] s t = absurd (subst Is (first-nil (reaches high)) t)
   stored-yes n least (r ∷ rs) s t =
       ⊎_elim
@@ -170,9 +170,9 @@ module _ (low high : ℕ) where
       let u : (r.low ≡ low) × (r.high ≡ high) = subst Is (first-in (reaches high) r rs (le-leb high r.high q)) t in
       stored-in r rs u.0 u.1)
       (λ (q : r.high < high). stored-high r rs (λ e. omega arith) ∙ stored-yes n (r.high + 2) rs s.3 (subst Is (first_out (reaches high) r rs (lt-leb high r.high q)) t))
-      (le-or-lt high r.high)
+      (le_or_lt high r.high)
 
-  pub stored_no : (n least : ℕ) (rs : List Run) → Separated n least rs → IsNot (firstRun (reaches high) rs) → stored rs (run_of low high) ≡ false
+  pub stored_no : (n least : ℕ) (rs : List Run) → Separated n least rs → IsNot (first_run_of (reaches high) rs) → stored rs (run_of low high) ≡ false
   unfolding stored
   stored_no n least [] s t = refl
   stored_no n least (r ∷ rs) s t =
@@ -181,4 +181,4 @@ module _ (low high : ℕ) where
       let u : (r.low ≡ low → ⊥) ⊎ (r.high ≡ high → ⊥) = subst IsNot (first-in (reaches high) r rs (le-leb high r.high q)) t in
       ⊎_elim (λ v. stored_low r rs v) (λ v. stored-high r rs v) u ∙ stored-none n (r.high + 2) rs s.3 (omega arith))
       (λ (q : r.high < high). stored-high r rs (λ e. omega arith) ∙ stored_no n (r.high + 2) rs s.3 (subst IsNot (first_out (reaches high) r rs (lt-leb high r.high q)) t))
-      (le-or-lt high r.high)
+      (le_or_lt high r.high)

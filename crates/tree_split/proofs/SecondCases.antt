@@ -1,13 +1,13 @@
 -- Cases of `in_second`: a test with another behind it.
 use Rattle.model.proofs.Prelude.{ℕ, ◌≡◌, refl, inl, inr, ◌⊎◌, true, Bool, false, ◌||◌, eqb, ne_eqb, eq-eqb}
 
-pub or-cases-true : (x y : Bool) → (x || y) ≡ true → (x ≡ true) ⊎ (y ≡ true)
-or-cases-true true y e = inl refl
-or-cases-true false y e = inr e
+pub or_cases-true : (x y : Bool) → (x || y) ≡ true → (x ≡ true) ⊎ (y ≡ true)
+or_cases-true true y e = inl refl
+or_cases-true false y e = inr e
 
-pub or-cases-false : (x y : Bool) → (x || y) ≡ false → (x ≡ false) × (y ≡ false)
-or-cases-false true y e = absurd (mathlib.Core.Bool.true≢false e)
-or-cases-false false y e = (refl, e)
+pub or_cases-false : (x y : Bool) → (x || y) ≡ false → (x ≡ false) × (y ≡ false)
+or_cases-false true y e = absurd (mathlib.Core.Bool.true≢false e)
+or_cases-false false y e = (refl, e)
 
 module _ (d x : ℕ) where
   pub second-yes : d ≡ 0 → (y : Bool) → true ≡ (eqb d 0 || y)

@@ -1,7 +1,7 @@
 -- What the functions that take a part of a tree ask and promise.
 use Rattle.std.specs.Prelude.{◌≡◌, List, ℕ, ◌+◌, ◌*◌, ◌≤◌}
 use Rattle.model.specs.Runs.{Run}
-use Rattle.tree_words.specs.TreeLayout.{leavesOf}
+use Rattle.tree_words.specs.TreeLayout.{leaves_of}
 use Rattle.tree_join.specs.declared.inner.Part.{Part}
 use Rattle.tree_words.specs.Nodes.{Good, Whole, Kept}
 use Rattle.tree_join.specs.Joining.{Room}
@@ -9,7 +9,7 @@ use Rattle.tree_join.specs.Joining.{Room}
 -- a part of a tree: the leaves `rs` of those below a node of height `h`
 pub record Splits (ws ws' : List ℕ) (start free h : ℕ) (rs : List Run) (p : Part) : Type 0 where
   pub whole : Whole ws' start p.free p.levels p.root
-  pub leaves : leavesOf ws' p.levels p.root ≡ rs
+  pub leaves : leaves_of ws' p.levels p.root ≡ rs
   pub kept : Kept ws ws' free p.free
   pub spent : p.free ≤ free + (16 * (h + 1) + 16 * p.levels)
   pub at_most : p.levels ≤ h + 1

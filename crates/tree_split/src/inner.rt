@@ -1,24 +1,24 @@
 // Parts of a tree as trees, for our own crates. Each caller proves what a function requires.
 ghost use Rattle.std.specs.Prelude.{◌≡◌, ◌+◌, ◌-◌, ◌≤◌, ◌^◌, eqb, leb, length, ◌||◌};
-ghost use Rattle.tree_words.specs.TreeLayout.{leavesAt, highAt, lowAt};
+ghost use Rattle.tree_words.specs.TreeLayout.{leaves_at, high_at_of, low_at_of};
 ghost use Rattle.tree_split.specs.Splitting.{Splits, SplitInput};
-ghost use Rattle.tree_words.specs.KeptRuns.{keepBelow, keepAbove};
+ghost use Rattle.tree_words.specs.KeptRuns.{keep_below, keep_above};
 
 use tree_join::inner::{Part, join};
 use tree_words::inner::{NODE_WORDS, first_child, last_child, put_two, second_child, third_child};
 
 // Whether a run that begins at `low` reaches below a node's last number, or next to it.
 fn reached(words: &[u64], at: usize, low: u64) -> bool
-    requires { (at + 3 ≤ length words.now) × (highAt words.now at ≤ 2 ^ 62) }
-    ensures { result ≡ leb low (highAt words.now at + 1) }
+    requires { (at + 3 ≤ length words.now) × (high_at_of words.now at ≤ 2 ^ 62) }
+    ensures { result ≡ leb low (high_at_of words.now at + 1) }
 {
     low <= words[at + 1] + 1
 }
 
 // Whether the second child is the last that the runs below `low` reach.
 fn in_second(words: &[u64], second: usize, third: usize, low: u64) -> bool
-    requires { (second + 3 ≤ length words.now) × (highAt words.now second ≤ 2 ^ 62) }
-    ensures { result ≡ (eqb third 0 || leb low (highAt words.now second + 1)) }
+    requires { (second + 3 ≤ length words.now) × (high_at_of words.now second ≤ 2 ^ 62) }
+    ensures { result ≡ (eqb third 0 || leb low (high_at_of words.now second + 1)) }
 {
     if third == 0 {
         return true;
@@ -36,7 +36,7 @@ pub fn below(
     low: u64,
 ) -> Part
     requires { SplitInput words.old start free height at }
-    ensures { Splits words.old words.new start free height (keepBelow low (leavesAt words.old height at)) result }
+    ensures { Splits words.old words.new start free height (keep_below low (leaves_at words.old height at)) result }
 {
     if height == 0 {
         if reached(words, at, low) {
@@ -70,7 +70,7 @@ pub fn below(
 // Whether a node begins next to the number `high` or below.
 fn begun(words: &[u64], at: usize, high: u64) -> bool
     requires { (at + 3 ≤ length words.now) × (high ≤ 2 ^ 62) }
-    ensures { result ≡ leb (lowAt words.now at) (high + 1) }
+    ensures { result ≡ leb (low_at_of words.now at) (high + 1) }
 {
     words[at] <= high + 1
 }
@@ -85,7 +85,7 @@ pub fn above(
     high: u64,
 ) -> Part
     requires { SplitInput words.old start free height at × (high ≤ 2 ^ 62) }
-    ensures { Splits words.old words.new start free height (keepAbove high (leavesAt words.old height at)) result }
+    ensures { Splits words.old words.new start free height (keep_above high (leaves_at words.old height at)) result }
 {
     if height == 0 {
         if begun(words, at, high) {

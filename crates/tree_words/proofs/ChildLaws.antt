@@ -2,9 +2,9 @@
 use Rattle.model.proofs.Prelude.{ℕ, ◌≤◌, ◌<◌, ◌+◌, ◌-◌, ◌*◌, suc, ◌^◌, zero, ◌≡◌, ◌∙◌, ap, refl, sym, subst, ⊎_elim, List, [], ◌++◌, length}
 use Rattle.model.proofs.Prelude.{length-append, pow-suc, arith, ne_eqb, eq-eqb}
 use native.Mathlib.Nat.{pow-zero}
-use Rattle.model.proofs.BoolLaws.{le-or-lt}
-use Rattle.tree_words.specs.TreeLayout.{child1, child2, child3, leavesAt, leavesOf}
-use Rattle.tree_words.specs.Nodes.{Good, good-leaf, good-two, good-three, Whole, lastChild}
+use Rattle.model.proofs.BoolLaws.{le_or_lt}
+use Rattle.tree_words.specs.TreeLayout.{child1, child2, child3, leaves_at, leaves_of}
+use Rattle.tree_words.specs.Nodes.{Good, good-leaf, good-two, good-three, Whole, last_child_of}
 use Rattle.tree_words.proofs.NodeLaws.{leaves-two, leaves-three, leaves-leaf}
 
 -- ---- children of a sound inner node
@@ -23,28 +23,28 @@ module _ {ws : List ℕ} {start free h a : ℕ} where
   good-2 (good-three t b c d) = c
 
   pub good-3 : Good ws start free (suc h) a → (child3 ws a ≡ 0 → ⊥) → Good ws start free h (child3 ws a)
-  good-3 (good-two t b c) some = absurd (some t.noThird)
+  good-3 (good-two t b c) some = absurd (some t.no_third)
   good-3 (good-three t b c d) some = d
 
 module _ (ws : List ℕ) (h a : ℕ) where
-  pub last-two : child3 ws a ≡ 0 → lastChild ws a ≡ child2 ws a
-  unfolding lastChild
-  last-two e = rw (eq-eqb (child3 ws a) 0 e, lastChild) refl
+  pub last-two : child3 ws a ≡ 0 → last_child_of ws a ≡ child2 ws a
+  unfolding last_child_of
+  last-two e = rw (eq-eqb (child3 ws a) 0 e, last_child_of) refl
 
-  pub last-three : (child3 ws a ≡ 0 → ⊥) → lastChild ws a ≡ child3 ws a
-  unfolding lastChild
-  last-three e = rw (ne_eqb (child3 ws a) 0 e, lastChild) refl
+  pub last-three : (child3 ws a ≡ 0 → ⊥) → last_child_of ws a ≡ child3 ws a
+  unfolding last_child_of
+  last-three e = rw (ne_eqb (child3 ws a) 0 e, last_child_of) refl
 
-  pub last-is-second : (x y : ℕ) → x ≡ child3 ws a → x ≡ 0 → y ≡ child2 ws a → y ≡ lastChild ws a
+  pub last-is-second : (x y : ℕ) → x ≡ child3 ws a → x ≡ 0 → y ≡ child2 ws a → y ≡ last_child_of ws a
   last-is-second x y e z f = f ∙ sym (last-two (sym e ∙ z))
 
-  pub last-is-third : (x : ℕ) → x ≡ child3 ws a → (x ≡ 0 → ⊥) → x ≡ lastChild ws a
+  pub last-is-third : (x : ℕ) → x ≡ child3 ws a → (x ≡ 0 → ⊥) → x ≡ last_child_of ws a
   last-is-third x e z = e ∙ sym (last-three (λ q. z (e ∙ q)))
 
 module _ {ws : List ℕ} {start free h a : ℕ} where
-  pub good-last : Good ws start free (suc h) a → Good ws start free h (lastChild ws a)
-  good-last (good-two t b c) = rw (last-two ws h a t.noThird) c
-  good-last (good-three t b c d) = rw (last-three ws h a t.someThird) d
+  pub good-last : Good ws start free (suc h) a → Good ws start free h (last_child_of ws a)
+  good-last (good-two t b c) = rw (last-two ws h a t.no_third) c
+  good-last (good-three t b c d) = rw (last-three ws h a t.some_third) d
 
 abbrev three : ℕ → ℕ
 three zero = 1
@@ -55,47 +55,47 @@ three_up zero h n e = let f : n ≡ h = omega arith in rw f (omega arith)
 three_up (suc k) h n e = let ih : 3 * three h ≤ three n = three_up k (suc h) n (omega arith) in omega (arith, ih)
 
 module _ {ws : List ℕ} {start free : ℕ} where
-  few : {h a : ℕ} → Good ws start free h a → length (leavesAt ws h a) ≤ three h
+  few : {h a : ℕ} → Good ws start free h a → length (leaves_at ws h a) ≤ three h
   few {a = a} (good-leaf t) = rw (leaves-leaf ws a) (omega arith)
   few {h = suc h} {a = a} (good-two t b c) =
-      rw (leaves-two ws h a t.noThird, length-append (leavesAt ws h (child1 ws a)) (leavesAt ws h (child2 ws a))) (omega (arith, few b, few c))
+      rw (leaves-two ws h a t.no_third, length-append (leaves_at ws h (child1 ws a)) (leaves_at ws h (child2 ws a))) (omega (arith, few b, few c))
   few {h = suc h} {a = a} (good-three t b c d) =
       rw (
-        leaves-three ws h a t.someThird,
-        length-append (leavesAt ws h (child1 ws a)) (leavesAt ws h (child2 ws a) ++ leavesAt ws h (child3 ws a)),
-        length-append (leavesAt ws h (child2 ws a))
-            (leavesAt ws h (child3 ws a)),
+        leaves-three ws h a t.some_third,
+        length-append (leaves_at ws h (child1 ws a)) (leaves_at ws h (child2 ws a) ++ leaves_at ws h (child3 ws a)),
+        length-append (leaves_at ws h (child2 ws a))
+            (leaves_at ws h (child3 ws a)),
       )
       (omega (arith, few b, few c, few d))
 
   -- a tree with as many levels has at least this many leaves
-  pub many : {h a : ℕ} → Good ws start free h a → 2 ^ h ≤ length (leavesAt ws h a)
+  pub many : {h a : ℕ} → Good ws start free h a → 2 ^ h ≤ length (leaves_at ws h a)
   many {a = a} (good-leaf t) = rw (leaves-leaf ws a) (omega (arith, pow-zero 2))
   many {h = suc h} {a = a} (good-two t b c) =
-      rw (leaves-two ws h a t.noThird, length-append (leavesAt ws h (child1 ws a)) (leavesAt ws h (child2 ws a))) (omega (arith, pow-suc 2 h, many b, many c))
+      rw (leaves-two ws h a t.no_third, length-append (leaves_at ws h (child1 ws a)) (leaves_at ws h (child2 ws a))) (omega (arith, pow-suc 2 h, many b, many c))
   many {h = suc h} {a = a} (good-three t b c d) =
       rw (
-        leaves-three ws h a t.someThird,
-        length-append (leavesAt ws h (child1 ws a)) (leavesAt ws h (child2 ws a) ++ leavesAt ws h (child3 ws a)),
-        length-append (leavesAt ws h (child2 ws a))
-            (leavesAt ws h (child3 ws a)),
+        leaves-three ws h a t.some_third,
+        length-append (leaves_at ws h (child1 ws a)) (leaves_at ws h (child2 ws a) ++ leaves_at ws h (child3 ws a)),
+        length-append (leaves_at ws h (child2 ws a))
+            (leaves_at ws h (child3 ws a)),
       )
       (omega (arith, pow-suc 2 h, many b, many c, many d))
 
-  pub few-ten : {h a : ℕ} → h ≤ 10 → Good ws start free h a → length (leavesAt ws h a) ≤ 59049
+  pub few-ten : {h a : ℕ} → h ≤ 10 → Good ws start free h a → length (leaves_at ws h a) ≤ 59049
   few-ten {h} {a} q g = omega (arith, few g, three_up (10 - h) h 10 (omega arith))
 
-pub level-up : (h : ℕ) → (h ≡ 0 → ⊥) → h ≡ suc (h - 1)
-level-up h ne = ⊎_elim (λ (q : h ≤ 0). absurd (ne (omega arith))) (λ (q : 0 < h). omega arith) (le-or-lt h 0)
+pub level_up : (h : ℕ) → (h ≡ 0 → ⊥) → h ≡ suc (h - 1)
+level_up h ne = ⊎_elim (λ (q : h ≤ 0). absurd (ne (omega arith))) (λ (q : 0 < h). omega arith) (le_or_lt h 0)
 
 pub some-height : (h : ℕ) → (h ≡ 0 → ⊥) → 1 ≤ h
-some-height h ne = omega (arith, level-up h ne)
+some-height h ne = omega (arith, level_up h ne)
 
-pub height-less : (h : ℕ) → (h ≡ 0 → ⊥) → (t : ℕ) → h ≡ t → h - 1 < t
-height-less h ne t e = omega (arith, level-up h ne)
+pub height_less : (h : ℕ) → (h ≡ 0 → ⊥) → (t : ℕ) → h ≡ t → h - 1 < t
+height_less h ne t e = omega (arith, level_up h ne)
 
 pub good-up : {ws : List ℕ} {start free a : ℕ} (h : ℕ) → (h ≡ 0 → ⊥) → Good ws start free h a → Good ws start free (suc (h - 1)) a
-good-up {ws} {start} {free} {a} h ne g = subst (λ (x : ℕ). Good ws start free x a) (level-up h ne) g
+good-up {ws} {start} {free} {a} h ne g = subst (λ (x : ℕ). Good ws start free x a) (level_up h ne) g
 
 pub node-ends : (ws : List ℕ) (start free h a : ℕ) → Good ws start free h a → (h ≡ 0 → ⊥) → (n : ℕ) → free ≤ n → a + 8 ≤ n
 node-ends ws start free h a g ne n q = omega (arith, good-end8 (good-up h ne g))
@@ -110,11 +110,11 @@ module _ (ws : List ℕ) (start free : ℕ) where
   pub good-whole : (l h a : ℕ) → l ≡ suc h → Good ws start free h a → Whole ws start free l a
   good-whole l h a e g = subst (λ (x : ℕ). Whole ws start free x a) (sym e) g
 
-pub of_some : (ws : List ℕ) (l a : ℕ) → (l ≡ 0 → ⊥) → leavesOf ws l a ≡ leavesAt ws (l - 1) a
-of_some ws l a ne = ap (λ (x : ℕ). leavesOf ws x a) (level-up l ne)
+pub of_some : (ws : List ℕ) (l a : ℕ) → (l ≡ 0 → ⊥) → leaves_of ws l a ≡ leaves_at ws (l - 1) a
+of_some ws l a ne = ap (λ (x : ℕ). leaves_of ws x a) (level_up l ne)
 
-pub of-suc : (ws : List ℕ) (l h a : ℕ) → l ≡ suc h → leavesOf ws l a ≡ leavesAt ws h a
-of-suc ws l h a e = ap (λ (x : ℕ). leavesOf ws x a) e
+pub of_suc : (ws : List ℕ) (l h a : ℕ) → l ≡ suc h → leaves_of ws l a ≡ leaves_at ws h a
+of_suc ws l h a e = ap (λ (x : ℕ). leaves_of ws x a) e
 
-pub of_none : (ws : List ℕ) (l a : ℕ) → l ≡ 0 → leavesOf ws l a ≡ []
-of_none ws l a e = ap (λ (x : ℕ). leavesOf ws x a) e
+pub of_none : (ws : List ℕ) (l a : ℕ) → l ≡ 0 → leaves_of ws l a ≡ []
+of_none ws l a e = ap (λ (x : ℕ). leaves_of ws x a) e

@@ -2,30 +2,30 @@
 use Rattle.model.proofs.Prelude.{ℕ, ◌≤◌, ◌<◌, ◌+◌, suc, ◌^◌, ◌≡◌, ◌∙◌, ap, refl, sym, ap₂, List, [], ◌∷◌, ◌++◌, get_or, arith, ne_eqb, eq-eqb}
 use Rattle.model.specs.Runs.{Run}
 use Rattle.tree_words.specs.TreeShape.{two, three, leaves}
-use Rattle.tree_words.specs.TreeLayout.{lowAt, highAt, totalAt, secondAt, thirdAt, child1, child2, child3, runIn, marksIn, treeAt, leavesAt}
+use Rattle.tree_words.specs.TreeLayout.{low_at_of, high_at_of, total_at_of, second_at_of, third_at, child1, child2, child3, run_in_of, marks_in, tree_at, leaves_at}
 use Rattle.tree_words.specs.Nodes.{TwoTrue, ThreeTrue, Good, good-leaf, good-two, good-three, Kept}
 
 -- ---- the leaves below a node
 
 module _ (ws : List ℕ) (h a : ℕ) where
-  pub tree-two : child3 ws a ≡ 0 → treeAt ws (suc h) a ≡ two (marksIn ws a) (treeAt ws h (child1 ws a)) (treeAt ws h (child2 ws a))
-  unfolding treeAt
-  tree-two e = rw (eq-eqb (child3 ws a) 0 e, treeAt)
+  pub tree-two : child3 ws a ≡ 0 → tree_at ws (suc h) a ≡ two (marks_in ws a) (tree_at ws h (child1 ws a)) (tree_at ws h (child2 ws a))
+  unfolding tree_at
+  tree-two e = rw (eq-eqb (child3 ws a) 0 e, tree_at)
 
   pub tree-three : (child3 ws a ≡ 0 → ⊥)
-      → treeAt ws (suc h) a ≡ three (marksIn ws a) (treeAt ws h (child1 ws a)) (treeAt ws h (child2 ws a)) (treeAt ws h (child3 ws a))
-  unfolding treeAt
-  tree-three e = rw (ne_eqb (child3 ws a) 0 e, treeAt)
+      → tree_at ws (suc h) a ≡ three (marks_in ws a) (tree_at ws h (child1 ws a)) (tree_at ws h (child2 ws a)) (tree_at ws h (child3 ws a))
+  unfolding tree_at
+  tree-three e = rw (ne_eqb (child3 ws a) 0 e, tree_at)
 
-  pub leaves-two : child3 ws a ≡ 0 → leavesAt ws (suc h) a ≡ leavesAt ws h (child1 ws a) ++ leavesAt ws h (child2 ws a)
+  pub leaves-two : child3 ws a ≡ 0 → leaves_at ws (suc h) a ≡ leaves_at ws h (child1 ws a) ++ leaves_at ws h (child2 ws a)
   leaves-two e = ap leaves (tree-two e)
 
   pub leaves-three : (child3 ws a ≡ 0 → ⊥)
-      → leavesAt ws (suc h) a ≡ leavesAt ws h (child1 ws a) ++ (leavesAt ws h (child2 ws a) ++ leavesAt ws h (child3 ws a))
+      → leaves_at ws (suc h) a ≡ leaves_at ws h (child1 ws a) ++ (leaves_at ws h (child2 ws a) ++ leaves_at ws h (child3 ws a))
   leaves-three e = ap leaves (tree-three e)
 
-pub leaves-leaf : (ws : List ℕ) (a : ℕ) → leavesAt ws 0 a ≡ runIn ws a ∷ []
-unfolding treeAt
+pub leaves-leaf : (ws : List ℕ) (a : ℕ) → leaves_at ws 0 a ≡ run_in_of ws a ∷ []
+unfolding tree_at
 leaves-leaf ws a = refl
 
 -- ---- bounds
@@ -33,9 +33,9 @@ leaves-leaf ws a = refl
 pub record Bounds (ws : List ℕ) (start free a : ℕ) : Type 0 where
   pub begun : start ≤ a
   pub ended : a + 3 ≤ free
-  pub least : 1 ≤ lowAt ws a
-  pub order : lowAt ws a ≤ highAt ws a
-  pub most : highAt ws a ≤ 2 ^ 62
+  pub least : 1 ≤ low_at_of ws a
+  pub order : low_at_of ws a ≤ high_at_of ws a
+  pub most : high_at_of ws a ≤ 2 ^ 62
 
 pub good-bounds : {ws : List ℕ} {start free h a : ℕ} → Good ws start free h a → Bounds ws start free a
 good-bounds (good-leaf t) = record { begun = t.begun; ended = t.ended; least = t.least; order = t.order; most = t.most }
@@ -68,7 +68,7 @@ good-wider free' q (good-leaf t) =
     good-leaf (record { begun = t.begun; ended = omega (arith, t.ended); least = t.least; order = t.order; most = t.most; counted = t.counted })
 good-wider free' q (good-two t b c) =
     good-two
-    (record { begun = t.begun; ended = omega (arith, t.ended); noThird = t.noThird; low = t.low; high = t.high; second = t.second; third = t.third; apart = t.apart; counted = t.counted })
+    (record { begun = t.begun; ended = omega (arith, t.ended); no_third = t.no_third; low = t.low; high = t.high; second = t.second; third = t.third; apart = t.apart; counted = t.counted })
     (good-wider free' q b)
     (good-wider free' q c)
 good-wider free' q (good-three t b c d) =
@@ -76,7 +76,7 @@ good-wider free' q (good-three t b c d) =
     (record {
       begun = t.begun;
       ended = omega (arith, t.ended);
-      someThird = t.someThird;
+      some_third = t.some_third;
       low = t.low;
       high = t.high;
       second = t.second;
@@ -92,12 +92,12 @@ good-wider free' q (good-three t b c d) =
 -- ---- the same words
 
 module _ (ws ws' : List ℕ) (start free : ℕ) (same : (i : ℕ) → start ≤ i → i < free → get_or ws' i 0 ≡ get_or ws i 0) where
-  three-words : (a : ℕ) → Bounds ws start free a → (lowAt ws' a ≡ lowAt ws a) × (highAt ws' a ≡ highAt ws a) × (totalAt ws' a ≡ totalAt ws a)
+  three-words : (a : ℕ) → Bounds ws start free a → (low_at_of ws' a ≡ low_at_of ws a) × (high_at_of ws' a ≡ high_at_of ws a) × (total_at_of ws' a ≡ total_at_of ws a)
   three-words a b =
       (same a b.begun (omega (arith, b.ended)), same (a + 1) (omega (arith, b.begun)) (omega (arith, b.ended)), same (a + 2) (omega (arith, b.begun)) (omega (arith, b.ended)))
 
   five-words : (a : ℕ) → start ≤ a → a + 8 ≤ free
-      → (secondAt ws' a ≡ secondAt ws a) × (thirdAt ws' a ≡ thirdAt ws a) × (child1 ws' a ≡ child1 ws a) × (child2 ws' a ≡ child2 ws a) × (child3 ws' a ≡ child3 ws a)
+      → (second_at_of ws' a ≡ second_at_of ws a) × (third_at ws' a ≡ third_at ws a) × (child1 ws' a ≡ child1 ws a) × (child2 ws' a ≡ child2 ws a) × (child3 ws' a ≡ child3 ws a)
   five-words a p q = (
     same (a + 3) (omega arith) (omega arith),
     same (a + 4) (omega arith) (omega arith),
@@ -117,7 +117,7 @@ module _ (ws ws' : List ℕ) (start free : ℕ) (same : (i : ℕ) → start ≤ 
       record {
         begun = t.begun;
         ended = t.ended;
-        noThird = w.4 ∙ t.noThird;
+        no_third = w.4 ∙ t.no_third;
         low = p.0 ∙ t.low ∙ sym q.0;
         high = p.1 ∙ t.high ∙ sym r.1;
         second = w.0 ∙ t.second ∙ sym r.0;
@@ -137,7 +137,7 @@ module _ (ws ws' : List ℕ) (start free : ℕ) (same : (i : ℕ) → start ≤ 
       record {
         begun = t.begun;
         ended = t.ended;
-        someThird = λ z. t.someThird (sym w.4 ∙ z);
+        some_third = λ z. t.some_third (sym w.4 ∙ z);
         low = p.0 ∙ t.low ∙ sym q.0;
         high = p.1 ∙ t.high ∙ sym u.1;
         second = w.0 ∙ t.second ∙ sym r.0;
@@ -173,26 +173,26 @@ module _ (ws ws' : List ℕ) (start free : ℕ) (same : (i : ℕ) → start ≤ 
       (rw w.3 (good-same c))
       (rw w.4 (good-same d))
 
-  pub leaves-same : {h a : ℕ} → Good ws start free h a → leavesAt ws' h a ≡ leavesAt ws h a
+  pub leaves-same : {h a : ℕ} → Good ws start free h a → leaves_at ws' h a ≡ leaves_at ws h a
   leaves-same {a = a} (good-leaf t) =
       let p = three-words a (good-bounds (good-leaf t)) in
       leaves-leaf ws' a ∙ (λ i. record { low = p.0 i; high = p.1 i } ∷ []) ∙ sym (leaves-leaf ws a)
   leaves-same {h = suc h} {a = a} (good-two t b c) =
       let w = five-words a t.begun t.ended in
-      leaves-two ws' h a (w.4 ∙ t.noThird)
+      leaves-two ws' h a (w.4 ∙ t.no_third)
       ∙ rw (w.2, w.3) (ap₂ (λ (x y : List Run). x ++ y) (leaves-same b) (leaves-same c))
-      ∙ sym (leaves-two ws h a t.noThird)
+      ∙ sym (leaves-two ws h a t.no_third)
   leaves-same {h = suc h} {a = a} (good-three t b c d) =
       let w = five-words a t.begun t.ended in
-      leaves-three ws' h a (λ z. t.someThird (sym w.4 ∙ z))
+      leaves-three ws' h a (λ z. t.some_third (sym w.4 ∙ z))
       ∙ rw (w.2, w.3, w.4) (ap₂ (λ (x y : List Run). x ++ y) (leaves-same b) (ap₂ (λ (x y : List Run). x ++ y) (leaves-same c) (leaves-same d)))
-      ∙ sym (leaves-three ws h a t.someThird)
+      ∙ sym (leaves-three ws h a t.some_third)
 
 module _ (ws ws' : List ℕ) (start free to : ℕ) (k : Kept ws ws' free to) where
   pub good-kept : {h a : ℕ} → Good ws start free h a → Good ws' start to h a
   good-kept g = good-wider to k.grown (good-same ws ws' start free (λ i p q. k.before i q) g)
 
-  pub leaves_kept : {h a : ℕ} → Good ws start free h a → leavesAt ws' h a ≡ leavesAt ws h a
+  pub leaves_kept : {h a : ℕ} → Good ws start free h a → leaves_at ws' h a ≡ leaves_at ws h a
   leaves_kept g = leaves-same ws ws' start free (λ i p q. k.before i q) g
 
 pub kept-kept : (ws ws' ws'' : List ℕ) (a b c : ℕ) → Kept ws ws' a b → Kept ws' ws'' b c → Kept ws ws'' a c

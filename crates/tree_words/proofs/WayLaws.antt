@@ -1,35 +1,35 @@
 -- The way to a leaf has a node of each level, and ends with the leaf.
 use Rattle.model.proofs.Prelude.{ℕ, suc, zero, ◌≡◌, ap, refl, List, length, get_or}
-use Rattle.tree_words.specs.TreeLayout.{levelsIn, rootIn}
-use Rattle.tree_words.specs.Ways.{childFor, wayFrom, way_of, wayTo}
+use Rattle.tree_words.specs.TreeLayout.{levels_in, root_in}
+use Rattle.tree_words.specs.Ways.{child_for, way_from, way_of, way_to}
 
-pub way_long : (ws : List ℕ) (h a k : ℕ) → length (wayFrom ws h a k) ≡ suc h
-unfolding wayFrom
+pub way_long : (ws : List ℕ) (h a k : ℕ) → length (way_from ws h a k) ≡ suc h
+unfolding way_from
 way_long ws zero a k = refl
-way_long ws (suc h) a k = ap suc (way_long ws h (childFor ws a k) k)
+way_long ws (suc h) a k = ap suc (way_long ws h (child_for ws a k) k)
 
-pub way-levels : (ws : List ℕ) (k : ℕ) → length (wayTo ws k) ≡ levelsIn ws
-unfolding wayTo
-way-levels ws k = go (levelsIn ws)
+pub way-levels : (ws : List ℕ) (k : ℕ) → length (way_to ws k) ≡ levels_in ws
+unfolding way_to
+way-levels ws k = go (levels_in ws)
   where
-    go : (n : ℕ) → length (way_of ws n (rootIn ws) k) ≡ n
+    go : (n : ℕ) → length (way_of ws n (root_in ws) k) ≡ n
     go zero = refl
-    go (suc h) = way_long ws h (rootIn ws) k
+    go (suc h) = way_long ws h (root_in ws) k
 
 -- ---- the leaf at its end
 
-abbrev pub leafFor : List ℕ → ℕ → ℕ → ℕ → ℕ
-leafFor ws h a k = get_or (wayFrom ws h a k) h 0
+abbrev pub leaf_for : List ℕ → ℕ → ℕ → ℕ → ℕ
+leaf_for ws h a k = get_or (way_from ws h a k) h 0
 
 module _ (ws : List ℕ) (a k : ℕ) where
-  pub leaf-here : leafFor ws 0 a k ≡ a
-  unfolding wayFrom
+  pub leaf-here : leaf_for ws 0 a k ≡ a
+  unfolding way_from
   leaf-here = refl
 
-  pub leaf-step : (h : ℕ) → leafFor ws (suc h) a k ≡ leafFor ws h (childFor ws a k) k
-  unfolding wayFrom
+  pub leaf-step : (h : ℕ) → leaf_for ws (suc h) a k ≡ leaf_for ws h (child_for ws a k) k
+  unfolding way_from
   leaf-step h = refl
 
-pub leaf-root : (ws : List ℕ) (k h : ℕ) → levelsIn ws ≡ suc h → get_or (wayTo ws k) h 0 ≡ leafFor ws h (rootIn ws) k
-unfolding wayTo
-leaf-root ws k h e = ap (λ (n : ℕ). get_or (way_of ws n (rootIn ws) k) h 0) e
+pub leaf-root : (ws : List ℕ) (k h : ℕ) → levels_in ws ≡ suc h → get_or (way_to ws k) h 0 ≡ leaf_for ws h (root_in ws) k
+unfolding way_to
+leaf-root ws k h e = ap (λ (n : ℕ). get_or (way_of ws n (root_in ws) k) h 0) e

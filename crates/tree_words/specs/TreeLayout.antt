@@ -5,56 +5,56 @@
 -- Nodes may have words in common, and words that no node has may hold anything.
 use Rattle.std.specs.Prelude.{Bool, true, false, ◌&&◌, ◌||◌, cond, List, [], ℕ, zero, suc, ◌+◌, ◌-◌, ◌^◌, leb, ltb, eqb, length, get_or}
 use Rattle.model.specs.Runs.{Run}
-use Rattle.model.specs.Store.{maxRuns}
+use Rattle.model.specs.Store.{max_runs}
 use Rattle.tree_words.specs.TreeShape.{Marks, Tree, leaf, two, three, leaves}
 
-abbrev pub treeWords : ℕ
-treeWords = 32768
+abbrev pub tree_words_count : ℕ
+tree_words_count = 32768
 
 -- the space of a root: its first word, and the word after its last
-abbrev pub upperStart : ℕ
-upperStart = 16384
+abbrev pub upper_start : ℕ
+upper_start = 16384
 
-abbrev pub spaceStart : ℕ → ℕ
-spaceStart root = cond (ltb root upperStart) 4 upperStart
+abbrev pub space_start_of : ℕ → ℕ
+space_start_of root = cond (ltb root upper_start) 4 upper_start
 
-abbrev pub spaceEnd : ℕ → ℕ
-spaceEnd root = cond (ltb root upperStart) upperStart treeWords
+abbrev pub space_end_of : ℕ → ℕ
+space_end_of root = cond (ltb root upper_start) upper_start tree_words_count
 
 -- the most levels: 1,024 runs have at most 11
-abbrev pub maxLevels : ℕ
-maxLevels = 11
+abbrev pub max_levels : ℕ
+max_levels = 11
 
-abbrev pub leafWords : ℕ
-leafWords = 3
+abbrev pub leaf_words : ℕ
+leaf_words = 3
 
-abbrev pub nodeWords : ℕ
-nodeWords = 8
+abbrev pub node_words : ℕ
+node_words = 8
 
-abbrev pub levelsIn : List ℕ → ℕ
-levelsIn ws = get_or ws 0 0
+abbrev pub levels_in : List ℕ → ℕ
+levels_in ws = get_or ws 0 0
 
-abbrev pub rootIn : List ℕ → ℕ
-rootIn ws = get_or ws 1 0
+abbrev pub root_in : List ℕ → ℕ
+root_in ws = get_or ws 1 0
 
-abbrev pub freeIn : List ℕ → ℕ
-freeIn ws = get_or ws 2 0
+abbrev pub free_in : List ℕ → ℕ
+free_in ws = get_or ws 2 0
 
 -- what is recorded at the node that stands at word `a`
-abbrev pub lowAt : List ℕ → ℕ → ℕ
-lowAt ws a = get_or ws a 0
+abbrev pub low_at_of : List ℕ → ℕ → ℕ
+low_at_of ws a = get_or ws a 0
 
-abbrev pub highAt : List ℕ → ℕ → ℕ
-highAt ws a = get_or ws (a + 1) 0
+abbrev pub high_at_of : List ℕ → ℕ → ℕ
+high_at_of ws a = get_or ws (a + 1) 0
 
-abbrev pub totalAt : List ℕ → ℕ → ℕ
-totalAt ws a = get_or ws (a + 2) 0
+abbrev pub total_at_of : List ℕ → ℕ → ℕ
+total_at_of ws a = get_or ws (a + 2) 0
 
-abbrev pub secondAt : List ℕ → ℕ → ℕ
-secondAt ws a = get_or ws (a + 3) 0
+abbrev pub second_at_of : List ℕ → ℕ → ℕ
+second_at_of ws a = get_or ws (a + 3) 0
 
-abbrev pub thirdAt : List ℕ → ℕ → ℕ
-thirdAt ws a = get_or ws (a + 4) 0
+abbrev pub third_at : List ℕ → ℕ → ℕ
+third_at ws a = get_or ws (a + 4) 0
 
 -- the children of the inner node at word `a`
 abbrev pub child1 : List ℕ → ℕ → ℕ
@@ -66,79 +66,79 @@ child2 ws a = get_or ws (a + 6) 0
 abbrev pub child3 : List ℕ → ℕ → ℕ
 child3 ws a = get_or ws (a + 7) 0
 
-abbrev pub runIn : List ℕ → ℕ → Run
-runIn ws a = record { low = lowAt ws a; high = highAt ws a }
+abbrev pub run_in_of : List ℕ → ℕ → Run
+run_in_of ws a = record { low = low_at_of ws a; high = high_at_of ws a }
 
-abbrev pub marksIn : List ℕ → ℕ → Marks
-marksIn ws a = record { least = lowAt ws a; most = highAt ws a; total = totalAt ws a; second = secondAt ws a; third = thirdAt ws a }
+abbrev pub marks_in : List ℕ → ℕ → Marks
+marks_in ws a = record { least = low_at_of ws a; most = high_at_of ws a; total = total_at_of ws a; second = second_at_of ws a; third = third_at ws a }
 
 -- the tree whose root stands at word `a`, `h` levels above its leaves
-unfoldable pub treeAt : List ℕ → ℕ → ℕ → Tree
-treeAt ws zero a = leaf (totalAt ws a) (runIn ws a)
-treeAt ws (suc h) a =
+unfoldable pub tree_at : List ℕ → ℕ → ℕ → Tree
+tree_at ws zero a = leaf (total_at_of ws a) (run_in_of ws a)
+tree_at ws (suc h) a =
     elim (eqb (child3 ws a) 0) [
-      | true ↦ two (marksIn ws a) (treeAt ws h (child1 ws a)) (treeAt ws h (child2 ws a))
-      | false ↦ three (marksIn ws a) (treeAt ws h (child1 ws a)) (treeAt ws h (child2 ws a)) (treeAt ws h (child3 ws a))
+      | true ↦ two (marks_in ws a) (tree_at ws h (child1 ws a)) (tree_at ws h (child2 ws a))
+      | false ↦ three (marks_in ws a) (tree_at ws h (child1 ws a)) (tree_at ws h (child2 ws a)) (tree_at ws h (child3 ws a))
     ]
 
-abbrev pub leavesAt : List ℕ → ℕ → ℕ → List Run
-leavesAt ws h a = leaves (treeAt ws h a)
+abbrev pub leaves_at : List ℕ → ℕ → ℕ → List Run
+leaves_at ws h a = leaves (tree_at ws h a)
 
 -- the leaves of a tree of `n` levels, none where it has no level
-abbrev pub leavesOf : List ℕ → ℕ → ℕ → List Run
-leavesOf ws zero a = []
-leavesOf ws (suc h) a = leavesAt ws h a
+abbrev pub leaves_of : List ℕ → ℕ → ℕ → List Run
+leaves_of ws zero a = []
+leaves_of ws (suc h) a = leaves_at ws h a
 
 -- The runs that a tree's words hold
-unfoldable pub treeRuns : List ℕ → List Run
-treeRuns ws = leavesOf ws (levelsIn ws) (rootIn ws)
+unfoldable pub tree_runs : List ℕ → List Run
+tree_runs ws = leaves_of ws (levels_in ws) (root_in ws)
 
 -- the `n` words from word `a` on are used words of the space
-unfoldable pub inSpace : ℕ → ℕ → ℕ → ℕ → Bool
-inSpace start free a n = leb start a && leb (a + n) free
+unfoldable pub in_space : ℕ → ℕ → ℕ → ℕ → Bool
+in_space start free a n = leb start a && leb (a + n) free
 
 -- a leaf's run is one of path numbers, and its total is true
-unfoldable pub leafTrue : List ℕ → ℕ → Bool
-leafTrue ws a = leb 1 (lowAt ws a) && leb (lowAt ws a) (highAt ws a) && leb (highAt ws a) (2 ^ 62) && eqb (totalAt ws a) (suc (highAt ws a) - lowAt ws a)
+unfoldable pub leaf_true_of : List ℕ → ℕ → Bool
+leaf_true_of ws a = leb 1 (low_at_of ws a) && leb (low_at_of ws a) (high_at_of ws a) && leb (high_at_of ws a) (2 ^ 62) && eqb (total_at_of ws a) (suc (high_at_of ws a) - low_at_of ws a)
 
-unfoldable pub leafSound : List ℕ → ℕ → ℕ → ℕ → Bool
-leafSound ws start free a = inSpace start free a leafWords && leafTrue ws a
+unfoldable pub leaf_sound_of : List ℕ → ℕ → ℕ → ℕ → Bool
+leaf_sound_of ws start free a = in_space start free a leaf_words && leaf_true_of ws a
 
 -- the numbers recorded at an inner node are those of its children, and its children's numbers are apart: neither adjacent nor overlapping
-unfoldable pub twoSound : List ℕ → ℕ → ℕ → ℕ → Bool
-twoSound ws a b c =
-    eqb (lowAt ws a) (lowAt ws b) && eqb (highAt ws a) (highAt ws c) && eqb (secondAt ws a) (lowAt ws c) && eqb (thirdAt ws a) 0
-    && leb (highAt ws b + 2) (lowAt ws c) && eqb (totalAt ws a) (totalAt ws b + totalAt ws c)
+unfoldable pub two_sound_of : List ℕ → ℕ → ℕ → ℕ → Bool
+two_sound_of ws a b c =
+    eqb (low_at_of ws a) (low_at_of ws b) && eqb (high_at_of ws a) (high_at_of ws c) && eqb (second_at_of ws a) (low_at_of ws c) && eqb (third_at ws a) 0
+    && leb (high_at_of ws b + 2) (low_at_of ws c) && eqb (total_at_of ws a) (total_at_of ws b + total_at_of ws c)
 
-unfoldable pub threeSound : List ℕ → ℕ → ℕ → ℕ → ℕ → Bool
-threeSound ws a b c d =
-    eqb (lowAt ws a) (lowAt ws b) && eqb (highAt ws a) (highAt ws d) && eqb (secondAt ws a) (lowAt ws c) && eqb (thirdAt ws a) (lowAt ws d)
-    && leb (highAt ws b + 2) (lowAt ws c) && leb (highAt ws c + 2) (lowAt ws d) && eqb (totalAt ws a) (totalAt ws b + totalAt ws c + totalAt ws d)
+unfoldable pub three_sound_of : List ℕ → ℕ → ℕ → ℕ → ℕ → Bool
+three_sound_of ws a b c d =
+    eqb (low_at_of ws a) (low_at_of ws b) && eqb (high_at_of ws a) (high_at_of ws d) && eqb (second_at_of ws a) (low_at_of ws c) && eqb (third_at ws a) (low_at_of ws d)
+    && leb (high_at_of ws b + 2) (low_at_of ws c) && leb (high_at_of ws c + 2) (low_at_of ws d) && eqb (total_at_of ws a) (total_at_of ws b + total_at_of ws c + total_at_of ws d)
 
-unfoldable pub childrenSound : List ℕ → ℕ → ℕ → ℕ → Bool
-childrenSound ws start free a =
+unfoldable pub children_sound : List ℕ → ℕ → ℕ → ℕ → Bool
+children_sound ws start free a =
     elim (eqb (child3 ws a) 0) [
-      | true ↦ twoSound ws a (child1 ws a) (child2 ws a)
-      | false ↦ inSpace start free (child3 ws a) leafWords && threeSound ws a (child1 ws a) (child2 ws a) (child3 ws a)
+      | true ↦ two_sound_of ws a (child1 ws a) (child2 ws a)
+      | false ↦ in_space start free (child3 ws a) leaf_words && three_sound_of ws a (child1 ws a) (child2 ws a) (child3 ws a)
     ]
 
-unfoldable pub nodeSound : List ℕ → ℕ → ℕ → ℕ → Bool
-nodeSound ws start free a =
-    inSpace start free a nodeWords && inSpace start free (child1 ws a) leafWords && inSpace start free (child2 ws a) leafWords && childrenSound ws start free a
+unfoldable pub node_sound_of : List ℕ → ℕ → ℕ → ℕ → Bool
+node_sound_of ws start free a =
+    in_space start free a node_words && in_space start free (child1 ws a) leaf_words && in_space start free (child2 ws a) leaf_words && children_sound ws start free a
 
 -- the words at `a` are such a tree, `h` levels above its leaves, in used words of the space
-unfoldable pub soundAt : List ℕ → ℕ → ℕ → ℕ → ℕ → Bool
-soundAt ws start free zero a = leafSound ws start free a
-soundAt ws start free (suc h) a =
-    nodeSound ws start free a && soundAt ws start free h (child1 ws a) && soundAt ws start free h (child2 ws a)
-    && (eqb (child3 ws a) 0 || soundAt ws start free h (child3 ws a))
+unfoldable pub sound_at_of : List ℕ → ℕ → ℕ → ℕ → ℕ → Bool
+sound_at_of ws start free zero a = leaf_sound_of ws start free a
+sound_at_of ws start free (suc h) a =
+    node_sound_of ws start free a && sound_at_of ws start free h (child1 ws a) && sound_at_of ws start free h (child2 ws a)
+    && (eqb (child3 ws a) 0 || sound_at_of ws start free h (child3 ws a))
 
-unfoldable pub soundFrom : List ℕ → ℕ → Bool
-soundFrom ws zero = eqb (rootIn ws) 0 && eqb (freeIn ws) 0
-soundFrom ws (suc h) =
-    leb (suc h) maxLevels && leb (freeIn ws) (spaceEnd (rootIn ws)) && soundAt ws (spaceStart (rootIn ws)) (freeIn ws) h (rootIn ws)
-    && leb (length (leavesAt ws h (rootIn ws))) maxRuns
+unfoldable pub sound_from : List ℕ → ℕ → Bool
+sound_from ws zero = eqb (root_in ws) 0 && eqb (free_in ws) 0
+sound_from ws (suc h) =
+    leb (suc h) max_levels && leb (free_in ws) (space_end_of (root_in ws)) && sound_at_of ws (space_start_of (root_in ws)) (free_in ws) h (root_in ws)
+    && leb (length (leaves_at ws h (root_in ws))) max_runs
 
 -- The words are a tree in this layout
-unfoldable pub soundWords : List ℕ → Bool
-soundWords ws = soundFrom ws (levelsIn ws)
+unfoldable pub sound_words_of : List ℕ → Bool
+sound_words_of ws = sound_from ws (levels_in ws)

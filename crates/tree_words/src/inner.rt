@@ -1,7 +1,7 @@
 // Nodes in words, for our own crates: reading a word as a place, and writing nodes. Each caller proves what a function requires.
 ghost use Rattle.std.specs.Prelude.{◌≡◌, ◌+◌, ◌≤◌, ◌<◌, ◌^◌, length, get_or};
-ghost use Rattle.tree_words.specs.TreeLayout.{highAt, lowAt, totalAt, child1, child2, child3};
-ghost use Rattle.tree_words.specs.Nodes.{lastChild, putLeaf, putMarks, put_two, putThree};
+ghost use Rattle.tree_words.specs.TreeLayout.{high_at_of, low_at_of, total_at_of, child1, child2, child3};
+ghost use Rattle.tree_words.specs.Nodes.{last_child_of, put_leaf_of, put_marks, put_two, put_three_of};
 
 // The most levels of a tree of 1,024 runs.
 pub const MAX_LEVELS: usize = 11;
@@ -29,14 +29,14 @@ pub fn word(words: &[u64], at: usize) -> usize
 // The least and the largest number below a node.
 pub fn low_at(words: &[u64], at: usize) -> u64
     requires { at + 3 ≤ length words.now }
-    ensures { result ≡ lowAt words.now at }
+    ensures { result ≡ low_at_of words.now at }
 {
     words[at]
 }
 
 pub fn high_at(words: &[u64], at: usize) -> u64
     requires { at + 3 ≤ length words.now }
-    ensures { result ≡ highAt words.now at }
+    ensures { result ≡ high_at_of words.now at }
 {
     words[at + 1]
 }
@@ -44,7 +44,7 @@ pub fn high_at(words: &[u64], at: usize) -> u64
 // How many numbers the runs below a node hold.
 pub fn total_at(words: &[u64], at: usize) -> u64
     requires { at + 3 ≤ length words.now }
-    ensures { result ≡ totalAt words.now at }
+    ensures { result ≡ total_at_of words.now at }
 {
     words[at + 2]
 }
@@ -74,7 +74,7 @@ pub fn third_child(words: &[u64], at: usize) -> usize
 // The last child of an inner node.
 pub fn last_child(words: &[u64], at: usize) -> usize
     requires { at + 8 ≤ length words.now }
-    ensures { result ≡ lastChild words.now at }
+    ensures { result ≡ last_child_of words.now at }
 {
     let third = third_child(words, at);
     if third == 0 {
@@ -86,7 +86,7 @@ pub fn last_child(words: &[u64], at: usize) -> usize
 // Writes a leaf.
 pub fn put_leaf(words: &mut [u64], at: usize, low: u64, high: u64)
     requires { (at + 3 ≤ length words.old) × (low ≤ high) × (high ≤ 2 ^ 62) }
-    ensures { words.new ≡ putLeaf words.old at low high }
+    ensures { words.new ≡ put_leaf_of words.old at low high }
 {
     words[at] = low;
     words[at + 1] = high;
@@ -113,7 +113,7 @@ fn put_node(
     child3: usize,
 )
     requires { at + 8 ≤ length words.old }
-    ensures { words.new ≡ putMarks words.old at marks child1 child2 child3 }
+    ensures { words.new ≡ put_marks words.old at marks child1 child2 child3 }
 {
     words[at] = marks.least;
     words[at + 1] = marks.most;
@@ -128,7 +128,7 @@ fn put_node(
 // Writes an inner node with two children.
 pub fn put_two(words: &mut [u64], at: usize, first: usize, second: usize)
     requires at_in_bounds { (at + 8 ≤ length words.old) × (first + 3 ≤ at) × (second + 3 ≤ at) }
-    requires second_bound { totalAt words.old first + totalAt words.old second ≤ 2 ^ 62 }
+    requires second_bound { total_at_of words.old first + total_at_of words.old second ≤ 2 ^ 62 }
     ensures { words.new ≡ put_two words.old at first second }
 {
     let marks = Recorded {
@@ -144,8 +144,8 @@ pub fn put_two(words: &mut [u64], at: usize, first: usize, second: usize)
 // Writes an inner node with three children.
 pub fn put_three(words: &mut [u64], at: usize, first: usize, second: usize, third: usize)
     requires at_in_bounds { (at + 8 ≤ length words.old) × (first + 3 ≤ at) × (second + 3 ≤ at) × (third + 3 ≤ at) }
-    requires third_bound { totalAt words.old first + totalAt words.old second + totalAt words.old third ≤ 2 ^ 62 }
-    ensures { words.new ≡ putThree words.old at first second third }
+    requires third_bound { total_at_of words.old first + total_at_of words.old second + total_at_of words.old third ≤ 2 ^ 62 }
+    ensures { words.new ≡ put_three_of words.old at first second third }
 {
     let marks = Recorded {
         least: words[first],

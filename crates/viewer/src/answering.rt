@@ -1,13 +1,13 @@
 // The answers to a viewer, in words lent for his ranges and the runs that he sees.
 ghost use Rattle.std.specs.Prelude.{◌≡◌, ◌+◌, ◌*◌, ◌≤◌, ◌^◌, length};
-ghost use Rattle.model.specs.Runs.{inRuns};
-ghost use Rattle.model.specs.Store.{maxRuns, storeWords};
-ghost use Rattle.run_lists.specs.RunLists.{Sound, runsInWords};
-ghost use Rattle.store.specs.Answers.{totalsOf, held_of};
+ghost use Rattle.model.specs.Runs.{in_runs};
+ghost use Rattle.model.specs.Store.{max_runs, store_words_count};
+ghost use Rattle.run_lists.specs.RunLists.{Sound, runs_in_words};
+ghost use Rattle.store.specs.Answers.{totals_among, held_of};
 ghost use Rattle.store_words.specs.Sound.{SoundWords};
-ghost use Rattle.viewer_places.specs.Viewer.{viewerTotalsCall, viewerFaultCall};
-ghost use Rattle.viewer_ranges.specs.Ranges.{mostPlaces};
-ghost use Rattle.viewer.specs.ViewAnswers.{ViewTrue, askedOn};
+ghost use Rattle.viewer_places.specs.Viewer.{viewer_totals_call, viewer_fault_call};
+ghost use Rattle.viewer_ranges.specs.Ranges.{most_places};
+ghost use Rattle.viewer.specs.ViewAnswers.{ViewTrue, asked_on};
 
 use crate::ViewAnswer;
 use crate::looking::{LookAnswer, look};
@@ -27,8 +27,8 @@ pub(crate) fn totals_with(
     ranges: &mut [u64],
     words: &mut [u64],
 ) -> TotalsAnswer
-    requires { (length store.now ≡ storeWords) × (2 * mostPlaces ≤ length ranges.old) × (2 * (mostPlaces + maxRuns) ≤ length words.old) }
-    ensures { totalsOf result ≡ viewerTotalsCall netlist.now store.now places.now }
+    requires { (length store.now ≡ store_words_count) × (2 * most_places ≤ length ranges.old) × (2 * (most_places + max_runs) ≤ length words.old) }
+    ensures { totals_among result ≡ viewer_totals_call netlist.now store.now places.now }
 {
     match look(netlist, store, places, ranges) {
         LookAnswer::Refused(why) => TotalsAnswer::Refused(why),
@@ -43,8 +43,8 @@ pub(crate) fn totals_with(
 // Whether sound words hold a fault whose path number lies in the ranges, for path numbers 1 to `paths`.
 fn ask(ranges: &[u64], count: usize, store: &[u64], paths: u64, number: u64) -> HeldAnswer
     requires sound_words { SoundWords (2 ^ 62) store.now × (2 * count ≤ length ranges.now) × (paths ≤ 2 ^ 62) }
-    requires sound { Sound (2 ^ 62) (runsInWords ranges.now 0 count) }
-    ensures { held_of result ≡ askedOn (inRuns (runsInWords ranges.now 0 count)) store.now paths number }
+    requires sound { Sound (2 ^ 62) (runs_in_words ranges.now 0 count) }
+    ensures { held_of result ≡ asked_on (in_runs (runs_in_words ranges.now 0 count)) store.now paths number }
 {
     if number < 1 {
         return HeldAnswer::Refused(Refusal::NoSuchNumber);
@@ -74,8 +74,8 @@ pub(crate) fn holds_with(
     number: u64,
     ranges: &mut [u64],
 ) -> HeldAnswer
-    requires { (length store.now ≡ storeWords) × (2 * mostPlaces ≤ length ranges.old) }
-    ensures { held_of result ≡ viewerFaultCall netlist.now store.now places.now number }
+    requires { (length store.now ≡ store_words_count) × (2 * most_places ≤ length ranges.old) }
+    ensures { held_of result ≡ viewer_fault_call netlist.now store.now places.now number }
 {
     match look(netlist, store, places, ranges) {
         LookAnswer::Refused(why) => HeldAnswer::Refused(why),
@@ -93,8 +93,8 @@ pub(crate) fn runs_with(
     down: &mut [u64],
     view: &mut [u64],
 ) -> ViewAnswer
-    requires store_len { (length store.now ≡ storeWords) × (length view.old ≡ storeWords) × (2 * mostPlaces ≤ length ranges.old) }
-    requires max_runs_in_bounds { (2 * (mostPlaces + maxRuns) ≤ length up.old) × (2 * (mostPlaces + maxRuns) ≤ length down.old) }
+    requires store_len { (length store.now ≡ store_words_count) × (length view.old ≡ store_words_count) × (2 * most_places ≤ length ranges.old) }
+    requires max_runs_in_bounds { (2 * (most_places + max_runs) ≤ length up.old) × (2 * (most_places + max_runs) ≤ length down.old) }
     ensures { ViewTrue result netlist.now store.now places.now view.old view.new }
 {
     match look(netlist, store, places, ranges) {

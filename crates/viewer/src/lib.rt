@@ -3,8 +3,8 @@ mod answering;
 mod looking;
 
 ghost use Rattle.std.specs.Prelude.{◌≡◌};
-ghost use Rattle.store.specs.Answers.{totalsOf, held_of};
-ghost use Rattle.viewer_places.specs.Viewer.{viewerTotalsCall, viewerFaultCall};
+ghost use Rattle.store.specs.Answers.{totals_among, held_of};
+ghost use Rattle.viewer_places.specs.Viewer.{viewer_totals_call, viewer_fault_call};
 ghost use Rattle.viewer.specs.ViewAnswers.{ViewTrue};
 
 use crate::answering::{holds_with, runs_with, totals_with};
@@ -27,7 +27,7 @@ pub enum ViewAnswer {
 
 // The number of faults of each edge that a store holds, of paths that end at a viewer's outputs.
 pub fn viewer_totals(netlist: &[u8], store: &[u64], places: &[u16]) -> TotalsAnswer
-    ensures { totalsOf result ≡ viewerTotalsCall netlist.now store.now places.now }
+    ensures { totals_among result ≡ viewer_totals_call netlist.now store.now places.now }
 {
     if store.len() != STORE_WORDS {
         return TotalsAnswer::Refused(Refusal::StoreLength);
@@ -39,7 +39,7 @@ pub fn viewer_totals(netlist: &[u8], store: &[u64], places: &[u16]) -> TotalsAns
 
 // Whether a store holds a fault of a path that ends at one of a viewer's outputs.
 pub fn viewer_holds(netlist: &[u8], store: &[u64], places: &[u16], fault: FaultNo) -> HeldAnswer
-    ensures { held_of result ≡ viewerFaultCall netlist.now store.now places.now fault.0 }
+    ensures { held_of result ≡ viewer_fault_call netlist.now store.now places.now fault.0 }
 {
     let number = fault.0;
     if store.len() != STORE_WORDS {

@@ -1,7 +1,7 @@
 // What is checked before a viewer is answered, and the path numbers that he sees.
 ghost use Rattle.std.specs.Prelude.{◌≡◌, ◌*◌, ◌≤◌, length};
-ghost use Rattle.model.specs.Store.{storeWords};
-ghost use Rattle.viewer_ranges.specs.Ranges.{mostPlaces};
+ghost use Rattle.model.specs.Store.{store_words_count};
+ghost use Rattle.viewer_ranges.specs.Ranges.{most_places};
 ghost use Rattle.viewer.specs.ViewAnswers.{Opened, LookTrue};
 
 use model::Refusal;
@@ -27,7 +27,7 @@ fn look_on(
     places: &[u16],
     ranges: &mut [u64],
 ) -> LookAnswer
-    requires { Opened netlist.now counts.now shape total store.now × (2 * mostPlaces ≤ length ranges.old) }
+    requires { Opened netlist.now counts.now shape total store.now × (2 * most_places ≤ length ranges.old) }
     ensures { LookTrue result netlist.now store.now places.now ranges.new }
 {
     match check_words(store, total) {
@@ -45,7 +45,7 @@ fn look_on(
 
 // The netlist, the store's words and the places checked; the ranges of the path numbers that the viewer sees.
 pub(crate) fn look(netlist: &[u8], store: &[u64], places: &[u16], ranges: &mut [u64]) -> LookAnswer
-    requires { (length store.now ≡ storeWords) × (2 * mostPlaces ≤ length ranges.old) }
+    requires { (length store.now ≡ store_words_count) × (2 * most_places ≤ length ranges.old) }
     ensures { LookTrue result netlist.now store.now places.now ranges.new }
 {
     let mut counts = [0u64; 512];

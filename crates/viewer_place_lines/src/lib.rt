@@ -3,8 +3,8 @@ mod reading;
 
 ghost use Rattle.std.specs.Prelude.{◌≡◌};
 ghost use Rattle.io.specs.Counts.{IsPrefixLen};
-ghost use Rattle.viewer_place_lines.specs.Places.{placesIn, kept};
-ghost use Rattle.viewer_place_lines.specs.PlaceReading.{toldBy};
+ghost use Rattle.viewer_place_lines.specs.Places.{places_in, kept};
+ghost use Rattle.viewer_place_lines.specs.PlaceReading.{told_by};
 
 use crate::reading::{PlaceLine, keep, no_places, place_in};
 use bench_lines::inner::lines::next_line;
@@ -32,7 +32,7 @@ pub struct PlacesRead {
 
 // The places that a text lists, the first 65 of them.
 pub fn read_places(text: &[u8]) -> PlacesRead
-    ensures list_value { toldBy result.answer result.list ≡ kept (placesIn text.now) }
+    ensures list_value { told_by result.answer result.list ≡ kept (places_in text.now) }
     ensures prefix_len { IsPrefixLen result.list.count result.list.places }
 {
     let mut list = no_places();

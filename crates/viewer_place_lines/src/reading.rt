@@ -1,6 +1,6 @@
 // One line of places, and the list that they go into.
 ghost use Rattle.std.specs.Prelude.{◌≡◌, [], ◌∷◌, ◌++◌, take};
-ghost use Rattle.viewer_place_lines.specs.Places.{mostKept};
+ghost use Rattle.viewer_place_lines.specs.Places.{most_kept};
 ghost use Rattle.viewer_place_lines.specs.PlaceReading.{LineTrue, places_of, ListFits};
 
 use crate::PlaceList;
@@ -57,7 +57,7 @@ pub(crate) fn no_places() -> PlaceList
 // The list with a place more; a full one as it is.
 pub(crate) fn keep(list: PlaceList, place: u16) -> PlaceList
     requires { ListFits list }
-    ensures { (places_of result ≡ take mostKept (places_of list ++ (place ∷ []))) × ListFits result }
+    ensures { (places_of result ≡ take most_kept (places_of list ++ (place ∷ []))) × ListFits result }
 {
     let at = list.count;
     if MOST_KEPT <= at {

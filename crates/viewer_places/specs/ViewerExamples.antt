@@ -2,10 +2,10 @@
 use Rattle.std.specs.Prelude.{Bool, true, false, List, [], ◌∷◌, ◌++◌, ℕ, replicate}
 use Rattle.model.specs.Base.{Answer, refused, value, ◌into◌}
 use Rattle.model.specs.Runs.{run}
-use Rattle.model.specs.Store.{storeWords}
-use Rattle.model.specs.Encode.{headerBytes, gateBytes, outputBytes}
-use Rattle.model.specs.Examples.{withOutputs, holding}
-use Rattle.viewer_places.specs.Viewer.{viewerTotalsCall, viewerRunsCall, viewerRunsStore, viewerFaultCall}
+use Rattle.model.specs.Store.{store_words_count}
+use Rattle.model.specs.Encode.{header_bytes, gate_bytes, output_bytes}
+use Rattle.model.specs.Examples.{with_outputs, holding}
+use Rattle.viewer_places.specs.Viewer.{viewer_totals_call, viewer_runs_call, viewer_runs_store, viewer_fault_call}
 
 -- what is asked: the totals, the words of a second store that held a seven in each, or one fault
 pub data Question : Type 0 where
@@ -20,30 +20,30 @@ pub record Example : Type 0 where
   pub answer : Answer (List ℕ)
 
 -- an example of a refusal
-abbrev pub noExample : Example
-noExample = record { netlist = []; store = []; places = []; question = totals; answer = refused 1 }
+abbrev pub no_example : Example
+no_example = record { netlist = []; store = []; places = []; question = totals; answer = refused 1 }
 
 abbrev pub as_number : Bool → ℕ
 as_number true = 1
 as_number false = 0
 
 abbrev pub sevens : List ℕ
-sevens = replicate storeWords 7
+sevens = replicate store_words_count 7
 
 -- an answer as numbers
 unfoldable pub answered : List ℕ → List ℕ → List ℕ → Question → Answer (List ℕ)
-answered netlist ws places totals = viewerTotalsCall netlist ws places into λ p. value (p.onRising ∷ p.onFalling ∷ [])
-answered netlist ws places runs = viewerRunsCall netlist ws sevens places into λ p. value (viewerRunsStore netlist ws sevens places)
-answered netlist ws places (holds fault) = viewerFaultCall netlist ws places fault into λ b. value (as_number b ∷ [])
+answered netlist ws places totals = viewer_totals_call netlist ws places into λ p. value (p.on_rising ∷ p.on_falling ∷ [])
+answered netlist ws places runs = viewer_runs_call netlist ws sevens places into λ p. value (viewer_runs_store netlist ws sevens places)
+answered netlist ws places (holds fault) = viewer_fault_call netlist ws places fault into λ b. value (as_number b ∷ [])
 
 -- net 2 AND of 0 and 1, net 3 OR of 2 and 1; outputs 2 (paths 1 and 2) and 3 (paths 3 to 5)
 unfoldable pub two : List ℕ
-two = withOutputs (2 ∷ 3 ∷ [])
+two = with_outputs (2 ∷ 3 ∷ [])
 
 -- besides net 4 AND of 2 and 3, an output too: paths 6 to 10
 unfoldable pub three : List ℕ
-three = headerBytes 2 3 3 ++ gateBytes 3 (0 ∷ 1 ∷ []) ++ gateBytes 5 (2 ∷ 1 ∷ []) ++ gateBytes 3 (2 ∷ 3 ∷ [])
-    ++ outputBytes 2 ++ outputBytes 3 ++ outputBytes 4
+three = header_bytes 2 3 3 ++ gate_bytes 3 (0 ∷ 1 ∷ []) ++ gate_bytes 5 (2 ∷ 1 ∷ []) ++ gate_bytes 3 (2 ∷ 3 ∷ [])
+    ++ output_bytes 2 ++ output_bytes 3 ++ output_bytes 4
 
 -- what all twelve pairs of the two inputs leave
 unfoldable pub full : List ℕ
@@ -83,6 +83,6 @@ examples =
     ∷ asked three spanning (1 ∷ 2 ∷ []) runs (value (holding 3 (run 3 7 ∷ []) (run 5 6 ∷ run 9 9 ∷ [])))
     ∷ asked three spanning (1 ∷ []) runs (value (holding 3 (run 3 5 ∷ []) (run 5 5 ∷ [])))
     -- an output without a gate: nothing to see, and no refusal
-    ∷ asked (headerBytes 2 1 2 ++ gateBytes 3 (0 ∷ 1 ∷ []) ++ outputBytes 1 ++ outputBytes 2) (holding 1 (run 1 2 ∷ []) []) (0 ∷ []) totals (value (0 ∷ 0 ∷ []))
-    ∷ asked (headerBytes 2 1 2 ++ gateBytes 3 (0 ∷ 1 ∷ []) ++ outputBytes 1 ++ outputBytes 2) (holding 1 (run 1 2 ∷ []) []) (0 ∷ []) (holds 1) (refused 90)
+    ∷ asked (header_bytes 2 1 2 ++ gate_bytes 3 (0 ∷ 1 ∷ []) ++ output_bytes 1 ++ output_bytes 2) (holding 1 (run 1 2 ∷ []) []) (0 ∷ []) totals (value (0 ∷ 0 ∷ []))
+    ∷ asked (header_bytes 2 1 2 ++ gate_bytes 3 (0 ∷ 1 ∷ []) ++ output_bytes 1 ++ output_bytes 2) (holding 1 (run 1 2 ∷ []) []) (0 ∷ []) (holds 1) (refused 90)
     ∷ []

@@ -1,14 +1,14 @@
 // The paths that end at an output have numbers one after the other: a range for each of a viewer's places, neighbours joined.
 ghost use Rattle.std.specs.Prelude.{◌≡◌, ◌+◌, ◌*◌, ◌≤◌, ◌^◌, length};
 ghost use Rattle.model.specs.Base.{value, sum_of};
-ghost use Rattle.model.specs.Netlist.{Netlist, pathTotal};
-ghost use Rattle.model.specs.Runs.{runsOf};
-ghost use Rattle.model.specs.Read.{readNetlist};
-ghost use Rattle.path_step.specs.Picks.{RecordsOfOutputs, outputCountsIn};
-ghost use Rattle.run_lists.specs.RunLists.{addRuns, runsInWords};
+ghost use Rattle.model.specs.Netlist.{Netlist, path_total};
+ghost use Rattle.model.specs.Runs.{runs_among};
+ghost use Rattle.model.specs.Read.{read_netlist};
+ghost use Rattle.path_step.specs.Picks.{RecordsOfOutputs, output_counts_in};
+ghost use Rattle.run_lists.specs.RunLists.{add_runs, runs_in_words};
 ghost use Rattle.run_lists.specs.Answers.{Room, Adds};
 ghost use Rattle.viewer_places.specs.Viewer.{seen};
-ghost use Rattle.viewer_ranges.specs.Ranges.{mostPlaces, range, Viewable};
+ghost use Rattle.viewer_ranges.specs.Ranges.{most_places, range, Viewable};
 
 use netlist::inner::{Shape, outputs_part};
 use path_step::inner::outputs::outputs_before;
@@ -28,11 +28,11 @@ fn add_range(
     words: &mut [u64],
     count: usize,
 ) -> Added
-    requires records_of_outputs { RecordsOfOutputs part.now (place + 1) × (sum_of (outputCountsIn part.now (place + 1) inputs counts.now) ≤ 2 ^ 62) }
-    requires room { Room words.old 0 count mostPlaces }
-    ensures { Adds words.old words.new 0 mostPlaces (addRuns (runsInWords words.old 0 count)
-        (range (sum_of (outputCountsIn part.now place inputs counts.now))
-        (sum_of (outputCountsIn part.now (place + 1) inputs counts.now)))) result }
+    requires records_of_outputs { RecordsOfOutputs part.now (place + 1) × (sum_of (output_counts_in part.now (place + 1) inputs counts.now) ≤ 2 ^ 62) }
+    requires room { Room words.old 0 count most_places }
+    ensures { Adds words.old words.new 0 most_places (add_runs (runs_in_words words.old 0 count)
+        (range (sum_of (output_counts_in part.now place inputs counts.now))
+        (sum_of (output_counts_in part.now (place + 1) inputs counts.now)))) result }
 {
     let before = outputs_before(part, counts, inputs, place);
     let last = outputs_before(part, counts, inputs, place + 1);
@@ -50,9 +50,9 @@ pub fn view_ranges(
     places: &[u16],
     words: &mut [u64],
 ) -> usize
-    requires { Viewable netlist.now counts.now shape places.now × (2 * mostPlaces ≤ length words.old) }
-    ensures { ((N : Netlist) → readNetlist netlist.now ≡ value N
-        → runsInWords words.new 0 result ≡ runsOf (seen N places.now) (pathTotal N)) × (result ≤ mostPlaces) }
+    requires { Viewable netlist.now counts.now shape places.now × (2 * most_places ≤ length words.old) }
+    ensures { ((N : Netlist) → read_netlist netlist.now ≡ value N
+        → runs_in_words words.new 0 result ≡ runs_among (seen N places.now) (path_total N)) × (result ≤ most_places) }
 {
     let part = outputs_part(netlist, shape.outputs);
     let mut i = 0;

@@ -3,5 +3,5 @@ use Rattle.std.specs.Prelude.{List}
 use Rattle.model.specs.Runs.{Run}
 use Rattle.model.specs.Store.{ByEdge}
 
-abbrev pub bothRuns : List Run → List Run → ByEdge (List Run)
-bothRuns up down = record { onRising = up; onFalling = down }
+abbrev pub both_runs : List Run → List Run → ByEdge (List Run)
+both_runs up down = record { on_rising = up; on_falling = down }

@@ -2,32 +2,32 @@
 use Rattle.model.proofs.Prelude.{ℕ, ◌≤◌, ◌<◌, ◌+◌, suc, ◌≡◌, ◌∙◌, ap, refl, sym, ap₂, ⊎_elim, Bool, false, ◌&&◌, List, [], ◌∷◌, ◌++◌, length, take}
 use Rattle.model.proofs.Prelude.{length-take-le, take_all, leb, T, leb→le, ltb, ltb→lt, arith}
 use Rattle.model.specs.Base.{Answer, refused, value, ◌into◌, ◌then◌, Rule, checks, check}
-use Rattle.model.specs.Netlist.{Netlist, pathTotal}
-use Rattle.model.specs.Read.{readNetlist}
-use Rattle.model.specs.Runs.{Run, howMany}
-use Rattle.model.specs.Store.{ByEdge, byEdge, bothEdges, maxRuns, emptyStore, storeRules}
-use Rattle.model.specs.Calls.{storeRule}
+use Rattle.model.specs.Netlist.{Netlist, path_total}
+use Rattle.model.specs.Read.{read_netlist}
+use Rattle.model.specs.Runs.{Run, how_many}
+use Rattle.model.specs.Store.{ByEdge, by_edge, both_edges, max_runs, empty_store, store_rules}
+use Rattle.model.specs.Calls.{store_rule}
 use Rattle.model.proofs.AnswerLaws.{checks-both}
-use Rattle.model.proofs.BoolLaws.{le-or-lt, and_left, and_right, not→false}
+use Rattle.model.proofs.BoolLaws.{le_or_lt, and_left, and_right, not→false}
 use Rattle.model.proofs.ReadLaws.{limits}
-use Rattle.viewer_places.specs.Viewer.{ascendingPlaces, placesFit, placesRule, seenHeld, seenRuns, viewerTotalsCall, viewerRunsCall}
-use Rattle.viewer_place_lines.specs.Places.{mostKept}
-use Rattle.viewer_text.specs.ViewText.{shown, viewText}
+use Rattle.viewer_places.specs.Viewer.{ascending_places, places_fit_of, places_rule, seen_held, seen_runs, viewer_totals_call, viewer_runs_call}
+use Rattle.viewer_place_lines.specs.Places.{most_kept}
+use Rattle.viewer_text.specs.ViewText.{shown, view_text}
 
 -- each place is at least one more than the one before
-ascending-few : (n least : ℕ) (ps : List ℕ) → T (ascendingPlaces n least ps) → least ≤ n → least + length ps ≤ n
+ascending-few : (n least : ℕ) (ps : List ℕ) → T (ascending_places n least ps) → least ≤ n → least + length ps ≤ n
 ascending-few n least [] t h = omega arith
 ascending-few n least (p ∷ ps) t h =
-    let head : T (leb least p && ltb p n) = and_left (leb least p && ltb p n) (ascendingPlaces n (suc p) ps) t in
+    let head : T (leb least p && ltb p n) = and_left (leb least p && ltb p n) (ascending_places n (suc p) ps) t in
     let low : least ≤ p = leb→le least p (and_left (leb least p) (ltb p n) head) in
     let high : p < n = ltb→lt p n (and_right (leb least p) (ltb p n) head) in
-    let rest = ascending-few n (suc p) ps (and_right (leb least p && ltb p n) (ascendingPlaces n (suc p) ps) t) (omega arith) in
+    let rest = ascending-few n (suc p) ps (and_right (leb least p && ltb p n) (ascending_places n (suc p) ps) t) (omega arith) in
     omega arith
 
-many-unfit : (n : ℕ) (ps : List ℕ) → n < length ps → placesFit n ps ≡ false
+many-unfit : (n : ℕ) (ps : List ℕ) → n < length ps → places_fit_of n ps ≡ false
 many-unfit n ps h =
-    not→false (placesFit n ps)
-    (λ t. let few = ascending-few n 0 ps (and_right (leb 1 (length ps)) (ascendingPlaces n 0 ps) t) (omega arith) in absurd (omega arith))
+    not→false (places_fit_of n ps)
+    (λ t. let few = ascending-few n 0 ps (and_right (leb 1 (length ps)) (ascending_places n 0 ps) t) (omega arith) in absurd (omega arith))
 
 -- a refusal after some checks ends a call
 refused-there : {A : Type 0} (c : Answer (Unit {0})) (rs : List Rule) (x : Answer A) → ((c then (check 89 false then checks rs)) then x) ≡ (c then refused 89)
@@ -36,44 +36,44 @@ refused-there (value u) rs x = refl
 
 module _ (netlist ws : List ℕ) where
   -- what a call answers for more places than any netlist has outputs
-  abbrev noPlaces : {A : Type 0} → Netlist → Answer A
-  noPlaces N = checks (storeRules (pathTotal N) ws) then refused 89
+  abbrev no_places : {A : Type 0} → Netlist → Answer A
+  no_places N = checks (store_rules (path_total N) ws) then refused 89
 
-  abbrev noViewer : {A : Type 0} → List Rule → Answer A
-  noViewer lent = checks lent then readNetlist netlist into noPlaces
+  abbrev no_viewer : {A : Type 0} → List Rule → Answer A
+  no_viewer lent = checks lent then read_netlist netlist into no_places
 
   module _ (qs : List ℕ) (many : 64 < length qs) where
-    unfit : {A : Type 0} (N : Netlist) (rs : List Rule) (x : Answer A) → readNetlist netlist ≡ value N
-        → (checks (storeRules (pathTotal N) ws ++ (placesRule N qs ∷ rs)) then x) ≡ noPlaces N
+    unfit : {A : Type 0} (N : Netlist) (rs : List Rule) (x : Answer A) → read_netlist netlist ≡ value N
+        → (checks (store_rules (path_total N) ws ++ (places_rule N qs ∷ rs)) then x) ≡ no_places N
     unfit N rs x e =
-        let more : length N.outputs < length qs = omega (arith, (limits netlist N e).fewOutputs) in
-        ap (λ (c : Answer (Unit {0})). c then x) (checks-both (storeRules (pathTotal N) ws) (placesRule N qs ∷ rs))
-        ∙ ap (λ (b : Bool). (checks (storeRules (pathTotal N) ws) then (check 89 b then checks rs)) then x) (many-unfit (length N.outputs) qs more)
-        ∙ refused-there (checks (storeRules (pathTotal N) ws)) rs x
+        let more : length N.outputs < length qs = omega (arith, (limits netlist N e).few_outputs) in
+        ap (λ (c : Answer (Unit {0})). c then x) (checks-both (store_rules (path_total N) ws) (places_rule N qs ∷ rs))
+        ∙ ap (λ (b : Bool). (checks (store_rules (path_total N) ws) then (check 89 b then checks rs)) then x) (many-unfit (length N.outputs) qs more)
+        ∙ refused-there (checks (store_rules (path_total N) ws)) rs x
 
     module _ {A : Type 0} (rs : Netlist → List Rule) (x : Netlist → Answer A) where
       abbrev asked : Netlist → Answer A
-      asked N = checks (storeRules (pathTotal N) ws ++ (placesRule N qs ∷ rs N)) then x N
+      asked N = checks (store_rules (path_total N) ws ++ (places_rule N qs ∷ rs N)) then x N
 
-      at-netlist : (m : Answer Netlist) → readNetlist netlist ≡ m → (m into asked) ≡ (m into noPlaces)
+      at-netlist : (m : Answer Netlist) → read_netlist netlist ≡ m → (m into asked) ≡ (m into no_places)
       at-netlist (refused n) e = refl
       at-netlist (value N) e = unfit N (rs N) (x N) e
 
-      at-lent : (c : Answer (Unit {0})) → (c then readNetlist netlist into asked) ≡ (c then readNetlist netlist into noPlaces)
+      at-lent : (c : Answer (Unit {0})) → (c then read_netlist netlist into asked) ≡ (c then read_netlist netlist into no_places)
       at-lent (refused n) = refl
-      at-lent (value u) = at-netlist (readNetlist netlist) refl
+      at-lent (value u) = at-netlist (read_netlist netlist) refl
 
-    many-shown : viewText netlist ws qs ≡ shown (noViewer (storeRule ws ∷ storeRule emptyStore ∷ [])) (noViewer (storeRule ws ∷ []))
-    unfolding viewText viewerRunsCall viewerTotalsCall
+    many-shown : view_text netlist ws qs ≡ shown (no_viewer (store_rule ws ∷ store_rule empty_store ∷ [])) (no_viewer (store_rule ws ∷ []))
+    unfolding view_text viewer_runs_call viewer_totals_call
     many-shown =
         ap₂ (λ (r : Answer (ByEdge (List Run))) (t : Answer (ByEdge ℕ)). shown r t)
-        (at-lent (λ N. (51, bothEdges (λ e. leb (length (seenRuns N qs ws e)) maxRuns)) ∷ []) (λ N. value (byEdge (seenRuns N qs ws)))
-        (checks (storeRule ws ∷ storeRule emptyStore ∷ [])))
-        (at-lent (λ N. []) (λ N. value (byEdge (λ e. howMany (seenHeld N qs ws e) (pathTotal N)))) (checks (storeRule ws ∷ [])))
+        (at-lent (λ N. (51, both_edges (λ e. leb (length (seen_runs N qs ws e)) max_runs)) ∷ []) (λ N. value (by_edge (seen_runs N qs ws)))
+        (checks (store_rule ws ∷ store_rule empty_store ∷ [])))
+        (at-lent (λ N. []) (λ N. value (by_edge (λ e. how_many (seen_held N qs ws e) (path_total N)))) (checks (store_rule ws ∷ [])))
 
-  pub kept-shown : (ps : List ℕ) → viewText netlist ws (take mostKept ps) ≡ viewText netlist ws ps
+  pub kept-shown : (ps : List ℕ) → view_text netlist ws (take most_kept ps) ≡ view_text netlist ws ps
   kept-shown ps =
       ⊎_elim
-      (λ (h : mostKept ≤ length ps). many-shown (take mostKept ps) (omega (arith, length-take-le mostKept ps h)) ∙ sym (many-shown ps (omega arith)))
-      (λ (h : length ps < mostKept). ap (viewText netlist ws) (take_all mostKept ps (omega arith)))
-      (le-or-lt mostKept (length ps))
+      (λ (h : most_kept ≤ length ps). many-shown (take most_kept ps) (omega (arith, length-take-le most_kept ps h)) ∙ sym (many-shown ps (omega arith)))
+      (λ (h : length ps < most_kept). ap (view_text netlist ws) (take_all most_kept ps (omega arith)))
+      (le_or_lt most_kept (length ps))

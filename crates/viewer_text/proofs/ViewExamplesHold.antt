@@ -1,36 +1,36 @@
 -- The examples of what a viewer is shown, computed from the definitions.
 use Rattle.model.proofs.Prelude.{◌≡◌, ◌&&◌, [], ◌∷◌, T}
-use Rattle.model.specs.Netlist.{counts, outputCount, pathTotal}
-use Rattle.model.specs.Path.{pathOf, pathAt, split}
-use Rattle.model.specs.Runs.{runsOf, runsFrom, addNumber, inRuns, howMany, howManyFrom, separatedRuns}
+use Rattle.model.specs.Netlist.{counts, output_count, path_total}
+use Rattle.model.specs.Path.{path_of, path_at, split}
+use Rattle.model.specs.Runs.{runs_among, runs_from, add_number, in_runs, how_many, how_many_from, separated_runs_of}
 use Rattle.model.specs.Examples.{holding}
-use Rattle.model.specs.Read.{readNetlist, readGates, readOutputs}
-use Rattle.model.specs.Store.{storeRuns, store_of}
-use Rattle.model.specs.Encode.{headerBytes, netBytes, gateBytes, outputBytes}
-use Rattle.model.specs.Report.{sameBytes}
+use Rattle.model.specs.Read.{read_netlist, read_gates, read_outputs_of}
+use Rattle.model.specs.Store.{store_runs, store_of}
+use Rattle.model.specs.Encode.{header_bytes, net_bytes, gate_bytes, output_bytes}
+use Rattle.model.specs.Report.{same_bytes}
 use Rattle.model.proofs.AnswerLaws.{same→}
 use Rattle.model.proofs.BoolLaws.{and_left, and_right}
-use Rattle.text_line.specs.Decimal.{digitsOf, decimalText, refusedText}
-use Rattle.viewer_places.specs.Viewer.{seen, seenHeld, viewerTotalsCall, viewerRunsCall}
+use Rattle.text_line.specs.Decimal.{digits_of, decimal_text, refused_text}
+use Rattle.viewer_places.specs.Viewer.{seen, seen_held, viewer_totals_call, viewer_runs_call}
 use Rattle.viewer_places.specs.ViewerExamples.{three, spanning}
-use Rattle.listing_lines.specs.ListingLines.{refusedLine}
-use Rattle.listing_text.specs.Listing.{runLines}
-use Rattle.viewer_text.specs.ViewText.{viewLines, shown, viewText}
-use Rattle.viewer_text.specs.ViewExamples.{cutLines, noneLine}
+use Rattle.listing_lines.specs.ListingLines.{refused_line_of}
+use Rattle.listing_text.specs.Listing.{run_lines}
+use Rattle.viewer_text.specs.ViewText.{view_lines, shown, view_text}
+use Rattle.viewer_text.specs.ViewExamples.{cut_lines, none_line}
 
-both : T (sameBytes (viewText three spanning (0 ∷ 2 ∷ [])) cutLines && sameBytes (viewText three spanning (2 ∷ 0 ∷ [])) noneLine)
-unfolding cutLines noneLine three spanning holding headerBytes netBytes gateBytes outputBytes
-    readNetlist readGates readOutputs counts outputCount pathTotal pathOf pathAt split
-    runsOf runsFrom addNumber inRuns howMany howManyFrom separatedRuns storeRuns store_of seen seenHeld viewerTotalsCall viewerRunsCall
-    digitsOf decimalText refusedText refusedLine runLines viewLines shown viewText
+both : T (same_bytes (view_text three spanning (0 ∷ 2 ∷ [])) cut_lines && same_bytes (view_text three spanning (2 ∷ 0 ∷ [])) none_line)
+unfolding cut_lines none_line three spanning holding header_bytes net_bytes gate_bytes output_bytes
+    read_netlist read_gates read_outputs_of counts output_count path_total path_of path_at split
+    runs_among runs_from add_number in_runs how_many how_many_from separated_runs_of store_runs store_of seen seen_held viewer_totals_call viewer_runs_call
+    digits_of decimal_text refused_text refused_line_of run_lines view_lines shown view_text
 both = tt
 
-pub cut-lines-hold : viewText three spanning (0 ∷ 2 ∷ []) ≡ cutLines
+pub cut-lines-hold : view_text three spanning (0 ∷ 2 ∷ []) ≡ cut_lines
 cut-lines-hold =
-    same→ (viewText three spanning (0 ∷ 2 ∷ [])) cutLines
-    (and_left (sameBytes (viewText three spanning (0 ∷ 2 ∷ [])) cutLines) (sameBytes (viewText three spanning (2 ∷ 0 ∷ [])) noneLine) both)
+    same→ (view_text three spanning (0 ∷ 2 ∷ [])) cut_lines
+    (and_left (same_bytes (view_text three spanning (0 ∷ 2 ∷ [])) cut_lines) (same_bytes (view_text three spanning (2 ∷ 0 ∷ [])) none_line) both)
 
-pub none-line-holds : viewText three spanning (2 ∷ 0 ∷ []) ≡ noneLine
+pub none-line-holds : view_text three spanning (2 ∷ 0 ∷ []) ≡ none_line
 none-line-holds =
-    same→ (viewText three spanning (2 ∷ 0 ∷ [])) noneLine
-    (and_right (sameBytes (viewText three spanning (0 ∷ 2 ∷ [])) cutLines) (sameBytes (viewText three spanning (2 ∷ 0 ∷ [])) noneLine) both)
+    same→ (view_text three spanning (2 ∷ 0 ∷ [])) none_line
+    (and_right (same_bytes (view_text three spanning (0 ∷ 2 ∷ [])) cut_lines) (same_bytes (view_text three spanning (2 ∷ 0 ∷ [])) none_line) both)

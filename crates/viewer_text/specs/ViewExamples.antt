@@ -2,18 +2,18 @@
 -- falling, 5, 6 and 9 (`three` and `spanning` of viewer_places).
 use Rattle.std.specs.Prelude.{List, ◌++◌, ℕ}
 use Rattle.text_line.specs.Lines.{ascii}
-use Rattle.text_buffer.specs.Written.{plainLine}
+use Rattle.text_buffer.specs.Written.{plain_line}
 
 -- of the first and the third output: runs are cut at the second
-unfoldable pub cutLines : List ℕ
-cutLines =
-    plainLine (ascii "R 2 2")
-    ++ plainLine (ascii "R 6 7")
-    ++ plainLine (ascii "F 6 6")
-    ++ plainLine (ascii "F 9 9")
-    ++ plainLine (ascii "rising 3")
-    ++ plainLine (ascii "falling 2")
+unfoldable pub cut_lines : List ℕ
+cut_lines =
+    plain_line (ascii "R 2 2")
+    ++ plain_line (ascii "R 6 7")
+    ++ plain_line (ascii "F 6 6")
+    ++ plain_line (ascii "F 9 9")
+    ++ plain_line (ascii "rising 3")
+    ++ plain_line (ascii "falling 2")
 
 -- of places that do not ascend
-unfoldable pub noneLine : List ℕ
-noneLine = plainLine (ascii "refused 89")
+unfoldable pub none_line : List ℕ
+none_line = plain_line (ascii "refused 89")

@@ -3,10 +3,10 @@ mod lines;
 
 ghost use Rattle.std.specs.Prelude.{◌≡◌};
 ghost use Rattle.io.specs.Counts.{IsPrefixLen};
-ghost use Rattle.model.specs.Store.{emptyStore};
-ghost use Rattle.viewer_places.specs.Viewer.{viewerRunsAnswer};
+ghost use Rattle.model.specs.Store.{empty_store};
+ghost use Rattle.viewer_places.specs.Viewer.{viewer_runs_answer};
 ghost use Rattle.viewer.specs.ViewAnswers.{view_of};
-ghost use Rattle.viewer_text.specs.ViewText.{viewText, Shown};
+ghost use Rattle.viewer_text.specs.ViewText.{view_text, Shown};
 
 use crate::lines::{no_words, put_answer};
 use viewer::{ViewAnswer, viewer_runs};
@@ -20,8 +20,8 @@ pub struct View {
 
 // Writes what a viewer is shown at the start of a buffer. One under 131,072 bytes is left as it is, and the length is 0.
 pub fn put_view(netlist: &[u8], store: &[u64], places: &[u16], out: &mut [u8]) -> View
-    ensures shown { Shown out.old out.new (viewText netlist.now store.now places.now) result.length }
-    ensures answer_value { view_of result.answer ≡ viewerRunsAnswer netlist.now store.now emptyStore places.now }
+    ensures shown { Shown out.old out.new (view_text netlist.now store.now places.now) result.length }
+    ensures answer_value { view_of result.answer ≡ viewer_runs_answer netlist.now store.now empty_store places.now }
     ensures prefix_len { IsPrefixLen result.length out.new }
 {
     let mut view = no_words();

@@ -1,10 +1,10 @@
 // The lines of a viewer's answer, put into a buffer.
 ghost use Rattle.std.specs.Prelude.{◌≡◌, ◌^◌, length};
 ghost use Rattle.io.specs.Counts.{IsPrefixLen};
-ghost use Rattle.model.specs.Store.{storeWords};
+ghost use Rattle.model.specs.Store.{store_words_count};
 ghost use Rattle.store_words.specs.Sound.{SoundWords};
 ghost use Rattle.viewer.specs.declared.ViewAnswer.TheVariants as view;
-ghost use Rattle.viewer_text.specs.ViewText.{answerText, Shown};
+ghost use Rattle.viewer_text.specs.ViewText.{answer_text, Shown};
 
 use listing_lines::inner::put_refusal;
 use listing_text::inner::{OUT_BYTES, put_store};
@@ -13,7 +13,7 @@ use viewer::ViewAnswer;
 
 // The words of a store.
 pub(crate) fn no_words() -> [u64; STORE_WORDS]
-    ensures { storeWords ≡ length result }
+    ensures { store_words_count ≡ length result }
 {
     [0; STORE_WORDS]
 }
@@ -21,7 +21,7 @@ pub(crate) fn no_words() -> [u64; STORE_WORDS]
 // The lines of an answer and of the store that it left.
 pub(crate) fn put_answer(answer: ViewAnswer, second: &[u64], out: &mut [u8]) -> usize
     requires { answer ≡ view.Written → SoundWords (2 ^ 62) second.now }
-    ensures shown { Shown out.old out.new (answerText answer second.now) result }
+    ensures shown { Shown out.old out.new (answer_text answer second.now) result }
     ensures prefix_len { IsPrefixLen result out.new }
 {
     if out.len() < OUT_BYTES {

@@ -13,8 +13,8 @@ answer-input-requires c κs =
     let trees = trees-ready _ _ _ _ _ _ _ at-trees.fill-trees.ensures _ at-paths.filled2.given.1 in
     (trees, omega (arith, at-space.no-questions.ensures), omega (arith, at_out.large-buffer.ensures))
 
-pub answer-store-spec : {M : Type 1} → statement M
-answer-store-spec =
+pub answer_store_spec : {M : Type 1} → statement M
+answer_store_spec =
     tie.close
     (tie.spec
     (λ c κs. search needs) (λ c κs. search needs) (λ c. search needs) (λ c. search needs) (λ c κs. search needs)

@@ -4,8 +4,8 @@ ghost use Rattle.model.specs.Read.{within};
 ghost use Rattle.text_buffer.specs.Written.{Written};
 ghost use Rattle.tree_words.specs.Nodes.{SoundTree};
 ghost use Rattle.tree_filling.specs.TreesOfStore.{TreesReady};
-ghost use Rattle.ask_text.specs.Questions.{faultAsked, askedLine, wrongLine, answerLine};
-ghost use Rattle.ask_text.specs.Pieces.{answerBytes, FaultVisited};
+ghost use Rattle.ask_text.specs.Questions.{fault_asked, asked_line, wrong_line, answer_line};
+ghost use Rattle.ask_text.specs.Pieces.{answer_bytes, FaultVisited};
 
 use crate::inner::Stated;
 use model::Refusal;
@@ -49,9 +49,9 @@ fn put_fault(
     falling: &[u64],
     fault: u64,
 ) -> usize
-    requires { TreesReady paths rising.now falling.now × (at + answerBytes ≤ length out.old) }
+    requires { TreesReady paths rising.now falling.now × (at + answer_bytes ≤ length out.old) }
     ensures { Written out.old out.new at
-        (askedLine fault (faultAsked paths rising.now falling.now fault)) result × (result ≤ at + answerBytes) }
+        (asked_line fault (fault_asked paths rising.now falling.now fault)) result × (result ≤ at + answer_bytes) }
 {
     let next = put_number(out, at, fault);
     if !is_fault(paths, fault) {
@@ -68,8 +68,8 @@ fn put_fault(
 
 // The answer to a line that states no number.
 fn put_wrong(out: &mut [u8], at: usize, place: u64) -> usize
-    requires { at + answerBytes ≤ length out.old }
-    ensures { Written out.old out.new at (wrongLine place) result × (result ≤ at + answerBytes) }
+    requires { at + answer_bytes ≤ length out.old }
+    ensures { Written out.old out.new at (wrong_line place) result × (result ≤ at + answer_bytes) }
 {
     put_numbered(out, at, b"line ", place, b": no fault number")
 }
@@ -84,9 +84,9 @@ pub(crate) fn put_answer(
     place: u64,
     line: Stated,
 ) -> usize
-    requires { TreesReady paths rising.now falling.now × (at + answerBytes ≤ length out.old) }
+    requires { TreesReady paths rising.now falling.now × (at + answer_bytes ≤ length out.old) }
     ensures { Written out.old out.new at
-        (answerLine (faultAsked paths rising.now falling.now) place line) result × (result ≤ at + answerBytes) }
+        (answer_line (fault_asked paths rising.now falling.now) place line) result × (result ≤ at + answer_bytes) }
 {
     match line {
         Stated::Nothing => put_wrong(out, at, place),

@@ -1,6 +1,6 @@
 // The number that a line states, digit by digit.
 ghost use Rattle.std.specs.Prelude.{◌≡◌, ◌≤◌};
-ghost use Rattle.ask_text.specs.Questions.{withDigit, byteAfter};
+ghost use Rattle.ask_text.specs.Questions.{with_digit_of, byte_after_of};
 
 use crate::inner::Stated;
 
@@ -10,7 +10,7 @@ const MOST_TENTH: u64 = 1844674407370955161;
 // A number with one more digit, where it is one of 64 bits.
 fn with_digit(number: u64, digit: u64) -> Stated
     requires { digit ≤ 9 }
-    ensures { result ≡ withDigit number digit }
+    ensures { result ≡ with_digit_of number digit }
 {
     if MOST_TENTH < number {
         return Stated::Wrong;
@@ -24,7 +24,7 @@ fn with_digit(number: u64, digit: u64) -> Stated
 
 // What a line states with one more byte.
 pub(crate) fn byte_after(line: Stated, byte: u8) -> Stated
-    ensures { result ≡ byteAfter line byte }
+    ensures { result ≡ byte_after_of line byte }
 {
     if byte < b'0' {
         return Stated::Wrong;

@@ -4,8 +4,8 @@ use Rattle.audit.proofs.AuditCases.{audit-file-cases}
 use Rattle.audit.proofs.audit_file.Statement.{statement}
 use Rattle.audit.proofs.audit_file.Tie as tie
 
-pub audit-file-spec : {M : Type 1} → statement M
-audit-file-spec =
+pub audit_file_spec : {M : Type 1} → statement M
+audit_file_spec =
     tie.close
     (tie.spec
     (λ c κs. search audit-file-cases)

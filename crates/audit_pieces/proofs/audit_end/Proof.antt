@@ -4,8 +4,8 @@ use Rattle.audit_pieces.proofs.EndCases.{call-end-cases}
 use Rattle.audit_pieces.proofs.audit_end.Statement.{statement}
 use Rattle.audit_pieces.proofs.audit_end.Tie as tie
 
-pub audit-end-spec : {M : Type 1} → statement M
-audit-end-spec =
+pub audit_end_spec : {M : Type 1} → statement M
+audit_end_spec =
     tie.close
     (tie.spec
     (λ c κs. search needs)

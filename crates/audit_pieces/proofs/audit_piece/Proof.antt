@@ -4,8 +4,8 @@ use Rattle.audit_pieces.proofs.PieceCases.{call-piece-cases}
 use Rattle.audit_pieces.proofs.audit_piece.Statement.{statement}
 use Rattle.audit_pieces.proofs.audit_piece.Tie as tie
 
-pub audit-piece-spec : {M : Type 1} → statement M
-audit-piece-spec =
+pub audit_piece_spec : {M : Type 1} → statement M
+audit_piece_spec =
     tie.close
     (tie.spec
     (λ c. search call-piece-cases)

@@ -4,8 +4,8 @@ use Rattle.audit_pieces.proofs.EndCases.{Stage-cases}
 use Rattle.audit_pieces.proofs.end_on.Statement.{statement}
 use Rattle.audit_pieces.proofs.end_on.Tie as tie
 
-pub end-on-spec : {M : Type 1} → statement M
-end-on-spec =
+pub end_on_spec : {M : Type 1} → statement M
+end_on_spec =
     tie.close
     (tie.spec
     (λ c κs. search needs) (λ c. search needs) (λ c κs. search needs) (λ c. search needs)

@@ -10,8 +10,8 @@ returns-2 c = search on-cases
 returns-3 : tie.Need-returns-3
 returns-3 c = search on-cases
 
-pub piece-on-spec : {M : Type 1} → statement M
-piece-on-spec =
+pub piece_on_spec : {M : Type 1} → statement M
+piece_on_spec =
     tie.close
     (tie.spec
     (λ c κs. (search needs, search on-cases))

@@ -6,5 +6,5 @@ use Rattle.audit_run_bounds.proofs.store_cannot_fill.Tie as tie
 returns : tie.Need-returns
 returns c = search needs
 
-pub store-cannot-fill-spec : {M : Type 1} → statement M
-store-cannot-fill-spec = tie.close (tie.spec returns)
+pub store_cannot_fill_spec : {M : Type 1} → statement M
+store_cannot_fill_spec = tie.close (tie.spec returns)

@@ -1,7 +1,7 @@
 // What is judged at the end of a text: each output's name is defined, and there is an input and an output.
 ghost use Rattle.std.specs.Prelude.{◌≡◌, ◌*◌, ◌≤◌, length};
 ghost use Rattle.bench_names.specs.NameNets.{NamesRoom};
-ghost use Rattle.bench_circuit.specs.Ending.{pairsKnown, OutputTold, LineTold, TextHeld, EndTrue};
+ghost use Rattle.bench_circuit.specs.Ending.{pairs_known, OutputTold, LineTold, TextHeld, EndTrue};
 
 use crate::inner::judging::NameCounts;
 use bench_lines::inner::lines::next_line;
@@ -27,7 +27,7 @@ fn outputs_known(
 ) -> bool
     requires names_room { NamesRoom inputs.now input_count gates.now gate_count }
     requires output_count_in_bounds { 2 * output_count ≤ length outputs.now }
-    ensures { result ≡ pairsKnown inputs.now input_count gates.now gate_count
+    ensures { result ≡ pairs_known inputs.now input_count gates.now gate_count
         outputs.now output_count 0 }
 {
     let nets = input_count + gate_count;

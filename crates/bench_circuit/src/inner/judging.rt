@@ -3,7 +3,7 @@ ghost use Rattle.std.specs.Prelude.{◌≡◌, ◌+◌, ◌≤◌, length};
 ghost use Rattle.bench_lines.specs.LineReading.{part, NameIn};
 ghost use Rattle.bench_names.specs.NameNets.{NamesRoom};
 ghost use Rattle.bench_circuit.specs.Judging.{InputJudged, OutputJudged, GateJudged};
-ghost use Rattle.bench_circuit.specs.Judging.{HeldRoom, WordsRoom, countedAs, LineTrue, TextTrue};
+ghost use Rattle.bench_circuit.specs.Judging.{HeldRoom, WordsRoom, counted_as, LineTrue, TextTrue};
 
 use bench_lines::inner::keys::{find_key, key_at, put_key};
 use bench_lines::inner::lines::next_line;
@@ -136,7 +136,7 @@ fn add_gate(
 
 // A line's answer by that to its name, and how many there are if it was added.
 fn counted(answer: NameAnswer, inputs: usize, gates: usize, outputs: usize) -> LineAnswer
-    ensures { result ≡ countedAs answer inputs gates outputs }
+    ensures { result ≡ counted_as answer inputs gates outputs }
 {
     match answer {
         NameAnswer::Refused(why) => LineAnswer::Refused(why),

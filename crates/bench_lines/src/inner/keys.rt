@@ -1,8 +1,8 @@
 // Names of at most 16 bytes as two words each, and lists of them in lent words.
 ghost use Rattle.std.specs.Prelude.{◌≡◌, ◌&&◌, ◌+◌, ◌*◌, ◌≤◌, ◌<◌, eqb, length, get_or, set};
-ghost use Rattle.model.specs.Base.{fromLittleEndian};
+ghost use Rattle.model.specs.Base.{from_little_endian};
 ghost use Rattle.bench_lines.specs.LineReading.{part};
-ghost use Rattle.bench_lines.specs.Keys.{key_of, keyPlace};
+ghost use Rattle.bench_lines.specs.Keys.{key_of, key_place};
 
 // A name's bytes low byte first: the first eight, and those after them.
 #[derive(Drop)]
@@ -14,7 +14,7 @@ pub struct NameKey {
 // At most eight bytes as a number, low byte first.
 fn bytes_value(line: &[u8], from: usize, to: usize) -> u64
     requires { (from ≤ to) × (to ≤ length line.now) × (to ≤ from + 8) }
-    ensures { result ≡ fromLittleEndian (part from to line.now) }
+    ensures { result ≡ from_little_endian (part from to line.now) }
 {
     let mut at = to;
     let mut value: u64 = 0;
@@ -55,7 +55,7 @@ fn same_key(words: &[u64], at: usize, low: u64, high: u64) -> bool
 // The place of a key among n keys, or n if it is not there.
 pub fn find_key(words: &[u64], n: usize, low: u64, high: u64) -> usize
     requires { 2 * n ≤ length words.now }
-    ensures { result ≡ keyPlace low high n 0 words.now }
+    ensures { result ≡ key_place low high n 0 words.now }
 {
     let mut i = 0;
     while i < n {

@@ -1,8 +1,8 @@
 // The statement of a line.
 ghost use Rattle.std.specs.Prelude.{◌≡◌, ◌+◌, ◌≤◌, length};
-ghost use Rattle.bench_lines.specs.Text.{place, kindNames, ioNames};
+ghost use Rattle.bench_lines.specs.Text.{place, kind_names, io_names};
 ghost use Rattle.bench_lines.specs.LineReading.{part, NameIn, rest_at};
-ghost use Rattle.bench_lines.specs.Stating.{atEnd, PinIs, NamedThen, PinsStated, KindStated, GateStated};
+ghost use Rattle.bench_lines.specs.Stating.{at_end_of, PinIs, NamedThen, PinsStated, KindStated, GateStated};
 ghost use Rattle.bench_lines.specs.Stating.{IoClosed, IoStated, NameStated, LineStated};
 
 use crate::inner::keys::{find_key, key_at};
@@ -43,7 +43,7 @@ pub enum PinRead {
 // Whether nothing but spaces is left.
 fn at_end(line: &[u8], at: usize) -> bool
     requires { at ≤ length line.now }
-    ensures { result ≡ atEnd (rest_at at line.now) }
+    ensures { result ≡ at_end_of (rest_at at line.now) }
 {
     let token = next_token(line, at);
     match token {
@@ -140,7 +140,7 @@ fn read_pins(line: &[u8], from: usize, to: usize, kind: usize, at: usize) -> Lin
 // The place of a name among the kinds, 8 if it is none.
 fn kind_place(line: &[u8], from: usize, to: usize) -> usize
     requires { NameIn from to line.now }
-    ensures { result ≡ place (part from to line.now) kindNames }
+    ensures { result ≡ place (part from to line.now) kind_names }
 {
     let kinds = [
         0x46465542u64,
@@ -167,7 +167,7 @@ fn kind_place(line: &[u8], from: usize, to: usize) -> usize
 // The place of a name among INPUT and OUTPUT, 2 if it is neither.
 fn io_place(line: &[u8], from: usize, to: usize) -> usize
     requires { NameIn from to line.now }
-    ensures { result ≡ place (part from to line.now) ioNames }
+    ensures { result ≡ place (part from to line.now) io_names }
 {
     let names = [0x5455504E49u64, 0, 0x54555054554F, 0];
     let key = key_at(line, from, to);

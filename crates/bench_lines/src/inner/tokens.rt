@@ -1,6 +1,6 @@
 // The names and signs of a line.
 ghost use Rattle.std.specs.Prelude.{◌≡◌, ◌≤◌, length};
-ghost use Rattle.bench_lines.specs.Text.{nameByte};
+ghost use Rattle.bench_lines.specs.Text.{name_byte};
 ghost use Rattle.bench_lines.specs.LineReading.{SpacesEnd, WordEnd, TokenIs};
 
 // A name from a position to another, a sign with the position after it, or the line's end.
@@ -13,7 +13,7 @@ pub enum NextToken {
 
 // Whether a byte may stand in a name.
 fn is_name_byte(b: u8) -> bool
-    ensures { result ≡ nameByte b }
+    ensures { result ≡ name_byte b }
 {
     if b < 0x30 {
         return false;

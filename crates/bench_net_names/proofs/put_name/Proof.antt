@@ -8,8 +8,8 @@ use Rattle.bench_net_names.proofs.words.put_word.Reads as put-word-reads
 returns-3 : tie.Need-returns-3
 returns-3 c = search (name-short, name-none, name-put, needs)
 
-pub put-name-spec : {M : Type 1} → statement M
-put-name-spec =
+pub put_name_spec : {M : Type 1} → statement M
+put_name_spec =
     tie.close
     (tie.spec
     (λ c. search (name-short, name-none, name-put, needs))

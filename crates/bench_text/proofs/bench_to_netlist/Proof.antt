@@ -4,8 +4,8 @@ use Rattle.bench_text.proofs.ConvertCases.{buffer-short}
 use Rattle.bench_text.proofs.bench_to_netlist.Statement.{statement}
 use Rattle.bench_text.proofs.bench_to_netlist.Tie as tie
 
-pub bench-to-netlist-spec : {M : Type 1} → statement M
-bench-to-netlist-spec =
+pub bench_to_netlist_spec : {M : Type 1} → statement M
+bench_to_netlist_spec =
     tie.close
     (tie.spec
     (λ c. search (buffer-short, needs))

@@ -4,8 +4,8 @@ use Rattle.bench_text.proofs.ConvertCases.{held-text, text-refused}
 use Rattle.bench_text.proofs.convert_with.Statement.{statement}
 use Rattle.bench_text.proofs.convert_with.Tie as tie
 
-pub convert-with-spec : {M : Type 1} → statement M
-convert-with-spec =
+pub convert_with_spec : {M : Type 1} → statement M
+convert_with_spec =
     tie.close
     (tie.spec
     (λ c κs. search needs) (λ c. search needs) (λ c. search needs)

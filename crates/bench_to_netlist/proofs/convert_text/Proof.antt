@@ -4,8 +4,8 @@ use Rattle.bench_text.proofs.FitLaws.{written-fits, written-part}
 use Rattle.bench_to_netlist.proofs.convert_text.Statement.{statement}
 use Rattle.bench_to_netlist.proofs.convert_text.Tie as tie
 
-pub convert-text-spec : {M : Type 1} → statement M
-convert-text-spec =
+pub convert_text_spec : {M : Type 1} → statement M
+convert_text_spec =
     tie.close
     (tie.spec
     (λ c. search needs) (λ c κs. search needs) (λ c. search needs) (λ c κs. search needs) (λ c. search needs)

@@ -3,5 +3,5 @@ use Rattle.model.proofs.Prelude.{ℕ, sym, length-replicate}
 use Rattle.bench_to_netlist.proofs.text_buffer.Statement.{statement}
 use Rattle.bench_to_netlist.proofs.text_buffer.Tie as tie
 
-pub text-buffer-spec : {M : Type 1} → statement M
-text-buffer-spec = tie.close (tie.spec (λ c. sym (length-replicate {A = ℕ} 2097153 0)))
+pub text_buffer_spec : {M : Type 1} → statement M
+text_buffer_spec = tie.close (tie.spec (λ c. sym (length-replicate {A = ℕ} 2097153 0)))

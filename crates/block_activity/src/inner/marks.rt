@@ -4,14 +4,14 @@ ghost use Rattle.model.specs.Base.{bit};
 ghost use Rattle.model.specs.Netlist.{Netlist};
 ghost use Rattle.model.specs.Detect.{Test};
 ghost use Rattle.model.specs.Read.{class_of};
-ghost use Rattle.model.specs.Calls.{workWords};
+ghost use Rattle.model.specs.Calls.{work_words_count};
 ghost use Rattle.block_words.specs.Block.{BlockOf};
 ghost use Rattle.block_words.specs.NetStates.{plane};
 ghost use Rattle.block_words.specs.Table.{CircuitTable};
 ghost use Rattle.block_activity.specs.Marks.{OffsetTable, MarksTrue, VectorsOf};
 ghost use Rattle.block_activity.specs.EdgeMarks.{BatchTables, OutsAre, EdgeWritten, WorkKept};
-ghost use Rattle.block_words.specs.Layout.{netsSize, listsSize};
-ghost use Rattle.block_activity.specs.Layout.{marksSize, out_at};
+ghost use Rattle.block_words.specs.Layout.{nets_size, lists_size};
+ghost use Rattle.block_activity.specs.Layout.{marks_size, out_at};
 
 use crate::inner::Batch;
 use crate::inner::layout::{
@@ -26,7 +26,7 @@ use netlist::inner::Shape;
 
 // The live word of a net that a gate drives; 0 for an input.
 fn gate_word(words: &[u64], inputs: usize, net: usize, edge: usize) -> u64
-    requires { (net < 512) × (edge ≤ 7) × (netsSize ≤ length words.now) }
+    requires { (net < 512) × (edge ≤ 7) × (nets_size ≤ length words.now) }
     ensures { (t : ℕ) → bit result t ≡ (leb inputs net && bit (get_or (plane edge words.now) net 0) t) }
 {
     if net < inputs {
@@ -43,7 +43,7 @@ fn live_outputs(
     words: &[u64],
     edge: usize,
 ) -> [u64; 64]
-    requires { (outputs ≤ 64) × ((o : ℕ) → o < outputs → out_at offsets.now o < 512) × (edge ≤ 7) × (netsSize ≤ length words.now) }
+    requires { (outputs ≤ 64) × ((o : ℕ) → o < outputs → out_at offsets.now o < 512) × (edge ≤ 7) × (nets_size ≤ length words.now) }
     ensures { OutsAre offsets.now inputs outputs (plane edge words.now) result }
 {
     let mut outs = [0u64; 64];
@@ -65,7 +65,7 @@ fn write_marks(
     outs: &[u64; 64],
     marks: &mut [u64; MARKS_SIZE],
 )
-    requires { (records ≤ 64) × (first ≤ 64) × (length marks.old ≡ marksSize) × ((t : ℕ) → t < 64 → get_or lens.now t 0 ≤ 512) }
+    requires { (records ≤ 64) × (first ≤ 64) × (length marks.old ≡ marks_size) × ((t : ℕ) → t < 64 → get_or lens.now t 0 ≤ 512) }
     ensures { EdgeWritten vectors.now records first outs.now lens.now marks.old marks.new }
 {
     let mut t = 0;
@@ -90,10 +90,10 @@ pub fn fill_block(
     marks: &mut [u64; MARKS_SIZE],
     work: &mut [u64],
 )
-    requires { BatchTables table.now offsets.now batch × (listsSize ≤ length rising_lists.old) × (listsSize ≤ length falling_lists.old) × (length marks.old ≡ marksSize)
-        × (workWords ≤ length work.old) }
+    requires { BatchTables table.now offsets.now batch × (lists_size ≤ length rising_lists.old) × (lists_size ≤ length falling_lists.old) × (length marks.old ≡ marks_size)
+        × (work_words_count ≤ length work.old) }
     ensures { (length rising_lists.new ≡ length rising_lists.old) × (length falling_lists.new ≡ length falling_lists.old)
-        × (length marks.new ≡ marksSize)
+        × (length marks.new ≡ marks_size)
         × ((N : Netlist) (tests : ℕ → Test) → CircuitTable N table.now batch.inputs batch.nets → OffsetTable N offsets.now
         → length N.outputs ≡ batch.outputs → BlockOf tests (class_of batch.class) batch.records → VectorsOf N tests batch.records vectors.now
         → MarksTrue N tests batch.records rising_lists.new falling_lists.new marks.new)

@@ -6,7 +6,7 @@ ghost use Rattle.netlist.specs.Tables.{CircuitTables};
 ghost use Rattle.block_words.specs.Table.{CircuitTable};
 ghost use Rattle.block_activity.specs.Marks.{OffsetTable};
 ghost use Rattle.block_activity.specs.OffsetParts.{GateFits, PinsPlaced, GatesFit, GatesPlaced, OutputsFit, OutputsPlaced, SomeOffsets};
-ghost use Rattle.block_activity.specs.Layout.{offsetTableSize};
+ghost use Rattle.block_activity.specs.Layout.{offset_table_size};
 
 use crate::inner::layout::{OFFSET_TABLE_SIZE, OUTPUT_NETS_AT, OUTPUT_OFFSETS_AT};
 use block_words::inner::layout::{GATE_TABLE_SIZE, PIN_COUNTS_AT};
@@ -21,7 +21,7 @@ fn pin_offsets(
     net: usize,
     offsets: &mut [u64; OFFSET_TABLE_SIZE],
 )
-    requires { GateFits counts.now table.now net × (length offsets.old ≡ offsetTableSize) }
+    requires { GateFits counts.now table.now net × (length offsets.old ≡ offset_table_size) }
     ensures { PinsPlaced counts.now table.now net offsets.old offsets.new }
 {
     let pins = wide_word(table[PIN_COUNTS_AT + net]);
@@ -42,7 +42,7 @@ fn gate_offsets(
     high: usize,
     offsets: &mut [u64; OFFSET_TABLE_SIZE],
 )
-    requires { GatesFit counts.now table.now low high × (length offsets.old ≡ offsetTableSize) }
+    requires { GatesFit counts.now table.now low high × (length offsets.old ≡ offset_table_size) }
     ensures { GatesPlaced counts.now table.now low high offsets.new }
 {
     let mut net = low;
@@ -60,7 +60,7 @@ fn output_offsets(
     counts: &[u64; 512],
     offsets: &mut [u64; OFFSET_TABLE_SIZE],
 )
-    requires { OutputsFit part.now inputs outputs counts.now × (length offsets.old ≡ offsetTableSize) }
+    requires { OutputsFit part.now inputs outputs counts.now × (length offsets.old ≡ offset_table_size) }
     ensures { OutputsPlaced part.now inputs outputs counts.now offsets.old offsets.new }
 {
     let mut offset: u64 = 0;
@@ -82,8 +82,8 @@ pub fn fill_path_offsets(
     table: &[u16; GATE_TABLE_SIZE],
     offsets: &mut [u64; OFFSET_TABLE_SIZE],
 )
-    requires { SomeOffsets netlist.now counts.now shape table.now × (length offsets.old ≡ offsetTableSize) }
-    ensures { (length offsets.new ≡ offsetTableSize)
+    requires { SomeOffsets netlist.now counts.now shape table.now × (length offsets.old ≡ offset_table_size) }
+    ensures { (length offsets.new ≡ offset_table_size)
         × ((N : Netlist) (positions : List ℕ) → CircuitTables N netlist.now positions counts.now shape
         → CircuitTable N table.now shape.inputs shape.nets → OffsetTable N offsets.new) }
 {

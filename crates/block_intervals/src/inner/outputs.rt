@@ -1,7 +1,7 @@
 // The runs of the detected path numbers, from those of the live outputs' nets.
-ghost use Rattle.model.specs.Store.{maxRuns};
+ghost use Rattle.model.specs.Store.{max_runs};
 ghost use Rattle.run_lists.specs.Answers.{Adds};
-ghost use Rattle.block_intervals.specs.LiveOutputs.{OutputsReady, runsOfOutputs};
+ghost use Rattle.block_intervals.specs.LiveOutputs.{OutputsReady, runs_of_outputs};
 
 use crate::layout::{ENDS_AT, SHIFTS_AT, SPANS_SIZE};
 use block_activity::inner::layout::{OFFSET_TABLE_SIZE, OUTPUT_NETS_AT, OUTPUT_OFFSETS_AT};
@@ -17,8 +17,8 @@ pub fn out_runs(
     words: &mut [u64],
 ) -> Added
     requires { OutputsReady offsets.now outs spans.now words.old }
-    ensures { Adds words.old words.new maxRuns maxRuns
-        (runsOfOutputs offsets.now outs spans.now words.old) result }
+    ensures { Adds words.old words.new max_runs max_runs
+        (runs_of_outputs offsets.now outs spans.now words.old) result }
 {
     let mut left = outs;
     let mut count = 0;

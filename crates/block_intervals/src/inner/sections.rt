@@ -1,14 +1,14 @@
 // The runs that an edge of the store holds, in one section for each output: where the search for a run of the output begins and ends. Nearly every record of a
 // long file brings nothing new, and then no run is copied. Each caller proves what a function requires.
 ghost use Rattle.std.specs.Prelude.{◌≡◌, true, ◌⊎◌, ℕ, ◌+◌, ◌-◌, ◌*◌, ◌/◌, ◌<◌, ◌≤◌, ◌^◌, length};
-ghost use Rattle.model.specs.Store.{maxRuns};
+ghost use Rattle.model.specs.Store.{max_runs};
 ghost use Rattle.model.specs.Runs.{run};
-ghost use Rattle.run_lists.specs.RunLists.{Sound, runsInWords};
+ghost use Rattle.run_lists.specs.RunLists.{Sound, runs_in_words};
 ghost use Rattle.run_lists.specs.Answers.{RunInside};
 ghost use Rattle.block_intervals.specs.Spans.{Ascending, InputSpans};
 ghost use Rattle.block_intervals.specs.LiveOutputs.{OutputReady, OutputsReady};
 ghost use Rattle.block_intervals.specs.Sections.{SpanHeld, OutputHeld, OutputsHeld, SectionIn, Asked};
-ghost use Rattle.block_intervals.specs.Layout.{spansSize, risingSections, fallingSections};
+ghost use Rattle.block_intervals.specs.Layout.{spans_size, rising_sections, falling_sections};
 
 use crate::layout::{ENDS_AT, RISING_SECTIONS, SECTIONS_SIZE, SHIFTS_AT, SPANS_SIZE};
 use block_activity::inner::layout::{OFFSET_TABLE_SIZE, OUTPUT_NETS_AT, OUTPUT_OFFSETS_AT};
@@ -16,8 +16,8 @@ use run_lists::inner::first_reaching;
 
 // The sections of both edges, empty.
 pub(crate) fn clear_sections(spans: &mut [u64; SPANS_SIZE])
-    requires { length spans.old ≡ spansSize }
-    ensures { (length spans.new ≡ spansSize) × Ascending spans.new risingSections × Ascending spans.new fallingSections }
+    requires { length spans.old ≡ spans_size }
+    ensures { (length spans.new ≡ spans_size) × Ascending spans.new rising_sections × Ascending spans.new falling_sections }
 {
     let mut o = 0;
     while o < SECTIONS_SIZE {
@@ -77,8 +77,8 @@ pub fn find_sections(
     spans: &mut [u64; SPANS_SIZE],
     base: usize,
 )
-    requires { (length spans.old ≡ spansSize) × ((base ≡ risingSections) ⊎ (base ≡ fallingSections)) }
-    ensures { (length spans.new ≡ spansSize)
+    requires { (length spans.old ≡ spans_size) × ((base ≡ rising_sections) ⊎ (base ≡ falling_sections)) }
+    ensures { (length spans.new ≡ spans_size)
         × ((inputs : ℕ) → inputs ≤ 64 → InputSpans spans.old inputs → InputSpans spans.new inputs) }
 {
     spans[base + 65] = whole_outputs(offsets, outputs, held);
@@ -118,7 +118,7 @@ fn span_inside(
     end: usize,
 ) -> bool
     requires from_le_to { (from ≤ to) × (2 * to ≤ length words.now) × (shift ≤ 2 ^ 62) × (begin ≤ end) × (end ≤ length held.now / 2) }
-    requires sound { Sound (2 ^ 62) (runsInWords words.now from (to - from)) }
+    requires sound { Sound (2 ^ 62) (runs_in_words words.now from (to - from)) }
     ensures { result ≡ true → SpanHeld words.now from to shift held.now }
 {
     let mut i = from;
@@ -146,8 +146,8 @@ fn output_inside(
     words: &[u64],
     held: &[u64],
 ) -> bool
-    requires output_bound { (output < 64) × (base ≤ fallingSections) × SectionIn spans.now (base + output) (length held.now / 2) }
-    requires output_ready { OutputReady offsets.now spans.now words.now output × (4 * maxRuns ≤ length words.now) }
+    requires output_bound { (output < 64) × (base ≤ falling_sections) × SectionIn spans.now (base + output) (length held.now / 2) }
+    requires output_ready { OutputReady offsets.now spans.now words.now output × (4 * max_runs ≤ length words.now) }
     ensures { result ≡ true → OutputHeld offsets.now spans.now words.now held.now output }
 {
     let net = offsets[OUTPUT_NETS_AT + output] as usize;
@@ -200,7 +200,7 @@ pub fn outputs_inside(
     words: &[u64],
     held: &[u64],
 ) -> bool
-    requires { (base ≤ fallingSections) × OutputsReady offsets.now outs spans.now words.now × Ascending spans.now base }
+    requires { (base ≤ falling_sections) × OutputsReady offsets.now outs spans.now words.now × Ascending spans.now base }
     ensures { result ≡ true → OutputsHeld offsets.now outs spans.now words.now held.now }
 {
     if ((held.len() / 2) as u64) < spans[base + 64] {

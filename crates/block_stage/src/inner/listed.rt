@@ -3,7 +3,7 @@ ghost use Rattle.std.specs.Prelude.{◌≡◌, ◌<◌};
 ghost use Rattle.model.specs.Netlist.{Netlist};
 ghost use Rattle.model.specs.Detect.{Test};
 ghost use Rattle.store_coverage.specs.Both.{CoversBoth};
-ghost use Rattle.store_coverage.specs.Stage.{workStage, StageIs};
+ghost use Rattle.store_coverage.specs.Stage.{work_stage, StageIs};
 ghost use Rattle.block_intervals.specs.Spans.{InputSpans};
 ghost use Rattle.block_stage.specs.Listed.{edges_at, ListedBoth, SomeListedBoth};
 
@@ -113,7 +113,7 @@ pub(crate) fn apply_listed(
         × ((N : Netlist) (t : Test)
         → ListedBoth N t table.now offsets.now rising_list.now falling_list.now edges store.old spans.old
         work.old
-        → StageIs (workStage N t store.old) store.old store.new work.old work.new result) }
+        → StageIs (work_stage N t store.old) store.old store.new work.old work.new result) }
 {
     let answer = cover_listed(
         table,

@@ -3,7 +3,7 @@
 ghost use Rattle.std.specs.Prelude.{◌≡◌, ◌⊎◌, ℕ, ◌≤◌, length};
 ghost use Rattle.store_words.specs.Sound.{FewRuns};
 ghost use Rattle.block_intervals.specs.Spans.{InputSpans};
-ghost use Rattle.block_intervals.specs.Layout.{spansSize, risingSections, fallingSections};
+ghost use Rattle.block_intervals.specs.Layout.{spans_size, rising_sections, falling_sections};
 
 use block_activity::inner::layout::OFFSET_TABLE_SIZE;
 use block_intervals::inner::input_spans;
@@ -22,7 +22,7 @@ pub fn begin_spans(
     store: &[u64],
     spans: &mut [u64; SPANS_SIZE],
 )
-    requires { (inputs ≤ 64) × FewRuns store.now × (length spans.old ≡ spansSize) }
+    requires { (inputs ≤ 64) × FewRuns store.now × (length spans.old ≡ spans_size) }
     ensures { InputSpans spans.new inputs }
 {
     input_spans(spans, inputs);
@@ -51,8 +51,8 @@ fn renew_edge(
     spans: &mut [u64; SPANS_SIZE],
     base: usize,
 )
-    requires { (length spans.old ≡ spansSize) × ((base ≡ risingSections) ⊎ (base ≡ fallingSections)) }
-    ensures { (length spans.new ≡ spansSize)
+    requires { (length spans.old ≡ spans_size) × ((base ≡ rising_sections) ⊎ (base ≡ falling_sections)) }
+    ensures { (length spans.new ≡ spans_size)
         × ((inputs : ℕ) → inputs ≤ 64 → InputSpans spans.old inputs → InputSpans spans.new inputs) }
 {
     if let Change::Kept = change {
@@ -69,7 +69,7 @@ pub fn renew_sections(
     store: &[u64],
     spans: &mut [u64; SPANS_SIZE],
 )
-    requires { FewRuns store.now × (length spans.old ≡ spansSize) }
+    requires { FewRuns store.now × (length spans.old ≡ spans_size) }
     ensures { (inputs : ℕ) → inputs ≤ 64 → InputSpans spans.old inputs → InputSpans spans.new inputs }
 {
     match answer {

@@ -2,9 +2,9 @@
 // from place 8 n on: under V1, under V2, steady, live for the rising edge, live for the falling edge.
 ghost use Rattle.std.specs.Prelude.{◌≡◌, ◌<◌, ◌≤◌, length};
 ghost use Rattle.model.specs.Read.{kind_of};
-ghost use Rattle.block_words.specs.Words.{noncontrollingMask, GateIs, PinsIn, PinPlace, SidesNoncontrolling, ValueIs, OpenIs};
+ghost use Rattle.block_words.specs.Words.{noncontrolling_mask_of, GateIs, PinsIn, PinPlace, SidesNoncontrolling, ValueIs, OpenIs};
 ghost use Rattle.block_words.specs.NetStates.{PinAdded, PinsScanned};
-ghost use Rattle.block_words.specs.Layout.{netsSize};
+ghost use Rattle.block_words.specs.Layout.{nets_size};
 
 use crate::inner::layout::{GATE_TABLE_SIZE, KINDS_AT, PIN_COUNTS_AT};
 use record_bytes::inner;
@@ -28,7 +28,7 @@ pub struct PinTally {
 
 // All ones where 0 is the controlling value: AND and NAND.
 fn mask_of_kind(kind: u16) -> u64
-    ensures { result ≡ noncontrollingMask (kind_of kind) }
+    ensures { result ≡ noncontrolling_mask_of (kind_of kind) }
 {
     match kind {
         3 => 0xFFFFFFFFFFFFFFFF,
@@ -84,7 +84,7 @@ pub struct PinScan {
 
 // The pins of a gate, the last one first.
 pub fn scan_pins(table: &[u16; GATE_TABLE_SIZE], gate: Gate, words: &[u64]) -> PinScan
-    requires { PinsIn table.now gate × (netsSize ≤ length words.now) }
+    requires { PinsIn table.now gate × (nets_size ≤ length words.now) }
     ensures { PinsScanned table.now gate words.now result }
 {
     let nothing = PinTally {
@@ -141,7 +141,7 @@ pub fn others_noncontrolling(one: u64, two: u64, mark: u64) -> u64
 
 // The open word of a pin with this value word.
 pub fn open_word(gate: Gate, tally: PinTally, value: u64) -> u64
-    requires { gate.noncontrolling_mask ≡ noncontrollingMask (kind_of gate.kind) }
+    requires { gate.noncontrolling_mask ≡ noncontrolling_mask_of (kind_of gate.kind) }
     ensures { OpenIs gate.kind tally value result }
 {
     let kind = gate.kind;

@@ -1,8 +1,8 @@
 // The lists of live gates, one for each record of a block. An entry is 256 net + the byte of its active pins.
 ghost use Rattle.std.specs.Prelude.{◌≡◌, [], ◌∷◌, ◌+◌, ◌*◌, ◌≤◌, ◌<◌};
 ghost use Rattle.model.specs.Base.{bit};
-ghost use Rattle.block_words.specs.Words.{bits_at, firstWords};
-ghost use Rattle.gate_packed_pins.specs.Packed.{packBits};
+ghost use Rattle.block_words.specs.Words.{bits_at, first_words};
+ghost use Rattle.gate_packed_pins.specs.Packed.{pack_bits};
 ghost use Rattle.block_words.specs.Lists.{ListRoom, LowestRecord, entry_of, Pushed};
 
 use crate::inner::layout::LIST_SIZE;
@@ -11,7 +11,7 @@ use record_bytes::inner;
 // One bit of a word.
 fn bit_of(word: u64, place: u64) -> u32
     requires { place < 64 }
-    ensures { result ≡ packBits (bits_at (word ∷ []) place) }
+    ensures { result ≡ pack_bits (bits_at (word ∷ []) place) }
 {
     ((word >> place) & 1) as u32
 }
@@ -19,7 +19,7 @@ fn bit_of(word: u64, place: u64) -> u32
 // The pins that are active in a record, a bit for each. Nearly every gate has two pins, which want no loop.
 fn byte_of(rows: &[u64; 8], pins: usize, place: u64) -> u32
     requires { (pins ≤ 8) × (place < 64) }
-    ensures { (result ≡ packBits (bits_at (firstWords rows.now pins) place)) × (result < 256) }
+    ensures { (result ≡ pack_bits (bits_at (first_words rows.now pins) place)) × (result < 256) }
 {
     if pins == 2 {
         return bit_of(rows[0], place) + 2 * bit_of(rows[1], place);

@@ -1,11 +1,11 @@
 // One gate in a block of records: its steadiness word, the robustly open word of a pin, and the active words of its pins in a class.
 ghost use Rattle.std.specs.Prelude.{◌≡◌, ◌≤◌, length};
 ghost use Rattle.model.specs.Read.{kind_of};
-ghost use Rattle.block_words.specs.Words.{noncontrollingMask, PinsIn};
+ghost use Rattle.block_words.specs.Words.{noncontrolling_mask_of, PinsIn};
 ghost use Rattle.model.specs.Read.{class_of};
 ghost use Rattle.block_words.specs.Robust.{SteadyIs, RobustIs};
 ghost use Rattle.block_words.specs.NetStates.{PinOpenIs, ActiveBoth};
-ghost use Rattle.block_words.specs.Layout.{netsSize};
+ghost use Rattle.block_words.specs.Layout.{nets_size};
 
 use crate::inner::gates;
 use crate::inner::gates::{Gate, PinScan, PinTally};
@@ -26,7 +26,7 @@ pub fn steady_word(kind: u16, unsteady: u64, steady_controlling: u64) -> u64
 
 // The robustly open word of a pin: it moves, the other pins are non-controlling under V2, and it ends non-controlling or they are steady.
 fn robust_word(gate: Gate, last: PinTally, unsteady: PinTally, v1: u64, v2: u64, steady: u64) -> u64
-    requires { (gate.noncontrolling_mask ≡ noncontrollingMask (kind_of gate.kind)) × (gate.kind ≤ 8) }
+    requires { (gate.noncontrolling_mask ≡ noncontrolling_mask_of (kind_of gate.kind)) × (gate.kind ≤ 8) }
     ensures { RobustIs gate.kind last unsteady v1 v2 steady result }
 {
     let kind = gate.kind;
@@ -46,7 +46,7 @@ fn robust_word(gate: Gate, last: PinTally, unsteady: PinTally, v1: u64, v2: u64,
 
 // The open word of a pin in a class.
 fn pin_word(class: u32, gate: Gate, scan: PinScan, v1: u64, v2: u64, steady: u64) -> u64
-    requires { (gate.noncontrolling_mask ≡ noncontrollingMask (kind_of gate.kind)) × (gate.kind ≤ 8) }
+    requires { (gate.noncontrolling_mask ≡ noncontrolling_mask_of (kind_of gate.kind)) × (gate.kind ≤ 8) }
     ensures { PinOpenIs (class_of class) gate.kind scan v1 v2 steady result }
 {
     if class == 2 {
@@ -73,7 +73,7 @@ pub fn active_words(
     rising_rows: &mut [u64; 8],
     falling_rows: &mut [u64; 8],
 ) -> Live
-    requires { PinsIn table.now gate × (gate.noncontrolling_mask ≡ noncontrollingMask (kind_of gate.kind)) × (gate.kind ≤ 8) × (netsSize ≤ length words.now)
+    requires { PinsIn table.now gate × (gate.noncontrolling_mask ≡ noncontrolling_mask_of (kind_of gate.kind)) × (gate.kind ≤ 8) × (nets_size ≤ length words.now)
         × (length rising_rows.old ≡ 8) × (length falling_rows.old ≡ 8) }
     ensures { ActiveBoth (class_of class) table.now gate scan words.now rising_rows.new falling_rows.new result }
 {

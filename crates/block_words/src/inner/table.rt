@@ -2,10 +2,10 @@
 // place 8 n + p; then the gates' kinds and their numbers of pins.
 ghost use Rattle.std.specs.Prelude.{◌≡◌, List, ℕ, ◌+◌, ◌*◌, ◌≤◌, length};
 ghost use Rattle.model.specs.Netlist.{Netlist};
-ghost use Rattle.netlist.specs.Tables.{CircuitTables, SomeCircuit, pinIn};
+ghost use Rattle.netlist.specs.Tables.{CircuitTables, SomeCircuit, pin_in};
 ghost use Rattle.block_words.specs.Words.{Filled};
 ghost use Rattle.block_words.specs.Table.{CircuitTable, NetsIn};
-ghost use Rattle.block_words.specs.Layout.{gateTableSize, kindsAt};
+ghost use Rattle.block_words.specs.Layout.{gate_table_size, kinds_at};
 
 use crate::inner::layout::{GATE_TABLE_SIZE, KINDS_AT, PIN_COUNTS_AT};
 use netlist::inner::{Shape, gate_part, pin_net};
@@ -13,8 +13,8 @@ use record_bytes::inner;
 
 // The nets at the pins of the gate's record with which the part begins, from place `first` on.
 fn fill_pins(part: &[u8], pins: usize, first: usize, table: &mut [u16; GATE_TABLE_SIZE])
-    requires { NetsIn part.now pins × (first + 8 ≤ kindsAt) × (length table.old ≡ gateTableSize) }
-    ensures { Filled first pins (λ p w. w ≡ pinIn part.now p) table.old table.new }
+    requires { NetsIn part.now pins × (first + 8 ≤ kinds_at) × (length table.old ≡ gate_table_size) }
+    ensures { Filled first pins (λ p w. w ≡ pin_in part.now p) table.old table.new }
 {
     let mut k = pins;
     while 0 < k {
@@ -30,8 +30,8 @@ pub fn fill_table(
     shape: Shape,
     table: &mut [u16; GATE_TABLE_SIZE],
 )
-    requires { SomeCircuit netlist.now positions.now shape × (length table.old ≡ gateTableSize) }
-    ensures { (length table.new ≡ gateTableSize)
+    requires { SomeCircuit netlist.now positions.now shape × (length table.old ≡ gate_table_size) }
+    ensures { (length table.new ≡ gate_table_size)
         × ((N : Netlist) (cs : List ℕ) → CircuitTables N netlist.now positions.now cs shape → CircuitTable N table.new shape.inputs shape.nets) }
 {
     let mut net = shape.inputs;

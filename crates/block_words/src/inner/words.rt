@@ -4,7 +4,7 @@ ghost use Rattle.std.specs.Prelude.{◌≡◌, ◌*◌, ◌≤◌, ◌<◌, leng
 ghost use Rattle.block_words.specs.Table.{SomeTable};
 ghost use Rattle.block_words.specs.Lists.{EmptyLists};
 ghost use Rattle.block_words.specs.NetStates.{NetPut, InputWords, StateIs, GatesListed};
-ghost use Rattle.block_words.specs.Layout.{netsSize};
+ghost use Rattle.block_words.specs.Layout.{nets_size};
 
 use crate::inner::gates::{Gate, PinScan};
 use crate::inner::layout::GATE_TABLE_SIZE;
@@ -29,7 +29,7 @@ pub struct NetState {
 
 // Writes the words of a net.
 pub fn put_net(words: &mut [u64], net: usize, state: NetState)
-    requires { (net < 512) × (netsSize ≤ length words.old) }
+    requires { (net < 512) × (nets_size ≤ length words.old) }
     ensures { NetPut net state words.old words.new }
 {
     let at = 8 * net;
@@ -48,7 +48,7 @@ pub fn input_words(
     n: usize,
     words: &mut [u64],
 )
-    requires { (inputs ≤ 64) × (n ≤ 64) × (netsSize ≤ length words.old) }
+    requires { (inputs ≤ 64) × (n ≤ 64) × (nets_size ≤ length words.old) }
     ensures { InputWords firsts.now lasts.now inputs n words.old words.new }
 {
     let within = masks::first_records(n);
@@ -98,7 +98,7 @@ pub fn gate_lists(
     rising_lens: &mut [u16; 64],
     falling_lens: &mut [u16; 64],
 )
-    requires { SomeTable table.now shape.inputs shape.nets × (netsSize ≤ length words.old) × EmptyLists rising_lists.old rising_lens.old
+    requires { SomeTable table.now shape.inputs shape.nets × (nets_size ≤ length words.old) × EmptyLists rising_lists.old rising_lens.old
         × EmptyLists falling_lists.old falling_lens.old }
     ensures { GatesListed table.now shape class words.old words.new rising_lists.old rising_lists.new rising_lens.new
         falling_lists.old falling_lists.new falling_lens.new }

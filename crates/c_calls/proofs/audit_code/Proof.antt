@@ -4,6 +4,6 @@ use Rattle.c_calls.proofs.AnswerCases.{code-cases}
 use Rattle.c_calls.proofs.audit_code.Statement.{statement}
 use Rattle.c_calls.proofs.audit_code.Tie as tie
 
-pub audit-code-spec : {M : Type 1} → statement M
-audit-code-spec =
+pub audit_code_spec : {M : Type 1} → statement M
+audit_code_spec =
     tie.close (tie.spec (λ c. search needs) (λ c κs. search needs) (λ c. search needs) (λ c. search code-cases) (λ c. search code-cases))

@@ -4,8 +4,8 @@ use Rattle.c_calls.proofs.AnswerCases.{bench-cases}
 use Rattle.c_calls.proofs.bench_code.Statement.{statement}
 use Rattle.c_calls.proofs.bench_code.Tie as tie
 
-pub bench-code-spec : {M : Type 1} → statement M
-bench-code-spec =
+pub bench_code_spec : {M : Type 1} → statement M
+bench_code_spec =
     tie.close
     (tie.spec
     (λ c. search needs) (λ c κs. search needs) (λ c. search needs) (λ c κs. search needs)

@@ -4,8 +4,8 @@ use Rattle.c_calls.proofs.AnswerCases.{fault-cases}
 use Rattle.c_calls.proofs.fault_code.Statement.{statement}
 use Rattle.c_calls.proofs.fault_code.Tie as tie
 
-pub fault-code-spec : {M : Type 1} → statement M
-fault-code-spec =
+pub fault_code_spec : {M : Type 1} → statement M
+fault_code_spec =
     tie.close
     (tie.spec
     (λ c. search needs) (λ c κs. search needs) (λ c. search needs) (λ c κs. search needs)

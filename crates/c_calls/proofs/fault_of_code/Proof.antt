@@ -7,8 +7,8 @@ use Rattle.c_calls.proofs.fault_of_code.Tie as tie
 returns-2 : tie.Need-returns-2
 returns-2 c = search fault-of-cases
 
-pub fault-of-code-spec : {M : Type 1} → statement M
-fault-of-code-spec =
+pub fault_of_code_spec : {M : Type 1} → statement M
+fault_of_code_spec =
     tie.close
     (tie.spec
     (λ c κs. search needs) (λ c κs. search needs)

@@ -4,8 +4,8 @@ use Rattle.c_calls.proofs.AnswerCases.{load-cases}
 use Rattle.c_calls.proofs.load_code.Statement.{statement}
 use Rattle.c_calls.proofs.load_code.Tie as tie
 
-pub load-code-spec : {M : Type 1} → statement M
-load-code-spec =
+pub load_code_spec : {M : Type 1} → statement M
+load_code_spec =
     tie.close
     (tie.spec
     (λ c. search needs) (λ c κs. search needs) (λ c. search needs) (λ c. search needs) (λ c. search needs)

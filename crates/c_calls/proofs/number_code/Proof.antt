@@ -4,8 +4,8 @@ use Rattle.c_calls.proofs.AnswerCases.{number-cases}
 use Rattle.c_calls.proofs.number_code.Statement.{statement}
 use Rattle.c_calls.proofs.number_code.Tie as tie
 
-pub number-code-spec : {M : Type 1} → statement M
-number-code-spec =
+pub number_code_spec : {M : Type 1} → statement M
+number_code_spec =
     tie.close
     (tie.spec
     (λ c. search needs) (λ c κs. search needs) (λ c. search needs) (λ c κs. search needs)

@@ -4,6 +4,6 @@ use Rattle.c_calls.proofs.AnswerCases.{code-cases}
 use Rattle.c_calls.proofs.path_code.Statement.{statement}
 use Rattle.c_calls.proofs.path_code.Tie as tie
 
-pub path-code-spec : {M : Type 1} → statement M
-path-code-spec =
+pub path_code_spec : {M : Type 1} → statement M
+path_code_spec =
     tie.close (tie.spec (λ c. search needs) (λ c κs. search needs) (λ c. search needs) (λ c. search code-cases) (λ c. search code-cases))

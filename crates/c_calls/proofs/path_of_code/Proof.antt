@@ -10,8 +10,8 @@ returns c = search path-of-cases
 returns-2 : tie.Need-returns-2
 returns-2 c = search path-of-cases
 
-pub path-of-code-spec : {M : Type 1} → statement M
-path-of-code-spec =
+pub path_of_code_spec : {M : Type 1} → statement M
+path_of_code_spec =
     tie.close
     (tie.spec
     (λ c κs. search needs)

@@ -4,8 +4,8 @@ use Rattle.c_calls.proofs.AnswerCases.{piece-cases}
 use Rattle.c_calls.proofs.piece_code.Statement.{statement}
 use Rattle.c_calls.proofs.piece_code.Tie as tie
 
-pub piece-code-spec : {M : Type 1} → statement M
-piece-code-spec =
+pub piece_code_spec : {M : Type 1} → statement M
+piece_code_spec =
     tie.close
     (tie.spec
     (λ c. search needs) (λ c κs. search needs) (λ c. search needs) (λ c κs. search needs) (λ c. search needs)

@@ -4,8 +4,8 @@ use Rattle.c_calls.proofs.AnswerCases.{survey-cases}
 use Rattle.c_calls.proofs.survey_code.Statement.{statement}
 use Rattle.c_calls.proofs.survey_code.Tie as tie
 
-pub survey-code-spec : {M : Type 1} → statement M
-survey-code-spec =
+pub survey_code_spec : {M : Type 1} → statement M
+survey_code_spec =
     tie.close
     (tie.spec
     (λ c. search needs) (λ c κs. search needs) (λ c. search needs) (λ c κs. search needs)

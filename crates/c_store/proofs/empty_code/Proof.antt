@@ -4,6 +4,6 @@ use Rattle.c_store.proofs.StoreAnswerCases.{empty-cases}
 use Rattle.c_store.proofs.empty_code.Statement.{statement}
 use Rattle.c_store.proofs.empty_code.Tie as tie
 
-pub empty-code-spec : {M : Type 1} → statement M
-empty-code-spec =
+pub empty_code_spec : {M : Type 1} → statement M
+empty_code_spec =
     tie.close (tie.spec (λ c. search needs) (λ c κs. search needs) (λ c. search needs) (λ c. search empty-cases) (λ c. search empty-cases))

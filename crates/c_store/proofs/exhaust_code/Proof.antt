@@ -4,8 +4,8 @@ use Rattle.c_store.proofs.StoreAnswerCases.{exhaust-cases}
 use Rattle.c_store.proofs.exhaust_code.Statement.{statement}
 use Rattle.c_store.proofs.exhaust_code.Tie as tie
 
-pub exhaust-code-spec : {M : Type 1} → statement M
-exhaust-code-spec =
+pub exhaust_code_spec : {M : Type 1} → statement M
+exhaust_code_spec =
     tie.close
     (tie.spec
     (λ c. search needs) (λ c κs. search needs) (λ c. search needs) (λ c. search needs) (λ c. search needs)

@@ -7,8 +7,8 @@ use Rattle.c_store.proofs.held_code.Tie as tie
 returns : tie.Need-returns
 returns c = search held-cases
 
-pub held-code-spec : {M : Type 1} → statement M
-held-code-spec =
+pub held_code_spec : {M : Type 1} → statement M
+held_code_spec =
     tie.close
     (tie.spec
     (λ c. search needs) (λ c κs. search needs) (λ c. search needs) (λ c κs. search needs) (λ c. search needs)

@@ -4,8 +4,8 @@ use Rattle.c_store.proofs.StoreAnswerCases.{lengths-cases}
 use Rattle.c_store.proofs.lengths_code.Statement.{statement}
 use Rattle.c_store.proofs.lengths_code.Tie as tie
 
-pub lengths-code-spec : {M : Type 1} → statement M
-lengths-code-spec =
+pub lengths_code_spec : {M : Type 1} → statement M
+lengths_code_spec =
     tie.close
     (tie.spec
     (λ c. search needs) (λ c κs. search needs) (λ c. search needs) (λ c κs. search needs) (λ c κs. search needs)

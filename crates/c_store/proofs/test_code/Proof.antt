@@ -4,8 +4,8 @@ use Rattle.c_store.proofs.StoreAnswerCases.{test-cases}
 use Rattle.c_store.proofs.test_code.Statement.{statement}
 use Rattle.c_store.proofs.test_code.Tie as tie
 
-pub test-code-spec : {M : Type 1} → statement M
-test-code-spec =
+pub test_code_spec : {M : Type 1} → statement M
+test_code_spec =
     tie.close
     (tie.spec
     (λ c. search needs) (λ c κs. search needs) (λ c. search needs) (λ c. search needs) (λ c. search needs)

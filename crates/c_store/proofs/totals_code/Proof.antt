@@ -10,8 +10,8 @@ returns c = search totals-cases
 returns-2 : tie.Need-returns-2
 returns-2 c = search totals-cases
 
-pub totals-code-spec : {M : Type 1} → statement M
-totals-code-spec =
+pub totals_code_spec : {M : Type 1} → statement M
+totals_code_spec =
     tie.close
     (tie.spec
     (λ c. search needs) (λ c κs. search needs) (λ c. search needs) (λ c. search needs) (λ c. search needs)

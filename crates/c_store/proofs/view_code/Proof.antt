@@ -4,6 +4,6 @@ use Rattle.c_store.proofs.StoreAnswerCases.{view-cases}
 use Rattle.c_store.proofs.view_code.Statement.{statement}
 use Rattle.c_store.proofs.view_code.Tie as tie
 
-pub view-code-spec : {M : Type 1} → statement M
-view-code-spec =
+pub view_code_spec : {M : Type 1} → statement M
+view_code_spec =
     tie.close (tie.spec (λ c. search needs) (λ c κs. search needs) (λ c. search needs) (λ c. search view-cases) (λ c. search view-cases))

@@ -4,6 +4,6 @@ use Rattle.c_tree.proofs.TreeAnswerCases.{code-cases}
 use Rattle.c_tree.proofs.changed_code.Statement.{statement}
 use Rattle.c_tree.proofs.changed_code.Tie as tie
 
-pub changed-code-spec : {M : Type 1} → statement M
-changed-code-spec =
+pub changed_code_spec : {M : Type 1} → statement M
+changed_code_spec =
     tie.close (tie.spec (λ c. search needs) (λ c κs. search needs) (λ c. search needs) (λ c. search code-cases) (λ c. search code-cases))

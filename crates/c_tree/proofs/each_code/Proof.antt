@@ -4,8 +4,8 @@ use Rattle.c_tree.proofs.TreeAnswerCases.{each-cases}
 use Rattle.c_tree.proofs.each_code.Statement.{statement}
 use Rattle.c_tree.proofs.each_code.Tie as tie
 
-pub each-code-spec : {M : Type 1} → statement M
-each-code-spec =
+pub each_code_spec : {M : Type 1} → statement M
+each_code_spec =
     tie.close
     (tie.spec
     (λ c. search needs) (λ c κs. search needs) (λ c. search needs) (λ c κs. search needs)

@@ -7,8 +7,8 @@ use Rattle.c_tree.proofs.found_code.Tie as tie
 returns-3 : tie.Need-returns-3
 returns-3 c = search found-cases
 
-pub found-code-spec : {M : Type 1} → statement M
-found-code-spec =
+pub found_code_spec : {M : Type 1} → statement M
+found_code_spec =
     tie.close
     (tie.spec
     (λ c. search needs) (λ c κs. search needs) (λ c. search needs) (λ c κs. search needs) (λ c. search needs)

@@ -7,8 +7,8 @@ use Rattle.c_tree.proofs.holds_code.Tie as tie
 returns-2 : tie.Need-returns-2
 returns-2 c = search holds-cases
 
-pub holds-code-spec : {M : Type 1} → statement M
-holds-code-spec =
+pub holds_code_spec : {M : Type 1} → statement M
+holds_code_spec =
     tie.close
     (tie.spec
     (λ c. search needs) (λ c κs. search needs) (λ c. search needs) (λ c κs. search needs) (λ c. search needs)

@@ -4,8 +4,8 @@ use Rattle.c_tree.proofs.TreeAnswerCases.{total-cases}
 use Rattle.c_tree.proofs.total_code.Statement.{statement}
 use Rattle.c_tree.proofs.total_code.Tie as tie
 
-pub total-code-spec : {M : Type 1} → statement M
-total-code-spec =
+pub total_code_spec : {M : Type 1} → statement M
+total_code_spec =
     tie.close
     (tie.spec
     (λ c. search needs) (λ c κs. search needs) (λ c. search needs) (λ c κs. search needs)

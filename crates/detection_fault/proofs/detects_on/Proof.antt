@@ -4,8 +4,8 @@ use Rattle.detection_fault.proofs.DetectionCases.{on-cases}
 use Rattle.detection_fault.proofs.detects_on.Statement.{statement}
 use Rattle.detection_fault.proofs.detects_on.Tie as tie
 
-pub detects-on-spec : {M : Type 1} → statement M
-detects-on-spec =
+pub detects_on_spec : {M : Type 1} → statement M
+detects_on_spec =
     tie.close
     (tie.spec
     (λ c κs. search needs)

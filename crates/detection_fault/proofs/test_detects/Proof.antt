@@ -4,8 +4,8 @@ use Rattle.detection_fault.proofs.DetectionCases.{call-cases}
 use Rattle.detection_fault.proofs.test_detects.Statement.{statement}
 use Rattle.detection_fault.proofs.test_detects.Tie as tie
 
-pub test-detects-spec : {M : Type 1} → statement M
-test-detects-spec =
+pub test_detects_spec : {M : Type 1} → statement M
+test_detects_spec =
     tie.close
     (tie.spec
     (λ c κs. search call-cases)

@@ -39,8 +39,8 @@ returns-2 c =
     let start = tables.before.before.before.before.before.before.before.before.before.before.before in
     pairs-taken _ _ _ _ start.requires.0 start.requires.1 tables.fill-tables.ensures applied.apply-all-pairs.ensures c.before.before.enum_told.given.1 _ c.totals-of.ensures
 
-pub apply-pairs-spec : {M : Type 1} → statement M
-apply-pairs-spec =
+pub apply_pairs_spec : {M : Type 1} → statement M
+apply_pairs_spec =
     tie.close
     (tie.spec
     fill-tables-requires

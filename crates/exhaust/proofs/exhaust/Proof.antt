@@ -13,8 +13,8 @@ apply-pairs-requires c κs = search exhaust-cases
 returns-6 : tie.Need-returns-6
 returns-6 c = search exhaust-cases
 
-pub exhaust-spec : {M : Type 1} → statement M
-exhaust-spec =
+pub exhaust_spec : {M : Type 1} → statement M
+exhaust_spec =
     tie.close
     (tie.spec
     (λ c. search exhaust-cases)

@@ -9,8 +9,8 @@ invariant-loop netlist list i₀ i = i ≤ length list
 abbrev decreases-loop : tie.decreases-loop
 decreases-loop netlist list i₀ i = length list - i
 
-pub print-faults-spec : {M : Type 1} → statement M
-print-faults-spec =
+pub print_faults_spec : {M : Type 1} → statement M
+print_faults_spec =
     tie.close
     (tie.spec
     invariant-loop

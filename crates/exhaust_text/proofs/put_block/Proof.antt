@@ -4,8 +4,8 @@ use Rattle.exhaust_text.proofs.BlockShownCases.{shown-cases}
 use Rattle.exhaust_text.proofs.put_block.Statement.{statement}
 use Rattle.exhaust_text.proofs.put_block.Tie as tie
 
-pub put-block-spec : {M : Type 1} → statement M
-put-block-spec =
+pub put_block_spec : {M : Type 1} → statement M
+put_block_spec =
     tie.close
     (tie.spec
     (λ c κs. search needs) (λ c κs. search needs) (λ c. search needs) (λ c. search needs) (λ c κs. search needs)

@@ -1,8 +1,8 @@
 -- `exhaust_undetected_text::fault_line` meets its contract: the parts one after the other, and the line holds them all.
 use Rattle.model.proofs.Prelude.{◌∙◌, needs}
-use Rattle.exhaust_undetected_text.specs.UndetectedText.{faultText}
+use Rattle.exhaust_undetected_text.specs.UndetectedText.{fault_text}
 use Rattle.exhaust_undetected_text.proofs.UndetectedLineCases.{fault-short, fault-parts}
-use Rattle.text_line.proofs.LineLaws.{first_part, then-part, as-part, onLine-alone}
+use Rattle.text_line.proofs.LineLaws.{first_part, then-part, as_part, on_line-alone}
 use Rattle.exhaust_undetected_text.proofs.fault_line.Statement.{statement}
 use Rattle.exhaust_undetected_text.proofs.fault_line.Tie as tie
 
@@ -24,10 +24,10 @@ returns c =
     let p5 = then-part _ _ _ _ _ p4 at-word3.with-text3.ensures in
     let p6 = then-part _ _ _ _ _ p5 c.with-number2.ensures in
     let parts = fault-parts f.0 at_path.path-of.result.0 at_code.Edge-of.result at_code.Edge-of.ensures at_path.path-of.ensures in
-    as-part _ _ _ _ p6 parts ∙ onLine-alone (faultText f.0) (fault-short f.0)
+    as_part _ _ _ _ p6 parts ∙ on_line-alone (fault_text f.0) (fault-short f.0)
 
-pub fault-line-spec : {M : Type 1} → statement M
-fault-line-spec =
+pub fault_line_spec : {M : Type 1} → statement M
+fault_line_spec =
     tie.close
     (tie.spec
     (λ c κs. search needs) (λ c. search needs) (λ c κs. search needs) (λ c κs. search needs) (λ c. search needs)

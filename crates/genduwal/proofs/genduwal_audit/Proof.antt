@@ -8,6 +8,6 @@ returns c =
     let called = c.before.before.before.before.before.audit.ensures in
     (c.audit-code.ensures ∙ called.answer, (called.store, called.work))
 
-pub genduwal-audit-spec : {M : Type 1} → statement M
-genduwal-audit-spec =
+pub genduwal_audit_spec : {M : Type 1} → statement M
+genduwal_audit_spec =
     tie.close (tie.spec (λ c κs. search needs) (λ c κs. search needs) (λ c. search needs) (λ c. search needs) returns)

@@ -8,6 +8,6 @@ returns c =
     let called = c.before.before.before.audit-begin.ensures in
     (c.begin-code.ensures ∙ called.answer, called.store)
 
-pub genduwal-audit-begin-spec : {M : Type 1} → statement M
-genduwal-audit-begin-spec =
+pub genduwal_audit_begin_spec : {M : Type 1} → statement M
+genduwal_audit_begin_spec =
     tie.close (tie.spec (λ c κs. search needs) (λ c κs. search needs) (λ c. search needs) returns)

@@ -17,8 +17,8 @@ returns-2 c =
     let called = c.before.before.before.before.audit-end.ensures in
     (end-accepted called c.enum_told.given.1, called.store)
 
-pub genduwal-audit-end-spec : {M : Type 1} → statement M
-genduwal-audit-end-spec =
+pub genduwal_audit_end_spec : {M : Type 1} → statement M
+genduwal_audit_end_spec =
     tie.close
     (tie.spec
     (λ c κs. search needs) (λ c. search needs)

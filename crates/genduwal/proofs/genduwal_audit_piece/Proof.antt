@@ -1,6 +1,6 @@
 -- `genduwal::genduwal_audit_piece` meets its contract: code and words are those of the answer of the call beneath.
 use Rattle.model.proofs.Prelude.{ap, needs}
-use Rattle.c_calls.specs.Answers.{allTaken}
+use Rattle.c_calls.specs.Answers.{all_taken}
 use Rattle.c_answer_words.proofs.CodeLaws.{answered-by}
 use Rattle.genduwal.proofs.genduwal_audit_piece.Statement.{statement}
 use Rattle.genduwal.proofs.genduwal_audit_piece.Tie as tie
@@ -8,8 +8,8 @@ use Rattle.genduwal.proofs.genduwal_audit_piece.Tie as tie
 returns : tie.Need-returns
 returns c =
     let called = c.before.before.before.before.before.before.audit-piece.ensures in
-    (answered-by (ap allTaken called.answer) c.piece-code.ensures, (called.store, called.memory))
+    (answered-by (ap all_taken called.answer) c.piece-code.ensures, (called.store, called.memory))
 
-pub genduwal-audit-piece-spec : {M : Type 1} → statement M
-genduwal-audit-piece-spec =
+pub genduwal_audit_piece_spec : {M : Type 1} → statement M
+genduwal_audit_piece_spec =
     tie.close (tie.spec (λ c κs. search needs) (λ c κs. search needs) (λ c. search needs) (λ c. search needs) returns)

@@ -9,6 +9,6 @@ returns c =
     let called = c.before.before.before.before.bench-to-netlist.ensures in
     (answered-by called.answer c.bench-code.ensures, called.buffer)
 
-pub genduwal-bench-to-netlist-spec : {M : Type 1} → statement M
-genduwal-bench-to-netlist-spec =
+pub genduwal_bench_to_netlist_spec : {M : Type 1} → statement M
+genduwal_bench_to_netlist_spec =
     tie.close (tie.spec (λ c κs. search needs) (λ c κs. search needs) (λ c. search needs) returns)

@@ -8,5 +8,5 @@ returns c =
     let called = c.before.before.before.empty.ensures in
     (c.empty_code.ensures ∙ called.answer, called.store)
 
-pub genduwal-empty-spec : {M : Type 1} → statement M
-genduwal-empty-spec = tie.close (tie.spec (λ c κs. search needs) (λ c κs. search needs) (λ c. search needs) returns)
+pub genduwal_empty_spec : {M : Type 1} → statement M
+genduwal_empty_spec = tie.close (tie.spec (λ c κs. search needs) (λ c κs. search needs) (λ c. search needs) returns)

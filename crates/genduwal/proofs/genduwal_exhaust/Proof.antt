@@ -9,6 +9,6 @@ returns c =
     let called = c.before.before.before.before.before.before.exhaust.ensures in
     (answered-by called.answer c.exhaust-code.ensures, (called.store, called.work))
 
-pub genduwal-exhaust-spec : {M : Type 1} → statement M
-genduwal-exhaust-spec =
+pub genduwal_exhaust_spec : {M : Type 1} → statement M
+genduwal_exhaust_spec =
     tie.close (tie.spec (λ c κs. search needs) (λ c κs. search needs) (λ c. search needs) (λ c. search needs) returns)

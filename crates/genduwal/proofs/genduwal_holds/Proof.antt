@@ -9,5 +9,5 @@ returns c =
     let called = c.before.before.fault-in-store.ensures in
     answered-by called c.held-code.ensures
 
-pub genduwal-holds-spec : {M : Type 1} → statement M
-genduwal-holds-spec = tie.close (tie.spec (λ c κs. search needs) (λ c κs. search needs) returns)
+pub genduwal_holds_spec : {M : Type 1} → statement M
+genduwal_holds_spec = tie.close (tie.spec (λ c κs. search needs) (λ c κs. search needs) returns)

@@ -10,5 +10,5 @@ returns c =
     let called = c.before.before.coverage-by-length.ensures in
     answered-by (lengths-is called) c.lengths-code.ensures
 
-pub genduwal-lengths-spec : {M : Type 1} → statement M
-genduwal-lengths-spec = tie.close (tie.spec (λ c κs. search needs) (λ c κs. search needs) returns)
+pub genduwal_lengths_spec : {M : Type 1} → statement M
+genduwal_lengths_spec = tie.close (tie.spec (λ c κs. search needs) (λ c κs. search needs) returns)

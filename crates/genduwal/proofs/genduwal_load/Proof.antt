@@ -9,6 +9,6 @@ returns c =
     let called = c.before.before.before.before.write-load.ensures in
     (answered-by called.answer c.load_code.ensures, called.buffer)
 
-pub genduwal-load-spec : {M : Type 1} → statement M
-genduwal-load-spec =
+pub genduwal_load_spec : {M : Type 1} → statement M
+genduwal_load_spec =
     tie.close (tie.spec (λ c κs. search needs) (λ c κs. search needs) (λ c. search needs) returns)

@@ -8,6 +8,6 @@ returns c =
     let called = c.before.before.before.number-to-path.ensures in
     (c.path-code.ensures ∙ called.answer, called.buffer)
 
-pub genduwal-number-to-path-spec : {M : Type 1} → statement M
-genduwal-number-to-path-spec =
+pub genduwal_number_to_path_spec : {M : Type 1} → statement M
+genduwal_number_to_path_spec =
     tie.close (tie.spec (λ c κs. search needs) (λ c κs. search needs) (λ c. search needs) returns)

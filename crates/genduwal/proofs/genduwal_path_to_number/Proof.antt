@@ -9,6 +9,6 @@ returns c =
     let called = c.before.before.path-to-number.ensures in
     answered-by called c.number-code.ensures
 
-pub genduwal-path-to-number-spec : {M : Type 1} → statement M
-genduwal-path-to-number-spec =
+pub genduwal_path_to_number_spec : {M : Type 1} → statement M
+genduwal_path_to_number_spec =
     tie.close (tie.spec (λ c κs. search needs) (λ c κs. search needs) returns)

@@ -10,5 +10,5 @@ returns c =
     let called = c.before.before.survey.ensures in
     answered-by (survey-is called) c.survey-code.ensures
 
-pub genduwal-survey-spec : {M : Type 1} → statement M
-genduwal-survey-spec = tie.close (tie.spec (λ c κs. search needs) (λ c κs. search needs) returns)
+pub genduwal_survey_spec : {M : Type 1} → statement M
+genduwal_survey_spec = tie.close (tie.spec (λ c κs. search needs) (λ c κs. search needs) returns)

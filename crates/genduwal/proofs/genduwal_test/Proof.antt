@@ -9,6 +9,6 @@ returns c =
     let called = c.before.before.before.before.before.before.apply-test.ensures in
     (answered-by called.answer c.test-code.ensures, (called.store, called.memory))
 
-pub genduwal-test-spec : {M : Type 1} → statement M
-genduwal-test-spec =
+pub genduwal_test_spec : {M : Type 1} → statement M
+genduwal_test_spec =
     tie.close (tie.spec (λ c κs. search needs) (λ c κs. search needs) (λ c. search needs) (λ c. search needs) returns)

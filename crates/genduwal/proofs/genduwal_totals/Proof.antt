@@ -4,5 +4,5 @@ use Rattle.c_answer_words.proofs.CodeLaws.{answered-by}
 use Rattle.genduwal.proofs.genduwal_totals.Statement.{statement}
 use Rattle.genduwal.proofs.genduwal_totals.Tie as tie
 
-pub genduwal-totals-spec : {M : Type 1} → statement M
-genduwal-totals-spec = tie.close (tie.spec (λ c κs. search needs) (λ c κs. search needs) (λ c. let called = c.before.before.totals.ensures in answered-by called c.totals-code.ensures))
+pub genduwal_totals_spec : {M : Type 1} → statement M
+genduwal_totals_spec = tie.close (tie.spec (λ c κs. search needs) (λ c κs. search needs) (λ c. let called = c.before.before.totals.ensures in answered-by called c.totals-code.ensures))

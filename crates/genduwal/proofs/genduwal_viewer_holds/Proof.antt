@@ -4,8 +4,8 @@ use Rattle.c_answer_words.proofs.CodeLaws.{answered-by}
 use Rattle.genduwal.proofs.genduwal_viewer_holds.Statement.{statement}
 use Rattle.genduwal.proofs.genduwal_viewer_holds.Tie as tie
 
-pub genduwal-viewer-holds-spec : {M : Type 1} → statement M
-genduwal-viewer-holds-spec =
+pub genduwal_viewer_holds_spec : {M : Type 1} → statement M
+genduwal_viewer_holds_spec =
     tie.close
     (tie.spec
     (λ c κs. search needs) (λ c κs. search needs)

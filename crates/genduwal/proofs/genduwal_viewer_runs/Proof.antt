@@ -8,6 +8,6 @@ returns c =
     let called = c.before.before.before.viewer-runs.ensures in
     (c.view-code.ensures ∙ called.answer, called.words)
 
-pub genduwal-viewer-runs-spec : {M : Type 1} → statement M
-genduwal-viewer-runs-spec =
+pub genduwal_viewer_runs_spec : {M : Type 1} → statement M
+genduwal_viewer_runs_spec =
     tie.close (tie.spec (λ c κs. search needs) (λ c κs. search needs) (λ c. search needs) returns)

@@ -9,5 +9,5 @@ returns c =
     let called = c.before.before.viewer-totals.ensures in
     answered-by called c.totals-code.ensures
 
-pub genduwal-viewer-totals-spec : {M : Type 1} → statement M
-genduwal-viewer-totals-spec = tie.close (tie.spec (λ c κs. search needs) (λ c κs. search needs) returns)
+pub genduwal_viewer_totals_spec : {M : Type 1} → statement M
+genduwal_viewer_totals_spec = tie.close (tie.spec (λ c κs. search needs) (λ c κs. search needs) returns)

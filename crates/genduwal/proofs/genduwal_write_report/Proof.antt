@@ -9,6 +9,6 @@ returns c =
     let called = c.before.before.before.before.write-report.ensures in
     (answered-by called.answer c.report-code.ensures, called.buffer)
 
-pub genduwal-write-report-spec : {M : Type 1} → statement M
-genduwal-write-report-spec =
+pub genduwal_write_report_spec : {M : Type 1} → statement M
+genduwal_write_report_spec =
     tie.close (tie.spec (λ c κs. search needs) (λ c κs. search needs) (λ c. search needs) returns)

@@ -4,8 +4,8 @@ use Rattle.length_coverage.proofs.LengthCallCases.{call-cases}
 use Rattle.length_coverage.proofs.coverage_by_length.Statement.{statement}
 use Rattle.length_coverage.proofs.coverage_by_length.Tie as tie
 
-pub coverage-by-length-spec : {M : Type 1} → statement M
-coverage-by-length-spec =
+pub coverage_by_length_spec : {M : Type 1} → statement M
+coverage_by_length_spec =
     tie.close
     (tie.spec
     (λ c κs. search needs)

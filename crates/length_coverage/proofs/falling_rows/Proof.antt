@@ -30,7 +30,7 @@ use Rattle.length_coverage.specs.contracts.falling_rows.Key.{name as #f}
 use Rattle.length_coverage.specs.contracts.falling_rows as f
 use Rattle.length_coverage.proofs.falling_rows.Statement as stated
 use Rattle.length_coverage.proofs.falling_rows.Code as code
-use Rattle.length_coverage.proofs.RowPairs.{Pair, pair-laws, pair-makes, inField, field-same}
+use Rattle.length_coverage.proofs.RowPairs.{Pair, pair-laws, pair-makes, in_field, field-same}
 
 abbrev stayed : Stays (f.ended).signature.params (f.ended).kept
 stayed = (stay_none (λ _. T.the_row) yes, tt)
@@ -42,7 +42,7 @@ module _ {M : Type 1} {𝓤 : Ura M} (𝓛 : Logic 𝓤) (mem : Memory → SProp
   mach = LL.val T.the_type T'.the_laws d
 
   abbrev got : Val
-  got = pair-laws.val (inField d.falling)
+  got = pair-laws.val (in_field d.falling)
 
   abbrev Post : Val → SProp 𝓤
   Post = (walk_of 𝓛 f.ended stayed (f.clauses 𝓛 mem run)).post ((tt, tt, tt, (d, tt), (mach ∷ [], tt)), tt)
@@ -56,12 +56,12 @@ module _ {M : Type 1} {𝓤 : Ura M} (𝓛 : Logic 𝓤) (mem : Memory → SProp
   module _ (C : Calls 𝓤 H) (Λ : Loops 𝓤 H) where
     walk : Is T.the_row d (mach ∷ []) → ent 𝓤 (on_entry 𝓛 f.signature tt tt (d, tt) (mach ∷ [], tt)) (WpFn 𝓤 H C Λ code.function (mach ∷ []) Post)
     walk p =
-        let g : Is Pair (inField d.falling) (got ∷ []) = (LL.owed T.the_type T'.the_laws d (mach ∷ []) p).1.1.0 in
+        let g : Is Pair (in_field d.falling) (got ∷ []) = (LL.owed T.the_type T'.the_laws d (mach ∷ []) p).1.1.0 in
         qed 𝓛 (‵ ftrue ∷ ‵ (owns (T.the_row ∷ []) (d, tt) (mach ∷ [], tt)) ∷ []) ∵ enter ! C Λ code.function (mach ∷ []) _ $
         alloc1 ! (λ l₀. alloc1 ! (λ l₁. alloc0 ! $ params1 ! $
         pass1 ! (init ! 0 refl ((LL.lawful T.the_type T'.the_laws 𝓛).typed d (mach ∷ []) p).0) $ pass0 ! $
         assigns ! (of_opd ! (load ! (from ! (fld ! refl (stop !))) (look_in ! 0 (sub ! 2 refl (whole !))))) (from ! (stop !))
-        (init ! 2 refl ((pair-laws.lawful 𝓛).typed (inField d.falling) (got ∷ []) g).0) $
+        (init ! 2 refl ((pair-laws.lawful 𝓛).typed (in_field d.falling) (got ∷ []) g).0) $
         returns ! (look ! 2 refl) $ forget ! 0 refl $ forget ! 2 refl $ move ! (2 ∷ 3 ∷ []) $ free1 ! $ free1 ! $ free0 ! $
         by ! (exits (subst (λ (xs : List (List ℕ)). Is Pair xs (got ∷ [])) (field-same d.falling) g))))
 
@@ -80,9 +80,9 @@ f_meets {𝓤 = 𝓤} 𝓛 mem run 𝓣 =
     walk_Meets 𝓛 f.ended stayed (Goes-none 𝓛 0 (λ _. T.the_row) yes (λ κs x f. refl), tt)
     (f.clauses 𝓛 mem run) (WpFn 𝓤 𝓛.H 𝓣.C 𝓣.Λ code.function) (WpFn-mono 𝓤 𝓛.H 𝓛.laws 𝓣 code.function) (f-walks 𝓛 mem run 𝓣.C 𝓣.Λ)
 
-pub falling-rows-spec : {M : Type 1} → stated.statement M
+pub falling_rows_spec : {M : Type 1} → stated.statement M
 unfolding code.routine tables_of
-falling-rows-spec 𝓤 𝓛 𝓜 𝓡 =
+falling_rows_spec 𝓤 𝓛 𝓜 𝓡 =
     entered 𝓤 𝓛.H (triple_of 𝓛 f.signature (f.spec 𝓛 𝓜.mem 𝓡.run))
     (tables 𝓤 𝓛.H 𝓜 𝓡 code.env).C (tables 𝓤 𝓛.H 𝓜 𝓡 code.env).Λ #f code.function (code.unfolded 𝓤 𝓛.H 𝓜 𝓡)
     (f_meets 𝓛 𝓜.mem 𝓡.run (tables_of 𝓤 𝓛.H 𝓜 (tables 𝓤 𝓛.H 𝓜 𝓡 code.env)))

@@ -1,9 +1,9 @@
 // The faults that an edge's runs hold, by length: from the numbers of paths up to both ends of each run.
 ghost use Rattle.std.specs.Prelude.{◌≡◌, ◌-◌, ◌≤◌};
 ghost use Rattle.model.specs.Base.{value};
-ghost use Rattle.model.specs.Netlist.{Netlist, pathTotal};
-ghost use Rattle.model.specs.Read.{readNetlist};
-ghost use Rattle.length_rows.specs.Lengths.{row, pathsUpTo, heldUpTo};
+ghost use Rattle.model.specs.Netlist.{Netlist, path_total};
+ghost use Rattle.model.specs.Read.{read_netlist};
+ghost use Rattle.length_rows.specs.Lengths.{row, paths_up_to, held_up_to};
 ghost use Rattle.length_rows.specs.RowSums.{added};
 ghost use Rattle.length_ranks.specs.NetRows.{Ranked, Small};
 ghost use Rattle.length_coverage.specs.LengthAnswers.{RunsRanked, in_words};
@@ -24,8 +24,8 @@ fn add_run(
     sums: &mut [u64; 64],
 )
     requires { Ranked netlist.now positions.now counts.now shape rows.now high × (1 ≤ low) × (low ≤ high) × Small sums.old }
-    ensures { (N : Netlist) → readNetlist netlist.now ≡ value N
-        → sums.new ≡ added sums.old (λ l. pathsUpTo N l high - pathsUpTo N l (low - 1)) }
+    ensures { (N : Netlist) → read_netlist netlist.now ≡ value N
+        → sums.new ≡ added sums.old (λ l. paths_up_to N l high - paths_up_to N l (low - 1)) }
 {
     let upper = rank_row(netlist, positions, counts, rows, shape, high);
     let lower = rank_row(netlist, positions, counts, rows, shape, low - 1);
@@ -42,8 +42,8 @@ pub fn held_row(
     words: &[u64],
 ) -> [u64; 64]
     requires { RunsRanked netlist.now positions.now counts.now shape rows.now words.now }
-    ensures { (N : Netlist) → readNetlist netlist.now ≡ value N
-        → result ≡ row (λ l. heldUpTo N (in_words words.now) l (pathTotal N)) }
+    ensures { (N : Netlist) → read_netlist netlist.now ≡ value N
+        → result ≡ row (λ l. held_up_to N (in_words words.now) l (path_total N)) }
 {
     let mut sums = [0u64; 64];
     let runs = words.len() / 2;

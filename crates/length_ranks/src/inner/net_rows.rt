@@ -1,13 +1,13 @@
 // The row of each net: how many of its partial paths have each length.
 ghost use Rattle.std.specs.Prelude.{◌≡◌, ◌≤◌, ◌<◌, length};
 ghost use Rattle.model.specs.Base.{value};
-ghost use Rattle.model.specs.Netlist.{Netlist, maxNets};
-ghost use Rattle.model.specs.Read.{readNetlist};
-ghost use Rattle.netlist.specs.Tables.{SomeCircuit, pinCountIn};
+ghost use Rattle.model.specs.Netlist.{Netlist, max_nets};
+ghost use Rattle.model.specs.Read.{read_netlist};
+ghost use Rattle.netlist.specs.Tables.{SomeCircuit, pin_count_in};
 ghost use Rattle.path_step.specs.Picks.{PinsIn};
 ghost use Rattle.length_rows.specs.Lengths.{row, partials};
 ghost use Rattle.length_rows.specs.RowSums.{Room, added, longer};
-ghost use Rattle.length_ranks.specs.NetRows.{NetRows, RowsBefore, pinSums, pinSumsBefore};
+ghost use Rattle.length_ranks.specs.NetRows.{NetRows, RowsBefore, pin_sums, pin_sums_before};
 
 use length_rows::inner::add_longer;
 use netlist::inner::{Shape, gate_part, pin_net};
@@ -21,8 +21,8 @@ pub(crate) fn add_pins(
     by: usize,
     sums: &mut [u64; 64],
 )
-    requires { PinsIn part.now × (pins ≤ pinCountIn part.now) × Room sums.old (longer by (pinSums part.now rows.now)) }
-    ensures { sums.new ≡ added sums.old (longer by (pinSumsBefore part.now rows.now pins)) }
+    requires { PinsIn part.now × (pins ≤ pin_count_in part.now) × Room sums.old (longer by (pin_sums part.now rows.now)) }
+    ensures { sums.new ≡ added sums.old (longer by (pin_sums_before part.now rows.now pins)) }
 {
     let mut pin = 0;
     while pin < pins {
@@ -41,7 +41,7 @@ pub(crate) fn net_row(
     net: usize,
 ) -> [u64; 64]
     requires { RowsBefore netlist.now positions.now shape net rows.now × (net < shape.nets) }
-    ensures { (N : Netlist) → readNetlist netlist.now ≡ value N → result ≡ row (partials N net) }
+    ensures { (N : Netlist) → read_netlist netlist.now ≡ value N → result ≡ row (partials N net) }
 {
     let mut sums = [0u64; 64];
     if net < shape.inputs {
@@ -56,8 +56,8 @@ pub(crate) fn net_row(
 
 // Fills in the row of each net.
 pub fn fill_rows(netlist: &[u8], positions: &[u16; 512], shape: Shape, rows: &mut [[u64; 64]; 512])
-    requires { SomeCircuit netlist.now positions.now shape × (length rows.old ≡ maxNets) }
-    ensures { (N : Netlist) → readNetlist netlist.now ≡ value N → NetRows N shape.nets rows.new }
+    requires { SomeCircuit netlist.now positions.now shape × (length rows.old ≡ max_nets) }
+    ensures { (N : Netlist) → read_netlist netlist.now ≡ value N → NetRows N shape.nets rows.new }
 {
     let nets = shape.nets;
     let mut net = 0;

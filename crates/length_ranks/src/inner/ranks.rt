@@ -2,11 +2,11 @@
 ghost use Rattle.std.specs.Prelude.{◌≡◌, ◌≤◌, ◌<◌, get_or};
 ghost use Rattle.model.specs.Base.{value};
 ghost use Rattle.model.specs.Netlist.{Netlist};
-ghost use Rattle.model.specs.Read.{readNetlist};
+ghost use Rattle.model.specs.Read.{read_netlist};
 ghost use Rattle.path_step.specs.Picks.{RecordsOfOutputs};
-ghost use Rattle.length_rows.specs.Lengths.{row, pathsUpTo, partialsUpTo};
+ghost use Rattle.length_rows.specs.Lengths.{row, paths_up_to, partials_up_to};
 ghost use Rattle.length_rows.specs.RowSums.{Room, added};
-ghost use Rattle.length_ranks.specs.NetRows.{RowTables, Ranked, Small, outputSum, outputSums};
+ghost use Rattle.length_ranks.specs.NetRows.{RowTables, Ranked, Small, output_sum, output_sums};
 
 use crate::inner::net_rows::add_pins;
 use length_rows::inner::{LENGTHS, add_longer};
@@ -16,8 +16,8 @@ use path_step::inner::pins::pick_pin;
 
 // Adds the row of an output's net: nothing at an input, where the output is a wire without a gate.
 fn add_output(sums: &mut [u64; 64], rows: &[[u64; 64]; 512], inputs: usize, net: usize)
-    requires { (net < 512) × Room sums.old (outputSum inputs rows.now net) }
-    ensures { sums.new ≡ added sums.old (outputSum inputs rows.now net) }
+    requires { (net < 512) × Room sums.old (output_sum inputs rows.now net) }
+    ensures { sums.new ≡ added sums.old (output_sum inputs rows.now net) }
 {
     if net < inputs {
         return;
@@ -33,8 +33,8 @@ fn add_outputs(
     place: usize,
     sums: &mut [u64; 64],
 )
-    requires { RecordsOfOutputs part.now place × Room sums.old (outputSums part.now place inputs rows.now) }
-    ensures { sums.new ≡ added sums.old (outputSums part.now place inputs rows.now) }
+    requires { RecordsOfOutputs part.now place × Room sums.old (output_sums part.now place inputs rows.now) }
+    ensures { sums.new ≡ added sums.old (output_sums part.now place inputs rows.now) }
 {
     let mut before = 0;
     while before < place {
@@ -58,7 +58,7 @@ fn add_partials(
 )
     requires { RowTables netlist.now positions.now counts.now shape rows.now × (net < shape.nets) × (1 ≤ number) × (number ≤ get_or counts.now net 0)
         × Small sums.old }
-    ensures { (N : Netlist) → readNetlist netlist.now ≡ value N → sums.new ≡ added sums.old (λ l. partialsUpTo N net l number) }
+    ensures { (N : Netlist) → read_netlist netlist.now ≡ value N → sums.new ≡ added sums.old (λ l. partials_up_to N net l number) }
 {
     let inputs = shape.inputs;
     let mut at = net;
@@ -88,7 +88,7 @@ pub fn rank_row(
     number: u64,
 ) -> [u64; 64]
     requires { Ranked netlist.now positions.now counts.now shape rows.now number }
-    ensures { (N : Netlist) → readNetlist netlist.now ≡ value N → result ≡ row (λ l. pathsUpTo N l number) }
+    ensures { (N : Netlist) → read_netlist netlist.now ≡ value N → result ≡ row (λ l. paths_up_to N l number) }
 {
     let mut sums = [0u64; 64];
     if number < 1 {

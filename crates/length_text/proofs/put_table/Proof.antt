@@ -5,8 +5,8 @@ use Rattle.length_text.proofs.TableCases.{name-short, table-written, told}
 use Rattle.length_text.proofs.put_table.Statement.{statement}
 use Rattle.length_text.proofs.put_table.Tie as tie
 
-pub put-table-spec : {M : Type 1} → statement M
-put-table-spec =
+pub put_table_spec : {M : Type 1} → statement M
+put_table_spec =
     tie.close
     (tie.spec
     (λ c. told (search (no_room, needs)))

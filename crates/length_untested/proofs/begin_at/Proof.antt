@@ -12,5 +12,5 @@ returns-2 c = search begin-cases
 returns-3 : tie.Need-returns-3
 returns-3 c = search begin-cases
 
-pub begin-at-spec : {M : Type 1} → statement M
-begin-at-spec = tie.close (tie.spec returns returns-2 returns-3)
+pub begin_at_spec : {M : Type 1} → statement M
+begin_at_spec = tie.close (tie.spec returns returns-2 returns-3)

@@ -10,6 +10,6 @@ returns c =
     let filled = words.before in
     on-found filled.before.before.before.before.requires _ filled.fill-rows.ensures _ _ words.edge-runs.ensures c.longest-rows.result c.longest-rows.ensures
 
-pub longest-on-spec : {M : Type 1} → statement M
-longest-on-spec =
+pub longest_on_spec : {M : Type 1} → statement M
+longest_on_spec =
     tie.close (tie.spec (λ c κs. search (on-circuit, on-few, on-ready, on-found, needs)) (λ c κs. search needs) (λ c κs. search (on-circuit, on-few, on-ready, on-found, needs)) returns)

@@ -4,8 +4,8 @@ use Rattle.length_untested.proofs.LongestCases.{call-cases}
 use Rattle.length_untested.proofs.longest_untested.Statement.{statement}
 use Rattle.length_untested.proofs.longest_untested.Tie as tie
 
-pub longest-untested-spec : {M : Type 1} → statement M
-longest-untested-spec =
+pub longest_untested_spec : {M : Type 1} → statement M
+longest_untested_spec =
     tie.close
     (tie.spec
     (λ c. search call-cases)

@@ -4,8 +4,8 @@ use Rattle.listing.proofs.ListCases.{List-cases}
 use Rattle.listing.proofs.list_circuit.Statement.{statement}
 use Rattle.listing.proofs.list_circuit.Tie as tie
 
-pub list-circuit-spec : {M : Type 1} → statement M
-list-circuit-spec =
+pub list_circuit_spec : {M : Type 1} → statement M
+list_circuit_spec =
     tie.close
     (tie.spec
     (λ c κs. search needs) (λ c. search needs) (λ c κs. search needs) (λ c. search needs)

@@ -4,8 +4,8 @@ use Rattle.listing.proofs.ListCases.{List-cases}
 use Rattle.listing.proofs.list_tests.Statement.{statement}
 use Rattle.listing.proofs.list_tests.Tie as tie
 
-pub list-tests-spec : {M : Type 1} → statement M
-list-tests-spec =
+pub list_tests_spec : {M : Type 1} → statement M
+list_tests_spec =
     tie.close
     (tie.spec
     (λ c κs. search needs) (λ c. search needs) (λ c. search needs) (λ c κs. search needs) (λ c κs. search needs)

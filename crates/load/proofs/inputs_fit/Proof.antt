@@ -3,5 +3,5 @@ use Rattle.load.proofs.LoadCallCases.{range-cases}
 use Rattle.load.proofs.inputs_fit.Statement.{statement}
 use Rattle.load.proofs.inputs_fit.Tie as tie
 
-pub inputs-fit-spec : {M : Type 1} → statement M
-inputs-fit-spec = tie.close (tie.spec (λ c. search range-cases) (λ c. search range-cases))
+pub inputs_fit_spec : {M : Type 1} → statement M
+inputs_fit_spec = tie.close (tie.spec (λ c. search range-cases) (λ c. search range-cases))

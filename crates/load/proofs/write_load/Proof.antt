@@ -4,8 +4,8 @@ use Rattle.load.proofs.LoadCallCases.{load-cases}
 use Rattle.load.proofs.write_load.Statement.{statement}
 use Rattle.load.proofs.write_load.Tie as tie
 
-pub write-load-spec : {M : Type 1} → statement M
-write-load-spec =
+pub write_load_spec : {M : Type 1} → statement M
+write_load_spec =
     tie.close
     (tie.spec
     (λ c. search load-cases)

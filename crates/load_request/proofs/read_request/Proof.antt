@@ -10,7 +10,7 @@ returns c = search request-cases
 returns-2 : tie.Need-returns-2
 returns-2 c = search request-cases
 
-pub read-request-spec : {M : Type 1} → statement M
-read-request-spec =
+pub read_request_spec : {M : Type 1} → statement M
+read_request_spec =
     tie.close
     (tie.spec returns (λ c κs. search needs) (λ c κs. search needs) (λ c κs. search needs) (λ c. search needs) returns-2)

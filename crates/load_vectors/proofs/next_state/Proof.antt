@@ -7,5 +7,5 @@ use Rattle.load_vectors.proofs.next_state.Tie as tie
 returns : tie.Need-returns
 returns c = step_is c.args.state
 
-pub next-state-spec : {M : Type 1} → statement M
-next-state-spec = tie.close (tie.spec (λ c. search needs) (λ c. search needs) (λ c. search needs) returns)
+pub next_state_spec : {M : Type 1} → statement M
+next_state_spec = tie.close (tie.spec (λ c. search needs) (λ c. search needs) (λ c. search needs) returns)

@@ -10,8 +10,8 @@ returns c = search begin-cases
 returns-3 : tie.Need-returns-3
 returns-3 c = search begin-cases
 
-pub begin-spec : {M : Type 1} → statement M
-begin-spec =
+pub begin_spec : {M : Type 1} → statement M
+begin_spec =
     tie.close
     (tie.spec
     (λ c κs. search needs) (λ c. search needs) (λ c. search needs) (λ c κs. search needs)

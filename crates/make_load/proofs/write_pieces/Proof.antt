@@ -10,8 +10,8 @@ invariant-loop records₀ told shown₀ walk₀ records shown walk = Writing rec
 abbrev decreases-loop : tie.decreases-loop
 decreases-loop records₀ told shown₀ walk₀ records shown walk = walk.left
 
-pub write-pieces-spec : {M : Type 1} → statement M
-write-pieces-spec =
+pub write_pieces_spec : {M : Type 1} → statement M
+write_pieces_spec =
     tie.close
     (tie.spec
     invariant-loop

@@ -4,14 +4,14 @@ use Rattle.model.specs.Read.{within}
 use Rattle.model.proofs.known_class.Statement.{statement}
 use Rattle.model.proofs.known_class.Tie as tie
 
-one-or-more : (class : ℕ) → 1 ≤ class → leb class 2 ≡ within 1 2 class
-one-or-more class h = rw (le-leb 1 class h) refl
+one-or_more : (class : ℕ) → 1 ≤ class → leb class 2 ≡ within 1 2 class
+one-or_more class h = rw (le-leb 1 class h) refl
 
 none : (class : ℕ) → class < 1 → leb 1 class ≡ within 1 2 class
 none class h = rw (lt-leb 1 class h) refl
 
 returns : tie.Need-returns
-returns c = one-or-more c.before.args.class c.if1.true
+returns c = one-or_more c.before.args.class c.if1.true
 
-pub known-class-spec : {M : Type 1} → statement M
-known-class-spec = tie.close (tie.spec returns (λ c. none c.before.args.class c.if1.false))
+pub known_class_spec : {M : Type 1} → statement M
+known_class_spec = tie.close (tie.spec returns (λ c. none c.before.args.class c.if1.false))

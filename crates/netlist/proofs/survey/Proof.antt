@@ -4,8 +4,8 @@ use Rattle.netlist.proofs.LoadCases.{survey-cases}
 use Rattle.netlist.proofs.survey.Statement.{statement}
 use Rattle.netlist.proofs.survey.Tie as tie
 
-pub survey-spec : {M : Type 1} → statement M
-survey-spec =
+pub survey_spec : {M : Type 1} → statement M
+survey_spec =
     tie.close
     (tie.spec
     (λ c κs. search survey-cases)

@@ -12,5 +12,5 @@ returns-2 c = search fit-cases
 returns-3 : tie.Need-returns-3
 returns-3 c = search fit-cases
 
-pub pin-count-fits-spec : {M : Type 1} → statement M
-pin-count-fits-spec = tie.close (tie.spec returns returns-2 returns-3)
+pub pin_count_fits_spec : {M : Type 1} → statement M
+pin_count_fits_spec = tie.close (tie.spec returns returns-2 returns-3)

@@ -9,5 +9,5 @@ returns c = search fault-cases
 returns-2 : tie.Need-returns-2
 returns-2 c = search fault-cases
 
-pub edge-of-spec : {M : Type 1} → statement M
-edge-of-spec = tie.close (tie.spec returns returns-2)
+pub edge_of_spec : {M : Type 1} → statement M
+edge_of_spec = tie.close (tie.spec returns returns-2)

@@ -16,7 +16,7 @@ sub-t9 c = search needs
 returns-4 : tie.Need-returns-4
 returns-4 c = search fault-cases
 
-pub fault-of-spec : {M : Type 1} → statement M
-fault-of-spec =
+pub fault_of_spec : {M : Type 1} → statement M
+fault_of_spec =
     tie.close
     (tie.spec returns returns-2 (λ c. search needs) (λ c. search needs) sub-t9 (λ c. search needs) (λ c. search needs) (λ c. search fault-cases) returns-4)

@@ -6,5 +6,5 @@ use Rattle.path_faults.proofs.path_of.Tie as tie
 returns : tie.Need-returns
 returns c = search needs
 
-pub path-of-spec : {M : Type 1} → statement M
-path-of-spec = tie.close (tie.spec (λ c. search needs) returns)
+pub path_of_spec : {M : Type 1} → statement M
+path_of_spec = tie.close (tie.spec (λ c. search needs) returns)

@@ -9,8 +9,8 @@ use Rattle.bench_net_names.proofs.net_names.Reads as net-names-reads
 use Rattle.path_lines.proofs.no_bytes.Reads as no-bytes-reads
 use Rattle.path_lines.proofs.put_path.Reads as put-path-reads
 
-pub put-bench-path-spec : {M : Type 1} → statement M
-put-bench-path-spec =
+pub put_bench_path_spec : {M : Type 1} → statement M
+put_bench_path_spec =
     tie.close
     (tie.spec
     (λ c. search bench-cases)

@@ -7,8 +7,8 @@ use Rattle.listing_lines.proofs.inner.put_refusal.Reads as put-refusal-reads
 use Rattle.path_lines.proofs.walk.put_loaded.Reads as put-loaded-reads
 use Rattle.path_of_number.proofs.number_to_path.Reads as number-to-path-reads
 
-pub put-path-spec : {M : Type 1} → statement M
-put-path-spec =
+pub put_path_spec : {M : Type 1} → statement M
+put_path_spec =
     tie.close
     (tie.spec
     (λ c. search path-cases)

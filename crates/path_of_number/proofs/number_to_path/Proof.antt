@@ -13,8 +13,8 @@ write-path-requires c κs = search number-to-path-cases
 returns-5 : tie.Need-returns-5
 returns-5 c = search number-to-path-cases
 
-pub number-to-path-spec : {M : Type 1} → statement M
-number-to-path-spec =
+pub number_to_path_spec : {M : Type 1} → statement M
+number_to_path_spec =
     tie.close
     (tie.spec
     (λ c. search number-to-path-cases)

@@ -1,7 +1,7 @@
 // The outputs' records: the output that a number ends at, and the counts before an output.
 ghost use Rattle.std.specs.Prelude.{◌≡◌, ◌<◌, ◌≤◌, ◌^◌};
 ghost use Rattle.model.specs.Base.{sum_of};
-ghost use Rattle.path_step.specs.Picks.{RecordsOfOutputs, outputCountsIn, pickOutput};
+ghost use Rattle.path_step.specs.Picks.{RecordsOfOutputs, output_counts_in, pick_output_of};
 
 use crate::inner::pins::Pick;
 use netlist::inner::output_net;
@@ -15,8 +15,8 @@ pub fn pick_output(
     inputs: usize,
     number: u64,
 ) -> Pick
-    requires { (0 < outputs) × RecordsOfOutputs part.now outputs × (number ≤ sum_of (outputCountsIn part.now outputs inputs counts.now)) }
-    ensures { result ≡ pickOutput part.now outputs inputs counts.now number }
+    requires { (0 < outputs) × RecordsOfOutputs part.now outputs × (number ≤ sum_of (output_counts_in part.now outputs inputs counts.now)) }
+    ensures { result ≡ pick_output_of part.now outputs inputs counts.now number }
 {
     let mut place = 0;
     let mut rest = number;
@@ -43,8 +43,8 @@ pub fn pick_output(
 
 // The sum of the counts of the outputs before a place, with whose records the part begins.
 pub fn outputs_before(part: &[u8], counts: &[u64; 512], inputs: usize, place: usize) -> u64
-    requires { RecordsOfOutputs part.now place × (sum_of (outputCountsIn part.now place inputs counts.now) ≤ 2 ^ 62) }
-    ensures { result ≡ sum_of (outputCountsIn part.now place inputs counts.now) }
+    requires { RecordsOfOutputs part.now place × (sum_of (output_counts_in part.now place inputs counts.now) ≤ 2 ^ 62) }
+    ensures { result ≡ sum_of (output_counts_in part.now place inputs counts.now) }
 {
     let mut total: u64 = 0;
     let mut before = 0;

@@ -1,9 +1,9 @@
 // The pins of one gate's record: the pin that a number goes through, and the counts before a pin.
 ghost use Rattle.std.specs.Prelude.{◌≡◌, ◌≤◌, ◌^◌};
 ghost use Rattle.model.specs.Base.{sum_of};
-ghost use Rattle.model.specs.Path.{countsBefore};
-ghost use Rattle.netlist.specs.Tables.{pinCountIn};
-ghost use Rattle.path_step.specs.Picks.{PinsIn, pinCountsIn, pickPin};
+ghost use Rattle.model.specs.Path.{counts_before};
+ghost use Rattle.netlist.specs.Tables.{pin_count_in};
+ghost use Rattle.path_step.specs.Picks.{PinsIn, pin_counts_in, pick_pin_of};
 
 use netlist::inner::pin_net;
 use record_bytes::inner::wide;
@@ -18,8 +18,8 @@ pub struct Pick {
 
 // The pin that partial path `number` goes through, of the gate's record with which the part begins.
 pub fn pick_pin(part: &[u8], counts: &[u64; 512], number: u64) -> Pick
-    requires { PinsIn part.now × (number ≤ sum_of (pinCountsIn part.now counts.now)) }
-    ensures { result ≡ pickPin part.now counts.now number }
+    requires { PinsIn part.now × (number ≤ sum_of (pin_counts_in part.now counts.now)) }
+    ensures { result ≡ pick_pin_of part.now counts.now number }
 {
     let pins = wide(part[3]);
     let mut pin = 0;
@@ -47,8 +47,8 @@ pub fn pick_pin(part: &[u8], counts: &[u64; 512], number: u64) -> Pick
 
 // The sum of the counts at the pins before a pin of the gate's record with which the part begins.
 pub fn count_before(part: &[u8], counts: &[u64; 512], pin: usize) -> u64
-    requires { PinsIn part.now × (pin ≤ pinCountIn part.now) × (sum_of (pinCountsIn part.now counts.now) ≤ 2 ^ 62) }
-    ensures { result ≡ countsBefore pin (pinCountsIn part.now counts.now) }
+    requires { PinsIn part.now × (pin ≤ pin_count_in part.now) × (sum_of (pin_counts_in part.now counts.now) ≤ 2 ^ 62) }
+    ensures { result ≡ counts_before pin (pin_counts_in part.now counts.now) }
 {
     let mut sum: u64 = 0;
     let mut before = 0;

@@ -7,8 +7,8 @@ use Rattle.program_sentences.proofs.print.Reads as print-reads
 use Rattle.path_lines.proofs.put_path.Reads as put-path-reads
 use Rattle.path_text.proofs.no_text.Reads as no-text-reads
 
-pub print-path-spec : {M : Type 1} → statement M
-print-path-spec =
+pub print_path_spec : {M : Type 1} → statement M
+print_path_spec =
     tie.close
     (tie.spec
     (λ c κs. search rules) (λ c. search rules) (λ c. search rules) (λ c κs. search rules) (λ c. search rules)

@@ -4,8 +4,8 @@ use Rattle.path_to_number.proofs.NumberCallCases.{path-to-number-cases}
 use Rattle.path_to_number.proofs.path_to_number.Statement.{statement}
 use Rattle.path_to_number.proofs.path_to_number.Tie as tie
 
-pub path-to-number-spec : {M : Type 1} → statement M
-path-to-number-spec =
+pub path_to_number_spec : {M : Type 1} → statement M
+path_to_number_spec =
     tie.close
     (tie.spec
     (λ c κs. search path-to-number-cases)

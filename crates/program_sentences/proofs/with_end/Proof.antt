@@ -4,8 +4,8 @@ use Rattle.text_buffer.proofs.WrittenLaws.{first-bytes, counts-bytes}
 use Rattle.program_sentences.proofs.with_end.Statement.{statement}
 use Rattle.program_sentences.proofs.with_end.Tie as tie
 
-pub with-end-spec : {M : Type 1} → statement M
-with-end-spec =
+pub with_end_spec : {M : Type 1} → statement M
+with_end_spec =
     tie.close
     (tie.spec
     (λ c. search needs) (λ c κs. search needs)

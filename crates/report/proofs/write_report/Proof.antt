@@ -4,8 +4,8 @@ use Rattle.report.proofs.WriterCases.{writer-cases}
 use Rattle.report.proofs.write_report.Statement.{statement}
 use Rattle.report.proofs.write_report.Tie as tie
 
-pub write-report-spec : {M : Type 1} → statement M
-write-report-spec =
+pub write_report_spec : {M : Type 1} → statement M
+write_report_spec =
     tie.close
     (tie.spec
     (λ c. search writer-cases)

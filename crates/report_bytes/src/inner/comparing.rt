@@ -1,6 +1,6 @@
 // Bytes of a report compared with numbers in place.
 ghost use Rattle.std.specs.Prelude.{◌≡◌, ◌+◌, ◌*◌, ◌≤◌, length, take, drop};
-ghost use Rattle.model.specs.Report.{sameBytes};
+ghost use Rattle.model.specs.Report.{same_bytes};
 ghost use Rattle.report_bytes.specs.Layout.{word_bytes, SameHead};
 
 use crate::layout::{
@@ -12,7 +12,7 @@ use record_bytes::inner::same;
 // Whether the bytes from `at` on are those of words.
 pub fn same_words(report: &[u8], at: usize, words: &[u64]) -> bool
     requires { at + 8 * length words.now ≤ length report.now }
-    ensures { result ≡ sameBytes (take (8 * length words.now) (drop at report.now)) (word_bytes words.now) }
+    ensures { result ≡ same_bytes (take (8 * length words.now) (drop at report.now)) (word_bytes words.now) }
 {
     let mut i = 0;
     while i < words.len() {

@@ -1,7 +1,7 @@
 // Numbers written into the bytes of a report.
 ghost use Rattle.std.specs.Prelude.{◌≡◌, ◌+◌, ◌*◌, ◌≤◌, length};
 ghost use Rattle.std.proofs.lemmas.List.Edits.{sets};
-ghost use Rattle.report_bytes.specs.Layout.{word_bytes, headBytes};
+ghost use Rattle.report_bytes.specs.Layout.{word_bytes, head_bytes};
 
 use crate::layout::{
     FALLING_FAULTS_AT, FALLING_RUNS_AT, PATHS_AT, REPORT_MARK, RISING_FAULTS_AT, RISING_RUNS_AT,
@@ -32,7 +32,7 @@ pub fn put_head(
     falling_faults: u64,
 )
     requires { 34 ≤ length report.old }
-    ensures { report.new ≡ sets report.old 0 (headBytes tests paths rising_runs falling_runs rising_faults falling_faults) }
+    ensures { report.new ≡ sets report.old 0 (head_bytes tests paths rising_runs falling_runs rising_faults falling_faults) }
 {
     put(report, 0, 2, REPORT_MARK);
     put(report, TESTS_AT, 4, tests);

@@ -1,14 +1,14 @@
 -- `report_claim_text::claim_line` meets its contract: the parts one after the other, and the line holds them all.
 use borrow.Author.Rules.{rules}
 use mathlib.Core.Path.{◌∙◌}
-use Rattle.report_claim_text.specs.Claims.{claimText}
-use Rattle.report_claim_text.proofs.LengthLaws.{claim-short}
-use Rattle.text_line.proofs.LineLaws.{first_part, then-part, onLine-alone}
+use Rattle.report_claim_text.specs.Claims.{claim_text}
+use Rattle.report_claim_text.proofs.LengthLaws.{claim_short}
+use Rattle.text_line.proofs.LineLaws.{first_part, then-part, on_line-alone}
 use Rattle.report_claim_text.proofs.claim_line.Statement.{statement}
 use Rattle.report_claim_text.proofs.claim_line.Tie as tie
 
 returns : tie.Need-returns
-unfolding claimText
+unfolding claim_text
 returns c =
     let at-with-text2 = c.before in
     let at-with-edge = at-with-text2.before.before in
@@ -23,10 +23,10 @@ returns c =
     let p3 = then-part _ _ _ _ _ p2 at-with-edge.with-edge.ensures in
     let p4 = then-part _ _ _ _ _ p3 at-with-text2.with-text2.ensures in
     let p5 = then-part _ _ _ _ _ p4 c.with-paths.ensures in
-    p5 ∙ onLine-alone _ (claim-short a.kind a.edge a.low a.high)
+    p5 ∙ on_line-alone _ (claim_short a.kind a.edge a.low a.high)
 
-pub claim-line-spec : {M : Type 1} → statement M
-claim-line-spec =
+pub claim_line_spec : {M : Type 1} → statement M
+claim_line_spec =
     tie.close
     (tie.spec
     (λ c κs. search rules) (λ c κs. search rules) (λ c. search rules) (λ c κs. search rules) (λ c κs. search rules)

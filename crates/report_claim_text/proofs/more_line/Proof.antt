@@ -1,14 +1,14 @@
 -- `report_claim_text::more_line` meets its contract: the parts one after the other, and the line holds them all.
 use borrow.Author.Rules.{rules}
 use mathlib.Core.Path.{◌∙◌}
-use Rattle.report_claim_text.specs.Claims.{moreText}
+use Rattle.report_claim_text.specs.Claims.{more_text}
 use Rattle.report_claim_text.proofs.LengthLaws.{more-short}
-use Rattle.text_line.proofs.LineLaws.{first_part, then-part, onLine-alone}
+use Rattle.text_line.proofs.LineLaws.{first_part, then-part, on_line-alone}
 use Rattle.report_claim_text.proofs.more_line.Statement.{statement}
 use Rattle.report_claim_text.proofs.more_line.Tie as tie
 
 returns : tie.Need-returns
-unfolding moreText
+unfolding more_text
 returns c =
     let at-with-text2 = c.before in
     let at-with-number = at-with-text2.before.before in
@@ -19,10 +19,10 @@ returns c =
     let p2 = then-part _ _ _ _ _ p1 at-with-number.with_number.ensures in
     let p3 = then-part _ _ _ _ _ p2 at-with-text2.with-text2.ensures in
     let p4 = then-part _ _ _ _ _ p3 c.with-plural.ensures in
-    p4 ∙ onLine-alone _ (more-short a.kind a.count)
+    p4 ∙ on_line-alone _ (more-short a.kind a.count)
 
-pub more-line-spec : {M : Type 1} → statement M
-more-line-spec =
+pub more_line_spec : {M : Type 1} → statement M
+more_line_spec =
     tie.close
     (tie.spec
     (λ c κs. search rules) (λ c. search rules) (λ c κs. search rules) (λ c κs. search rules) (λ c. search rules)

@@ -1,14 +1,14 @@
 -- `report_claim_text::order_line` meets its contract: the parts one after the other, and the line holds them all.
 use borrow.Author.Rules.{rules}
 use mathlib.Core.Path.{◌∙◌}
-use Rattle.report_claim_text.specs.Claims.{orderText}
+use Rattle.report_claim_text.specs.Claims.{order_text}
 use Rattle.report_claim_text.proofs.LengthLaws.{order-short}
-use Rattle.text_line.proofs.LineLaws.{first_part, then-part, onLine-alone}
+use Rattle.text_line.proofs.LineLaws.{first_part, then-part, on_line-alone}
 use Rattle.report_claim_text.proofs.order_line.Statement.{statement}
 use Rattle.report_claim_text.proofs.order_line.Tie as tie
 
 returns : tie.Need-returns
-unfolding orderText
+unfolding order_text
 returns c =
     let at-with-number3 = c.before.before in
     let at-with-text3 = at-with-number3.before in
@@ -29,10 +29,10 @@ returns c =
     let p6 = then-part _ _ _ _ _ p5 at-with-text3.with-text3.ensures in
     let p7 = then-part _ _ _ _ _ p6 at-with-number3.with-number3.ensures in
     let p8 = then-part _ _ _ _ _ p7 c.with-text4.ensures in
-    p8 ∙ onLine-alone _ (order-short a.edge a.number a.low a.high)
+    p8 ∙ on_line-alone _ (order-short a.edge a.number a.low a.high)
 
-pub order-line-spec : {M : Type 1} → statement M
-order-line-spec =
+pub order_line_spec : {M : Type 1} → statement M
+order_line_spec =
     tie.close
     (tie.spec
     (λ c κs. search rules) (λ c κs. search rules) (λ c. search rules) (λ c κs. search rules) (λ c κs. search rules)

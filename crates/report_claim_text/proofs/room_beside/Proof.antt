@@ -8,5 +8,5 @@ use Rattle.report_claim_text.proofs.room_beside.Tie as tie
 returns : tie.Need-returns
 returns c = room-left c.before.args.others (omega arith)
 
-pub room-beside-spec : {M : Type 1} → statement M
-room-beside-spec = tie.close (tie.spec (λ c. search rules) returns (λ c. room-least c.before.args.others (omega arith)))
+pub room_beside_spec : {M : Type 1} → statement M
+room_beside_spec = tie.close (tie.spec (λ c. search rules) returns (λ c. room-least c.before.args.others (omega arith)))

@@ -16,5 +16,5 @@ returns-3 c =
     let room = c.before.room-beside in
     shown-room a.lines a.others a.all room.result room.ensures c.before.before.if1.false c.if2.false
 
-pub shown-lines-spec : {M : Type 1} → statement M
-shown-lines-spec = tie.close (tie.spec (λ c. let a = c.before.args in shown-all a.lines a.others a.all c.if1.true) (λ c κs. search rules) returns-2 returns-3)
+pub shown_lines_spec : {M : Type 1} → statement M
+shown_lines_spec = tie.close (tie.spec (λ c. let a = c.before.args in shown-all a.lines a.others a.all c.if1.true) (λ c κs. search rules) returns-2 returns-3)

@@ -1,6 +1,6 @@
 -- `report_claim_words::with_paths` meets its contract: one number, or two.
 use Rattle.model.proofs.Prelude.{arith, needs}
-use Rattle.text_line.proofs.LineLaws.{then-part, as-part}
+use Rattle.text_line.proofs.LineLaws.{then-part, as_part}
 use Rattle.report_claim_words.proofs.WordCases.{one-path, some-paths}
 use Rattle.report_claim_words.proofs.with_paths.Statement.{statement}
 use Rattle.report_claim_words.proofs.with_paths.Tie as tie
@@ -8,7 +8,7 @@ use Rattle.report_claim_words.proofs.with_paths.Tie as tie
 returns : tie.Need-returns
 returns c =
     let a = c.before.before.before.before.args in
-    as-part _ _ _ _ (then-part _ _ _ _ _ c.before.with-text.ensures c.with_number.ensures) (one-path a.low a.high (omega arith))
+    as_part _ _ _ _ (then-part _ _ _ _ _ c.before.with-text.ensures c.with_number.ensures) (one-path a.low a.high (omega arith))
 
 returns-2 : tie.Need-returns-2
 returns-2 c =
@@ -19,10 +19,10 @@ returns-2 c =
     let first = then-part _ _ _ _ _ at-with-text2.with-text2.ensures at-with-number2.with-number2.ensures in
     let second =
     then-part _ _ _ _ _ (then-part _ _ _ _ _ first at-with-text3.with-text3.ensures) c.with-number3.ensures in
-    as-part _ _ _ _ second (some-paths a.low a.high (λ e. omega (arith, e)))
+    as_part _ _ _ _ second (some-paths a.low a.high (λ e. omega (arith, e)))
 
-pub with-paths-spec : {M : Type 1} → statement M
-with-paths-spec =
+pub with_paths_spec : {M : Type 1} → statement M
+with_paths_spec =
     tie.close
     (tie.spec
     (λ c. search needs) (λ c κs. search needs) (λ c κs. search needs)

@@ -1,9 +1,9 @@
 // The first false claim of a report. Where it was judged in class 2 and the true report in class 1 is at hand, a claim is false that is in neither.
 ghost use Rattle.std.specs.Prelude.{◌≡◌, ◌≤◌, length};
-ghost use Rattle.length_search.specs.Untested.{firstFrom};
-ghost use Rattle.report_runs.specs.ReportRuns.{runsOfBytes, Ascends};
+ghost use Rattle.length_search.specs.Untested.{first_from};
+ghost use Rattle.report_runs.specs.ReportRuns.{runs_of_bytes, Ascends};
 ghost use Rattle.report_differences.specs.Differences.{outside};
-ghost use Rattle.report_differences.specs.FirstClaim.{firstClaim, eachHeld, allHeld, firstIn, claimsHeld, toldOf};
+ghost use Rattle.report_differences.specs.FirstClaim.{first_claim_of, each_held_of, all_held_of, first_in_of, claims_held_of, told_of};
 
 use crate::inner::walk::{Piece, next_piece};
 use report_bytes::layout::HEAD_BYTES;
@@ -24,8 +24,8 @@ pub enum Told {
 
 // The first number from 1 to T in the runs of `a` and not in those of `b`; 0 where there is none.
 fn first_number(a: &[u8], b: &[u8], paths: u64) -> u64
-    requires { Ascends 0 (runsOfBytes a.now) × Ascends 0 (runsOfBytes b.now) }
-    ensures { result ≡ firstFrom (outside (runsOfBytes a.now) (runsOfBytes b.now)) 1 paths }
+    requires { Ascends 0 (runs_of_bytes a.now) × Ascends 0 (runs_of_bytes b.now) }
+    ensures { result ≡ first_from (outside (runs_of_bytes a.now) (runs_of_bytes b.now)) 1 paths }
 {
     let found = next_piece(a, 0, b, 0, 1);
     let piece = found.piece;
@@ -42,7 +42,7 @@ fn first_number(a: &[u8], b: &[u8], paths: u64) -> u64
 
 // The first number from 1 to T that is claimed and not held; 0 where there is none, or one of the lists does not ascend.
 fn first_claim(claimed: &[u8], held: &[u8], paths: u64) -> u64
-    ensures { result ≡ firstClaim (runsOfBytes claimed.now) (runsOfBytes held.now) paths }
+    ensures { result ≡ first_claim_of (runs_of_bytes claimed.now) (runs_of_bytes held.now) paths }
 {
     if ascending(claimed) {
         if ascending(held) {
@@ -54,8 +54,8 @@ fn first_claim(claimed: &[u8], held: &[u8], paths: u64) -> u64
 
 // Whether every number in the runs of `a` is in those of `b`, numbers of no path included.
 fn each_held(a: &[u8], b: &[u8]) -> bool
-    requires { Ascends 0 (runsOfBytes a.now) × Ascends 0 (runsOfBytes b.now) }
-    ensures { result ≡ eachHeld (runsOfBytes a.now) (runsOfBytes b.now) }
+    requires { Ascends 0 (runs_of_bytes a.now) × Ascends 0 (runs_of_bytes b.now) }
+    ensures { result ≡ each_held_of (runs_of_bytes a.now) (runs_of_bytes b.now) }
 {
     let found = next_piece(a, 0, b, 0, 0);
     let piece = found.piece;
@@ -67,7 +67,7 @@ fn each_held(a: &[u8], b: &[u8]) -> bool
 
 // Whether every number that is claimed is held; not so where one of the lists does not ascend.
 fn all_held(claimed: &[u8], held: &[u8]) -> bool
-    ensures { result ≡ allHeld (runsOfBytes claimed.now) (runsOfBytes held.now) }
+    ensures { result ≡ all_held_of (runs_of_bytes claimed.now) (runs_of_bytes held.now) }
 {
     if ascending(claimed) {
         if ascending(held) {
@@ -80,7 +80,7 @@ fn all_held(claimed: &[u8], held: &[u8]) -> bool
 // The first claim of a report that a true one does not hold.
 fn first_in(report: &[u8], held: &[u8], paths: u64) -> Told
     requires { (34 ≤ length report.now) × (34 ≤ length held.now) }
-    ensures { result ≡ firstIn report.now held.now paths }
+    ensures { result ≡ first_in_of report.now held.now paths }
 {
     let rising = first_claim(rising_runs(report), rising_runs(held), paths);
     if 0 < rising {
@@ -96,7 +96,7 @@ fn first_in(report: &[u8], held: &[u8], paths: u64) -> Told
 // Whether a true report holds every number that a report claims.
 fn claims_held(report: &[u8], held: &[u8]) -> bool
     requires { (34 ≤ length report.now) × (34 ≤ length held.now) }
-    ensures { result ≡ claimsHeld report.now held.now }
+    ensures { result ≡ claims_held_of report.now held.now }
 {
     if !all_held(rising_runs(report), rising_runs(held)) {
         return false;
@@ -108,7 +108,7 @@ fn claims_held(report: &[u8], held: &[u8]) -> bool
 // then: it names every fault that the one in class 2 does.
 pub fn first_told(report: &[u8], truth: &[u8], plain: &[u8], paths: u64) -> Told
     requires { (34 ≤ length report.now) × (34 ≤ length truth.now) }
-    ensures { result ≡ toldOf report.now truth.now plain.now paths }
+    ensures { result ≡ told_of report.now truth.now plain.now paths }
 {
     if plain.len() < HEAD_BYTES {
         return first_in(report, truth, paths);

@@ -1,7 +1,7 @@
 // The numbers that the runs of `a` hold and those of `b` do not, range by range, for runs that ascend. A place in each list of runs goes with
 // the numbers: the runs before it end before them. No run is passed twice, so the ranges of two lists take time in proportion to their runs.
 ghost use Rattle.std.specs.Prelude.{◌≡◌, true};
-ghost use Rattle.report_runs.specs.ReportRuns.{runsOfBytes};
+ghost use Rattle.report_runs.specs.ReportRuns.{runs_of_bytes};
 ghost use Rattle.report_differences.specs.Differences.{only, Passed, Reached, Stands, Steps, FirstFrom, LastFrom, PieceFrom};
 
 use report_bytes::layout::RUN_BYTES;
@@ -86,7 +86,7 @@ fn seek(runs: &[u8], from: usize, number: u64) -> usize
 // Where a number stands among runs of which those before a place end before it and the one at the place does not.
 fn standing_at(runs: &[u8], at: usize, number: u64) -> Standing
     requires { Reached runs.now at number }
-    ensures { Stands result number (runsOfBytes runs.now) }
+    ensures { Stands result number (runs_of_bytes runs.now) }
 {
     if runs.len() / RUN_BYTES <= at {
         return Standing::Past;

@@ -14,5 +14,5 @@ returns-2 c =
     let told = c.before.before.order-of in
     ordered-not _ told.result told.ensures _ c.enum-told2.given.1
 
-pub ascending-spec : {M : Type 1} → statement M
-ascending-spec = tie.close (tie.spec (λ c κs. search needs) (λ c. search needs) (λ c. search needs) returns returns-2)
+pub ascending_spec : {M : Type 1} → statement M
+ascending_spec = tie.close (tie.spec (λ c κs. search needs) (λ c. search needs) (λ c. search needs) returns returns-2)

@@ -14,5 +14,5 @@ returns-3 c =
     let a = c.before.before.args in
     later-run a.at a.last a.low a.high (omega arith) (omega arith)
 
-pub ascends-at-spec : {M : Type 1} → statement M
-ascends-at-spec = tie.close (tie.spec (λ c. let a = c.before.args in empty-run a.at a.last a.low a.high (omega arith)) returns-2 returns-3)
+pub ascends_at_spec : {M : Type 1} → statement M
+ascends_at_spec = tie.close (tie.spec (λ c. let a = c.before.args in empty-run a.at a.last a.low a.high (omega arith)) returns-2 returns-3)

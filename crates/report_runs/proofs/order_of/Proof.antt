@@ -1,15 +1,15 @@
 -- `report_runs::order_of` meets its contract. The invariant: the runs before the place ascend, and the last of them ends with `last`.
 use Rattle.model.proofs.Prelude.{◌≤◌, ◌-◌, ◌/◌, ◌≡◌, length, take, arith, needs}
-use Rattle.report_runs.specs.ReportRuns.{runsOfBytes, Ascends, leastAt}
-use Rattle.report_runs.proofs.OrderCases.{leastAfter, least-none, one_more, least_more, out_of_order, all-ascend}
+use Rattle.report_runs.specs.ReportRuns.{runs_of_bytes, Ascends, least_at_of}
+use Rattle.report_runs.proofs.OrderCases.{least_after, least-none, one_more, least_more, out_of_order, all-ascend}
 use Rattle.report_runs.proofs.order_of.Statement.{statement}
 use Rattle.report_runs.proofs.order_of.Tie as tie
 
 abbrev invariant-loop : tie.invariant-loop
 invariant-loop runs count last₀ at₀ last at =
     (at ≤ length runs / 16)
-    × Ascends 0 (take at (runsOfBytes runs))
-    × (leastAfter 0 (take at (runsOfBytes runs)) ≡ leastAt at last)
+    × Ascends 0 (take at (runs_of_bytes runs))
+    × (least_after 0 (take at (runs_of_bytes runs)) ≡ least_at_of at last)
 
 abbrev decreases-loop : tie.decreases-loop
 decreases-loop runs count last₀ at₀ last at = count - at
@@ -51,8 +51,8 @@ returns-2 c =
     let l = c.before.loop in
     all-ascend bytes l.at (omega arith) l.invariant.1
 
-pub order-of-spec : {M : Type 1} → statement M
-order-of-spec =
+pub order_of_spec : {M : Type 1} → statement M
+order_of_spec =
     tie.close
     (tie.spec
     invariant-loop

@@ -7,8 +7,8 @@ use Rattle.report_verdict.proofs.class_line.Tie as tie
 returns : tie.Need-returns
 returns c = search Class-cases
 
-pub class-line-spec : {M : Type 1} → statement M
-class-line-spec =
+pub class_line_spec : {M : Type 1} → statement M
+class_line_spec =
     tie.close
     (tie.spec
     (λ c κs. search needs) (λ c. search needs) (λ c κs. search needs)

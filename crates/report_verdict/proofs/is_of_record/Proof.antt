@@ -10,8 +10,8 @@ returns-4 c = search record-cases
 returns-5 : tie.Need-returns-5
 returns-5 c = search record-cases
 
-pub is-of-record-spec : {M : Type 1} → statement M
-is-of-record-spec =
+pub is_of_record_spec : {M : Type 1} → statement M
+is_of_record_spec =
     tie.close
     (tie.spec
     (λ c κs. search needs) (λ c κs. search needs)

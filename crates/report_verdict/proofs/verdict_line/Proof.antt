@@ -7,8 +7,8 @@ use Rattle.report_verdict.proofs.verdict_line.Tie as tie
 returns : tie.Need-returns
 returns c = search line-cases
 
-pub verdict-line-spec : {M : Type 1} → statement M
-verdict-line-spec =
+pub verdict_line_spec : {M : Type 1} → statement M
+verdict_line_spec =
     tie.close
     (tie.spec
     (λ c. search needs) (λ c κs. search needs) (λ c. search needs) (λ c κs. search needs) (λ c. search needs)

@@ -1,8 +1,8 @@
 // The runs of a gate's net, from those of its pins' nets.
 ghost use Rattle.std.specs.Prelude.{◌-◌};
-ghost use Rattle.model.specs.Store.{maxRuns};
+ghost use Rattle.model.specs.Store.{max_runs};
 ghost use Rattle.run_lists.specs.Answers.{Adds};
-ghost use Rattle.run_shifted.specs.RunsOfPlaces.{GateReady, gateRuns};
+ghost use Rattle.run_shifted.specs.RunsOfPlaces.{GateReady, gate_runs_of};
 
 use crate::inner::add_net;
 use detection::inner::digit;
@@ -21,8 +21,8 @@ pub fn gate_runs(
     start: usize,
 ) -> Added
     requires { GateReady part.now mask counts.now starts.now words.old start }
-    ensures { Adds words.old words.new start (maxRuns - start)
-        (gateRuns part.now mask counts.now starts.now words.old) result }
+    ensures { Adds words.old words.new start (max_runs - start)
+        (gate_runs_of part.now mask counts.now starts.now words.old) result }
 {
     let pins = wide(part[3]);
     let mut pin = 0;

@@ -1,8 +1,8 @@
 // The runs of the detected path numbers, from those of the outputs' nets.
 ghost use Rattle.std.specs.Prelude.{◌≡◌, ◌<◌, eqb, leb};
-ghost use Rattle.model.specs.Store.{maxRuns};
+ghost use Rattle.model.specs.Store.{max_runs};
 ghost use Rattle.run_lists.specs.Answers.{Adds};
-ghost use Rattle.run_shifted.specs.RunsOfPlaces.{OutputsReady, outputRuns};
+ghost use Rattle.run_shifted.specs.RunsOfPlaces.{OutputsReady, output_runs};
 
 use crate::inner::add_net;
 use model::MAX_RUNS;
@@ -30,8 +30,8 @@ pub fn out_runs(
     words: &mut [u64],
 ) -> Added
     requires { OutputsReady part.now inputs outputs counts.now starts.now words.old }
-    ensures { Adds words.old words.new maxRuns maxRuns
-        (outputRuns part.now inputs outputs counts.now starts.now words.old) result }
+    ensures { Adds words.old words.new max_runs max_runs
+        (output_runs part.now inputs outputs counts.now starts.now words.old) result }
 {
     let mut place = 0;
     let mut count = 0;

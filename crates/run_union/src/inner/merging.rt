@@ -1,8 +1,8 @@
 // The union of two lists of runs: the runs of both by ascending low, each added at the end of a third list.
 ghost use Rattle.std.specs.Prelude.{◌≡◌, ◌+◌, ◌-◌, ◌*◌, ◌<◌, ◌≤◌, ◌^◌, length};
-ghost use Rattle.run_lists.specs.RunLists.{RunWithin, Sound, addRun, run_at, runsInWords};
+ghost use Rattle.run_lists.specs.RunLists.{RunWithin, Sound, add_run, run_at, runs_in_words};
 ghost use Rattle.run_lists.specs.Answers.{Room, Adds};
-ghost use Rattle.run_union.specs.Unions.{leftFirst, leastAfter, BeginsOver, Unites};
+ghost use Rattle.run_union.specs.Unions.{left_first_of, least_after, BeginsOver, Unites};
 
 use crate::inner::append;
 use run_lists::inner::{Added, first_reaching};
@@ -10,7 +10,7 @@ use run_lists::inner::{Added, first_reaching};
 // Whether the next run by ascending low is the left list's.
 fn left_first(a: &[u64], i: usize, m: usize, b: &[u64], j: usize, n: usize) -> bool
     requires { (2 * m ≤ length a.now) × (2 * n ≤ length b.now) }
-    ensures { result ≡ leftFirst (runsInWords a.now i (m - i)) (runsInWords b.now j (n - j)) }
+    ensures { result ≡ left_first_of (runs_in_words a.now i (m - i)) (runs_in_words b.now j (n - j)) }
 {
     if m <= i {
         return false;
@@ -33,7 +33,7 @@ fn append_run(
     requires room { Room out.old start count capacity }
     requires i_in_bounds { 2 * i + 1 < length from.now }
     requires run_within { RunWithin (2 ^ 62) (run_at from.now i) }
-    ensures { Adds out.old out.new start capacity (addRun (runsInWords out.old start count) (run_at from.now i)) result }
+    ensures { Adds out.old out.new start capacity (add_run (runs_in_words out.old start count) (run_at from.now i)) result }
 {
     append(out, start, count, capacity, from[2 * i], from[2 * i + 1])
 }
@@ -43,7 +43,7 @@ fn append_own(words: &mut [u64], i: usize, start: usize, count: usize, capacity:
     requires room { Room words.old start count capacity }
     requires i_lt_start { i < start }
     requires run_within { RunWithin (2 ^ 62) (run_at words.old i) }
-    ensures { Adds words.old words.new start capacity (addRun (runsInWords words.old start count) (run_at words.old i)) result }
+    ensures { Adds words.old words.new start capacity (add_run (runs_in_words words.old start count) (run_at words.old i)) result }
 {
     let low = words[2 * i];
     let high = words[2 * i + 1];
@@ -63,7 +63,7 @@ pub fn union(
 ) -> Added
     requires a_from_le_a_to { (a_from ≤ a_to) × (2 * a_to ≤ length a.now) × (b_from ≤ b_to) × (b_to ≤ start) }
     requires room { Room words.old start 0 capacity }
-    requires sound { Sound (2 ^ 62) (runsInWords a.now a_from (a_to - a_from)) × Sound (2 ^ 62) (runsInWords words.old b_from (b_to - b_from)) }
+    requires sound { Sound (2 ^ 62) (runs_in_words a.now a_from (a_to - a_from)) × Sound (2 ^ 62) (runs_in_words words.old b_from (b_to - b_from)) }
     ensures { Unites a.now a_from a_to words.old b_from b_to start capacity words.new result }
 {
     let mut i = a_from;
@@ -90,7 +90,7 @@ pub fn union(
 // A place up to which no run reaches one that begins with `low`: the first that does, found by search. What is found is asked at the place itself.
 pub fn first_joined(words: &[u64], count: usize, low: u64) -> usize
     requires { (2 * count ≤ length words.now) × (1 ≤ low) }
-    ensures { (result ≤ count) × (leastAfter 1 (runsInWords words.now 0 result) ≤ low) }
+    ensures { (result ≤ count) × (least_after 1 (runs_in_words words.now 0 result) ≤ low) }
 {
     let at = first_reaching(words, 0, count, low - 1);
     if at == 0 {
@@ -102,7 +102,7 @@ pub fn first_joined(words: &[u64], count: usize, low: u64) -> usize
 // The first of the runs from..to that begins too high for one that ends with `high` to join it.
 pub fn first_apart(words: &[u64], from: usize, to: usize, high: u64) -> usize
     requires { (from ≤ to) × (2 * to ≤ length words.now) × (high ≤ 2 ^ 62) }
-    ensures { (from ≤ result) × (result ≤ to) × BeginsOver high (runsInWords words.now result (to - result)) }
+    ensures { (from ≤ result) × (result ≤ to) × BeginsOver high (runs_in_words words.now result (to - result)) }
 {
     let mut i = from;
     while i < to {

@@ -1,11 +1,11 @@
 // Runs moved within the same words, to places that may overlap those where they stand.
 ghost use Rattle.std.specs.Prelude.{◌≡◌, ◌+◌, ◌*◌, ◌≤◌, length};
-ghost use Rattle.run_lists.specs.RunLists.{runsInWords, writeRuns};
+ghost use Rattle.run_lists.specs.RunLists.{runs_in_words, write_runs_of};
 
 // Moves runs to lower places, the first one first.
 fn move_down(words: &mut [u64], from: usize, count: usize, to: usize)
     requires { (to ≤ from) × (2 * (from + count) ≤ length words.old) }
-    ensures { words.new ≡ writeRuns words.old to (runsInWords words.old from count) }
+    ensures { words.new ≡ write_runs_of words.old to (runs_in_words words.old from count) }
 {
     let mut k = 0;
     while k < count {
@@ -22,7 +22,7 @@ fn move_down(words: &mut [u64], from: usize, count: usize, to: usize)
 // Moves runs to higher places, the last one first.
 fn move_up(words: &mut [u64], from: usize, count: usize, to: usize)
     requires { (from ≤ to) × (2 * (to + count) ≤ length words.old) }
-    ensures { words.new ≡ writeRuns words.old to (runsInWords words.old from count) }
+    ensures { words.new ≡ write_runs_of words.old to (runs_in_words words.old from count) }
 {
     let mut k = count;
     while 0 < k {
@@ -39,7 +39,7 @@ fn move_up(words: &mut [u64], from: usize, count: usize, to: usize)
 // Moves runs to other places of the same words.
 pub fn move_runs(words: &mut [u64], from: usize, count: usize, to: usize)
     requires { (2 * (from + count) ≤ length words.old) × (2 * (to + count) ≤ length words.old) }
-    ensures { words.new ≡ writeRuns words.old to (runsInWords words.old from count) }
+    ensures { words.new ≡ write_runs_of words.old to (runs_in_words words.old from count) }
 {
     if to < from {
         return move_down(words, from, count, to);

@@ -11,8 +11,8 @@ invariant-loop word n₀ i₀ n i = i ≤ length word
 abbrev decreases-loop : tie.decreases-loop
 decreases-loop word n₀ i₀ n i = length word - i
 
-pub number-in-spec : {M : Type 1} → statement M
-number-in-spec =
+pub number_in_spec : {M : Type 1} → statement M
+number_in_spec =
     tie.close
     (tie.spec
     invariant-loop

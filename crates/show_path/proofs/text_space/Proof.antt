@@ -5,5 +5,5 @@ use lib.ListN.{length-replicate}
 use Rattle.show_path.proofs.text_space.Statement.{statement}
 use Rattle.show_path.proofs.text_space.Tie as tie
 
-pub text-space-spec : {M : Type 1} → statement M
-text-space-spec = tie.close (tie.spec (λ c. sym (length-replicate {A = ℕ} 2097153 0)))
+pub text_space_spec : {M : Type 1} → statement M
+text_space_spec = tie.close (tie.spec (λ c. sym (length-replicate {A = ℕ} 2097153 0)))

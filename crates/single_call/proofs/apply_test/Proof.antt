@@ -13,7 +13,7 @@ returns-2 c = search (no-work, needs)
 test-netlist-requires : tie.Need-test-netlist-requires
 test-netlist-requires c κs = search needs
 
-pub apply-test-spec : {M : Type 1} → statement M
-apply-test-spec =
+pub apply_test_spec : {M : Type 1} → statement M
+apply_test_spec =
     tie.close
     (tie.spec returns returns-2 test-netlist-requires (λ c. search needs) (λ c. search needs) (λ c. search needs))

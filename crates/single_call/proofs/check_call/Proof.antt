@@ -16,5 +16,5 @@ returns-2 c =
     class-known args.class args.inputs args.paths args.test.now args.store.now _ c.before.before.known-class.ensures
     c.before.if1.false c.check-places.result c.check-places.ensures
 
-pub check-call-spec : {M : Type 1} → statement M
-check-call-spec = tie.close (tie.spec (λ c κs. search needs) returns (λ c κs. search needs) returns-2)
+pub check_call_spec : {M : Type 1} → statement M
+check_call_spec = tie.close (tie.spec (λ c κs. search needs) returns (λ c κs. search needs) returns-2)

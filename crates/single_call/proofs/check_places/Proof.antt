@@ -34,8 +34,8 @@ returns-3 c =
     let args = at-record.before.before.before.args in
     place-sound args.inputs args.paths args.test.now args.store.now at-record.check-record.ensures legal _ words sound
 
-pub check-places-spec : {M : Type 1} → statement M
-check-places-spec =
+pub check_places_spec : {M : Type 1} → statement M
+check_places_spec =
     tie.close
     (tie.spec
     (λ c κs. search needs) (λ c. search needs)

@@ -18,5 +18,5 @@ returns c =
     let start = at_before.before.before.before.before.before.before in
     legal-counted start.requires start.args.class at_before.totals-of.ensures at_stage.apply-legal.ensures c.count-answer.ensures
 
-pub count-new-spec : {M : Type 1} → statement M
-count-new-spec = tie.close (tie.spec (λ c κs. search (before-sound, needs)) (λ c κs. search needs) count-answer-requires (λ c. search needs) (λ c. search needs) returns)
+pub count_new_spec : {M : Type 1} → statement M
+count_new_spec = tie.close (tie.spec (λ c κs. search (before-sound, needs)) (λ c κs. search needs) count-answer-requires (λ c. search needs) (λ c. search needs) returns)

@@ -63,8 +63,8 @@ returns-3 c =
     call-true args.netlist.now args.class args.test.now args.store.now args.work.now start.requires.0 start.requires.1
     loaded.new.1.0 loaded.new.1.1.0 loaded.result loaded.ensures legal checked.result checked.ensures passed counted
 
-pub test-netlist-spec : {M : Type 1} → statement M
-test-netlist-spec =
+pub test_netlist_spec : {M : Type 1} → statement M
+test_netlist_spec =
     tie.close
     (tie.spec
     (λ c κs. search (zeros-are, needs))

@@ -5,7 +5,7 @@ ghost use Rattle.model.specs.Netlist.{Netlist};
 ghost use Rattle.model.specs.Detect.{Test};
 ghost use Rattle.gate_logic.specs.States.{word_of};
 ghost use Rattle.netlist.specs.Tables.{CircuitTables, SomeCircuit};
-ghost use Rattle.single_simulation.specs.Simulated.{TestIs, InputStates, inputState, OpenMasks};
+ghost use Rattle.single_simulation.specs.Simulated.{TestIs, InputStates, input_state_of, OpenMasks};
 
 use crate::inner::packing;
 use gate_logic::inner::{class_pins, evaluate, state_word};
@@ -23,7 +23,7 @@ fn input_value(vector: u64, input: usize) -> u8
 // The state of an input.
 fn input_state(v1: u64, v2: u64, input: usize) -> u32
     requires { input < 64 }
-    ensures { result ≡ word_of (inputState v1 v2 input) }
+    ensures { result ≡ word_of (input_state_of v1 v2 input) }
 {
     let first = input_value(v1, input);
     let last = input_value(v2, input);

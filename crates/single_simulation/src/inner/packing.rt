@@ -1,6 +1,6 @@
 // The states at the pins of a gate, from the states of all nets. Packed pin by pin, the states of up to eight pins are three packed bytes in one word.
 ghost use Rattle.std.specs.Prelude.{◌≡◌, ◌<◌};
-ghost use Rattle.single_simulation.specs.StateWords.{StatesAt, PacksStates, lowLane, midLane, highLane};
+ghost use Rattle.single_simulation.specs.StateWords.{StatesAt, PacksStates, low_lane, mid_lane, high_lane};
 
 use gate_logic::inner::PinStates;
 use netlist::inner::pin_net;
@@ -36,7 +36,7 @@ pub(crate) fn pack_states(part: &[u8], pins: usize, states: &[u32; 512]) -> u32
 // The packed word's three bytes.
 pub(crate) fn pin_states(packed: u32) -> PinStates
     requires { packed < 16777216 }
-    ensures { (result.v2 ≡ lowLane packed) × (result.v1 ≡ midLane packed) × (result.steady ≡ highLane packed) }
+    ensures { (result.v2 ≡ low_lane packed) × (result.v1 ≡ mid_lane packed) × (result.steady ≡ high_lane packed) }
 {
     PinStates {
         v1: (packed / 256 % 256) as u8,

@@ -7,8 +7,8 @@ use Rattle.store.proofs.empty.Tie as tie
 returns : tie.Need-returns
 returns c = search (empty-refused, needs)
 
-pub empty-spec : {M : Type 1} → statement M
-empty-spec =
+pub empty_spec : {M : Type 1} → statement M
+empty_spec =
     tie.close
     (tie.spec
     returns

@@ -1,11 +1,11 @@
 // One edge of a store with the runs that a test detects, and the answers of both edges, for our own crates. Each caller proves what a function requires.
 ghost use Rattle.std.specs.Prelude.{◌≡◌, List, ℕ, ◌≤◌};
-ghost use Rattle.model.specs.Netlist.{pathTotal};
+ghost use Rattle.model.specs.Netlist.{path_total};
 ghost use Rattle.run_lists.specs.RunLists.{Sound};
 ghost use Rattle.run_lists.specs.declared.inner.Added.TheVariants.{Count};
 ghost use Rattle.detection.specs.Cases.{Case};
 ghost use Rattle.detection.specs.Walks.{Detects};
-ghost use Rattle.store_coverage.specs.Covers.{heldRuns, JoinReady, Covers};
+ghost use Rattle.store_coverage.specs.Covers.{held_runs, JoinReady, Covers};
 ghost use Rattle.store_coverage.specs.Both.{joined};
 
 use model::MAX_RUNS;
@@ -31,7 +31,7 @@ fn join_new(found: usize, held: &[u64], words: &mut [u64], target: usize) -> Edg
     requires join_ready { JoinReady (Count found) held.now words.old target }
     requires le_found { 1 ≤ found }
     ensures { (K : Case) (ws : List ℕ) → Detects K ws words.old (Count found)
-        → Sound (pathTotal K.netlist) (heldRuns held.now) → Covers K (heldRuns held.now) ws words.new target result }
+        → Sound (path_total K.netlist) (held_runs held.now) → Covers K (held_runs held.now) ws words.new target result }
 {
     let count = held.len() / 2;
     let end = MAX_RUNS + found;
@@ -52,7 +52,7 @@ fn join_new(found: usize, held: &[u64], words: &mut [u64], target: usize) -> Edg
 pub fn join_edge(detected: Added, held: &[u64], words: &mut [u64], target: usize) -> EdgeAnswer
     requires { JoinReady detected held.now words.old target }
     ensures { (K : Case) (ws : List ℕ) → Detects K ws words.old detected
-        → Sound (pathTotal K.netlist) (heldRuns held.now) → Covers K (heldRuns held.now) ws words.new target result }
+        → Sound (path_total K.netlist) (held_runs held.now) → Covers K (held_runs held.now) ws words.new target result }
 {
     match detected {
         Added::Full => EdgeAnswer::OverWork,

@@ -7,8 +7,8 @@ use Rattle.testfile_argument.proofs.report_file.Tie as tie
 returns : tie.Need-returns
 returns c = (search named-test-cases, search needs)
 
-pub report-file-spec : {M : Type 1} → statement M
-report-file-spec =
+pub report_file_spec : {M : Type 1} → statement M
+report_file_spec =
     tie.close
     (tie.spec
     (λ c κs. search needs) (λ c κs. search needs) (λ c κs. search needs) (λ c. search needs) (λ c. search needs)

@@ -4,8 +4,8 @@ use Rattle.testfile_argument.proofs.NamedTestCases.{named-test-cases}
 use Rattle.testfile_argument.proofs.report_of_tests.Statement.{statement}
 use Rattle.testfile_argument.proofs.report_of_tests.Tie as tie
 
-pub report-of-tests-spec : {M : Type 1} → statement M
-report-of-tests-spec =
+pub report_of_tests_spec : {M : Type 1} → statement M
+report_of_tests_spec =
     tie.close
     (tie.spec
     (λ c κs. search needs) (λ c. search needs) (λ c. search needs) (λ c κs. search needs) (λ c. search needs)

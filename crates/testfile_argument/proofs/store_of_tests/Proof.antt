@@ -7,7 +7,7 @@ use Rattle.testfile_argument.proofs.store_of_tests.Tie as tie
 returns : tie.Need-returns
 returns c = search named-test-cases
 
-pub store-of-tests-spec : {M : Type 1} → statement M
-store-of-tests-spec =
+pub store_of_tests_spec : {M : Type 1} → statement M
+store_of_tests_spec =
     tie.close
     (tie.spec (λ c. search needs) (λ c κs. search needs) (λ c. search needs) returns)

@@ -1,7 +1,7 @@
 -- `testfile_judged::audit_stream` meets its contract: a refusal at the beginning, or the end of a file that was walked over.
 use Rattle.model.proofs.Prelude.{◌∙◌, needs}
 use Rattle.audit_pieces.proofs.TogetherHolds.{begun-ready, begun-empty}
-use Rattle.testfile_judged.proofs.StreamCases.{audit-done, stream-cases}
+use Rattle.testfile_judged.proofs.StreamCases.{audit_done, stream-cases}
 use Rattle.testfile_judged.proofs.audit_stream.Statement.{statement}
 use Rattle.testfile_judged.proofs.audit_stream.Tie as tie
 
@@ -40,12 +40,12 @@ returns-2 c =
     let ready = at_told.enum_told.given.1 in
     let begun = at_told.before.before.before.before.before.begin in
     let done =
-    audit-done _ _ _ _ _ begun.result begun.ensures ready walked.result _ _ _ walked.ensures wrote.result _ _ wrote.ensures.0
+    audit_done _ _ _ _ _ begun.result begun.ensures ready walked.result _ _ _ walked.ensures wrote.result _ _ wrote.ensures.0
     _ finished.result _ finished.ensures in
     (done, wrote.ensures.1)
 
-pub audit-stream-spec : {M : Type 1} → statement M
-audit-stream-spec =
+pub audit_stream_spec : {M : Type 1} → statement M
+audit_stream_spec =
     tie.close
     (tie.spec
     (λ c κs. search needs) (λ c. search needs)

@@ -4,8 +4,8 @@ use Rattle.testfile_judged.proofs.StreamCases.{stream-cases}
 use Rattle.testfile_judged.proofs.report_stream.Statement.{statement}
 use Rattle.testfile_judged.proofs.report_stream.Tie as tie
 
-pub report-stream-spec : {M : Type 1} → statement M
-report-stream-spec =
+pub report_stream_spec : {M : Type 1} → statement M
+report_stream_spec =
     tie.close
     (tie.spec
     (λ c κs. search needs) (λ c. search needs) (λ c. search needs)

@@ -1,7 +1,7 @@
 -- `text_line::with_number` meets its contract: the digits that are written are those of the number.
 use Rattle.model.proofs.Prelude.{ℕ, ◌∙◌, ap, List, arith, needs}
-use Rattle.text_line.specs.Lines.{onLine, text_of}
-use Rattle.text_line.proofs.DecimalLaws.{decimal-is}
+use Rattle.text_line.specs.Lines.{on_line, text_of}
+use Rattle.text_line.proofs.DecimalLaws.{decimal_is}
 use Rattle.text_line.proofs.with_number.Statement.{statement}
 use Rattle.text_line.proofs.with_number.Tie as tie
 
@@ -10,10 +10,10 @@ returns c =
     let made = c.before.before.decimal in
     let a = c.before.before.before.before.args in
     let e = made.ensures in
-    c.with-text.ensures ∙ ap (λ (t : List ℕ). onLine (text_of a.line) t) (decimal-is made.result a.number made.new.1.0 e.1.0 (omega arith) e.1.1)
+    c.with-text.ensures ∙ ap (λ (t : List ℕ). on_line (text_of a.line) t) (decimal_is made.result a.number made.new.1.0 e.1.0 (omega arith) e.1.1)
 
-pub with-number-spec : {M : Type 1} → statement M
-with-number-spec =
+pub with_number_spec : {M : Type 1} → statement M
+with_number_spec =
     tie.close
     (tie.spec
     (λ c κs. search needs) (λ c. search needs) (λ c. search needs) (λ c κs. search needs)

@@ -1,23 +1,23 @@
 -- `text_line::with_refusal` meets its contract: a word, then a number at its end.
 use Rattle.model.proofs.Prelude.{ℕ, ◌∙◌, ap, List, ◌++◌, needs}
-use Rattle.text_line.specs.Decimal.{decimalText, refusedWord, refusedText}
-use Rattle.text_line.specs.Lines.{onLine, text_of}
-use Rattle.text_line.proofs.LineLaws.{onLine-twice}
+use Rattle.text_line.specs.Decimal.{decimal_text, refused_word, refused_text}
+use Rattle.text_line.specs.Lines.{on_line, text_of}
+use Rattle.text_line.proofs.LineLaws.{on_line-twice}
 use Rattle.text_line.proofs.with_refusal.Statement.{statement}
 use Rattle.text_line.proofs.with_refusal.Tie as tie
 
 returns : tie.Need-returns
-unfolding refusedText
+unfolding refused_text
 returns c =
     let line = c.before.before.before.before.args.line in
     let number = c.before.refusal-number in
     c.with_number.ensures
-    ∙ ap (λ (t : List ℕ). onLine t (decimalText number.result)) c.before.before.with-text.ensures
-    ∙ onLine-twice (text_of line) refusedWord (decimalText number.result)
-    ∙ ap (λ (n : ℕ). onLine (text_of line) (refusedWord ++ decimalText n)) number.ensures
+    ∙ ap (λ (t : List ℕ). on_line t (decimal_text number.result)) c.before.before.with-text.ensures
+    ∙ on_line-twice (text_of line) refused_word (decimal_text number.result)
+    ∙ ap (λ (n : ℕ). on_line (text_of line) (refused_word ++ decimal_text n)) number.ensures
 
-pub with-refusal-spec : {M : Type 1} → statement M
-with-refusal-spec =
+pub with_refusal_spec : {M : Type 1} → statement M
+with_refusal_spec =
     tie.close
     (tie.spec
     (λ c. search needs) (λ c κs. search needs) (λ c κs. search needs) (λ c. search needs) (λ c κs. search needs)

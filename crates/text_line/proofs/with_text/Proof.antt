@@ -1,13 +1,13 @@
 -- `text_line::with_text` meets its contract. The invariant: the text so far with what is left at its end is, on a line, the whole.
 use Rattle.model.proofs.Prelude.{◌≤◌, ◌-◌, ◌≡◌, ◌∙◌, length, drop, take, length-set, arith, needs}
-use Rattle.text_line.specs.Lines.{onLine, text_of}
+use Rattle.text_line.specs.Lines.{on_line, text_of}
 use Rattle.text_line.proofs.LineLaws.{line-start, line_step, line-full, line-end}
 use Rattle.text_line.proofs.with_text.Statement.{statement}
 use Rattle.text_line.proofs.with_text.Tie as tie
 
 abbrev invariant-loop : tie.invariant-loop
 invariant-loop text longer₀ at₀ i₀ longer at i =
-    (i ≤ length text) × (at ≤ 128) × (length longer.bytes ≡ 128) × (onLine (take at longer.bytes) (drop i text) ≡ onLine (text_of longer₀) text)
+    (i ≤ length text) × (at ≤ 128) × (length longer.bytes ≡ 128) × (on_line (take at longer.bytes) (drop i text) ≡ on_line (text_of longer₀) text)
 
 abbrev decreases-loop : tie.decreases-loop
 decreases-loop text longer₀ at₀ i₀ longer at i = length text - i
@@ -38,8 +38,8 @@ returns-2 c =
     let text = c.before.before.before.before.before.args.text.now in
     line-full l.longer.bytes text l.invariant.2 l.at l.i l.invariant.1 (omega arith) ∙ l.invariant.3
 
-pub with-text-spec : {M : Type 1} → statement M
-with-text-spec =
+pub with_text_spec : {M : Type 1} → statement M
+with_text_spec =
     tie.close
     (tie.spec
     invariant-loop

@@ -4,8 +4,8 @@ use Rattle.text_percent.proofs.ShareCases.{no-paths, part-told}
 use Rattle.text_percent.proofs.is_part.Statement.{statement}
 use Rattle.text_percent.proofs.is_part.Tie as tie
 
-pub is-part-spec : {M : Type 1} → statement M
-is-part-spec =
+pub is_part_spec : {M : Type 1} → statement M
+is_part_spec =
     tie.close
     (tie.spec
     (λ c. let a = c.before.args in no-paths a.part a.paths (omega arith))

@@ -1,7 +1,7 @@
 -- `text_percent::with_claimed_share` meets its contract: with percent where the number is a part of the paths.
 use Rattle.model.proofs.Prelude.{needs}
-use Rattle.text_line.proofs.LineLaws.{then-part, as-part}
-use Rattle.text_percent.proofs.ShareCases.{some-paths-there, part-there, claimed-part, claimed-over}
+use Rattle.text_line.proofs.LineLaws.{then-part, as_part}
+use Rattle.text_percent.proofs.ShareCases.{some-paths-there, part-there, claimed_part, claimed_over}
 use Rattle.text_percent.proofs.with_claimed_share.Statement.{statement}
 use Rattle.text_percent.proofs.with_claimed_share.Tie as tie
 
@@ -28,7 +28,7 @@ returns c =
     let p2 = then-part _ _ _ _ _ p1 at-with-text2.with-text2.ensures in
     let p3 = then-part _ _ _ _ _ p2 at-with-count.with-count.ensures in
     let p4 = then-part _ _ _ _ _ p3 c.with-text3.ensures in
-    as-part _ _ _ _ p4 (claimed-part a.claimed a.paths told.result told.ensures at-if1.if1.true)
+    as_part _ _ _ _ p4 (claimed_part a.claimed a.paths told.result told.ensures at-if1.if1.true)
 
 returns-2 : tie.Need-returns-2
 returns-2 c =
@@ -40,10 +40,10 @@ returns-2 c =
     let told = at-is-part.is-part in
     let p1 = then-part _ _ _ _ _ at-with-text4.with-text4.ensures at-with-count2.with-count2.ensures in
     let p2 = then-part _ _ _ _ _ p1 c.with-text5.ensures in
-    as-part _ _ _ _ p2 (claimed-over a.claimed a.paths told.result told.ensures at-if1.if1.false)
+    as_part _ _ _ _ p2 (claimed_over a.claimed a.paths told.result told.ensures at-if1.if1.false)
 
-pub with-claimed-share-spec : {M : Type 1} → statement M
-with-claimed-share-spec =
+pub with_claimed_share_spec : {M : Type 1} → statement M
+with_claimed_share_spec =
     tie.close
     (tie.spec
     (λ c κs. search needs) (λ c. search needs) (λ c κs. search needs)

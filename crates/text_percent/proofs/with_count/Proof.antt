@@ -1,6 +1,6 @@
 -- `text_percent::with_count` meets its contract: the number, then `path` or `paths`.
 use Rattle.model.proofs.Prelude.{arith, needs}
-use Rattle.text_line.proofs.LineLaws.{then-part, as-part}
+use Rattle.text_line.proofs.LineLaws.{then-part, as_part}
 use Rattle.text_percent.proofs.ShareCases.{count-one, count-more}
 use Rattle.text_percent.proofs.with_count.Statement.{statement}
 use Rattle.text_percent.proofs.with_count.Tie as tie
@@ -8,15 +8,15 @@ use Rattle.text_percent.proofs.with_count.Tie as tie
 returns : tie.Need-returns
 returns c =
     let paths = c.before.before.before.before.args.paths in
-    as-part _ _ _ _ (then-part _ _ _ _ _ c.before.before.before.with_number.ensures c.with-text.ensures) (count-one paths (omega arith))
+    as_part _ _ _ _ (then-part _ _ _ _ _ c.before.before.before.with_number.ensures c.with-text.ensures) (count-one paths (omega arith))
 
 returns-2 : tie.Need-returns-2
 returns-2 c =
     let paths = c.before.before.before.before.args.paths in
-    as-part _ _ _ _ (then-part _ _ _ _ _ c.before.before.before.with_number.ensures c.with-text2.ensures) (count-more paths (λ e. omega (arith, e)))
+    as_part _ _ _ _ (then-part _ _ _ _ _ c.before.before.before.with_number.ensures c.with-text2.ensures) (count-more paths (λ e. omega (arith, e)))
 
-pub with-count-spec : {M : Type 1} → statement M
-with-count-spec =
+pub with_count_spec : {M : Type 1} → statement M
+with_count_spec =
     tie.close
     (tie.spec
     (λ c κs. search needs) (λ c. search needs) (λ c κs. search needs)

@@ -4,5 +4,5 @@ use Rattle.tree.proofs.SearchCases.{legal-zero, legal-order, legal-most}
 use Rattle.tree.proofs.run_legal.Statement.{statement}
 use Rattle.tree.proofs.run_legal.Tie as tie
 
-pub run-legal-spec : {M : Type 1} → statement M
-run-legal-spec = tie.close (tie.spec (λ c. search (legal-zero, needs)) (λ c. search (legal-order, needs)) (λ c. search (legal-most, needs)))
+pub run_legal_spec : {M : Type 1} → statement M
+run_legal_spec = tie.close (tie.spec (λ c. search (legal-zero, needs)) (λ c. search (legal-order, needs)) (λ c. search (legal-most, needs)))

@@ -1,12 +1,12 @@
 -- `tree::tree_delete` meets its contract: the checks come first, in their order, and write nothing.
 use Rattle.model.proofs.Prelude.{needs}
-use Rattle.tree.proofs.ChangeCallCases.{delete-absent, delete-bad, delete-deletes, delete-range, delete-short, delete-taken}
+use Rattle.tree.proofs.ChangeCallCases.{delete_absent, delete_bad, delete_deletes, delete_range, delete_short, delete_taken}
 use Rattle.tree.proofs.TreeCallCases.{sound-tree}
 use Rattle.tree.proofs.tree_delete.Statement.{statement}
 use Rattle.tree.proofs.tree_delete.Tie as tie
 
 returns-4 : tie.Need-returns-4
-returns-4 c = search (delete-absent, needs)
+returns-4 c = search (delete_absent, needs)
 
 delete-run-requires : tie.Need-delete-run-requires
 delete-run-requires c κs =
@@ -17,20 +17,20 @@ delete-run-requires c κs =
     let m6 = m5.before in
     let m7 = m6.before in
     let long = m7.before.before.if1.false in
-    delete-deletes _ _ _ long _ m7.sound-words.ensures m6.if2.false _ m5.run-legal.ensures m4.if3.false _ m2.is-stored.ensures m1.if4.false
+    delete_deletes _ _ _ long _ m7.sound-words.ensures m6.if2.false _ m5.run-legal.ensures m4.if3.false _ m2.is-stored.ensures m1.if4.false
 
-pub tree-delete-spec : {M : Type 1} → statement M
-tree-delete-spec =
+pub tree_delete_spec : {M : Type 1} → statement M
+tree_delete_spec =
     tie.close
     (tie.spec
-    (λ c. search (delete-short, needs))
+    (λ c. search (delete_short, needs))
     (λ c κs. search needs) (λ c. search needs)
-    (λ c. search (delete-bad, needs))
+    (λ c. search (delete_bad, needs))
     (λ c κs. search needs) (λ c. search needs)
-    (λ c. search (delete-range, needs))
+    (λ c. search (delete_range, needs))
     (λ c κs. search (sound-tree, needs))
     (λ c. search needs)
     returns-4
     delete-run-requires
     (λ c. search needs)
-    (λ c. search (delete-taken, needs)))
+    (λ c. search (delete_taken, needs)))

@@ -7,8 +7,8 @@ use Rattle.tree.proofs.tree_empty.Tie as tie
 returns-2 : tie.Need-returns-2
 returns-2 c = record { answer = search (empty-taken, needs); words = search (empty-words, needs) }
 
-pub tree-empty-spec : {M : Type 1} → statement M
-tree-empty-spec =
+pub tree_empty_spec : {M : Type 1} → statement M
+tree_empty_spec =
     tie.close
     (tie.spec
     (λ c. record { answer = search (empty-short, needs); words = search (empty-same, needs) })

@@ -10,8 +10,8 @@ visit-root-requires c κs =
     let m3 = m2.before in
     sound-tree _ m3.before.if1.false _ m3.sound-words.ensures m2.if2.false
 
-pub tree-holds-spec : {M : Type 1} → statement M
-tree-holds-spec =
+pub tree_holds_spec : {M : Type 1} → statement M
+tree_holds_spec =
     tie.close
     (tie.spec
     (λ c. search (holds-short, needs))

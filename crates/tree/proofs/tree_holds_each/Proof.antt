@@ -20,8 +20,8 @@ returns-3 c =
       words = each-words _ _ _ m6.before.if1.false _ m6.sound-words.ensures m5.if2.false _ m3.answer-each.ensures;
     }
 
-pub tree-holds-each-spec : {M : Type 1} → statement M
-tree-holds-each-spec =
+pub tree_holds_each_spec : {M : Type 1} → statement M
+tree_holds_each_spec =
     tie.close
     (tie.spec
     (λ c. record { answer = search (each-short, needs); words = each-short-same _ _ _ c.if1.true })

@@ -1,6 +1,6 @@
 -- `tree::tree_insert` meets its contract: the checks come first, in their order, and write nothing.
 use Rattle.model.proofs.Prelude.{needs}
-use Rattle.tree.proofs.ChangeCallCases.{insert-bad, insert-full, insert-inserts, insert-range, insert-short, insert-taken}
+use Rattle.tree.proofs.ChangeCallCases.{insert_bad, insert_full, insert_inserts, insert_range, insert_short, insert_taken}
 use Rattle.tree.proofs.TreeCallCases.{sound-tree}
 use Rattle.tree.proofs.SearchCases.{legal-low, legal-both, legal-high}
 use Rattle.tree.proofs.tree_insert.Statement.{statement}
@@ -23,20 +23,20 @@ insert-run-requires c κs =
     let m6 = m5.before in
     let m7 = m6.before in
     let long = m7.before.before.if1.false in
-    insert-inserts _ _ _ long _ m7.sound-words.ensures m6.if2.false _ m5.run-legal.ensures m4.if3.false _ m2.is-full.ensures m1.if4.false
+    insert_inserts _ _ _ long _ m7.sound-words.ensures m6.if2.false _ m5.run-legal.ensures m4.if3.false _ m2.is-full.ensures m1.if4.false
 
-pub tree-insert-spec : {M : Type 1} → statement M
-tree-insert-spec =
+pub tree_insert_spec : {M : Type 1} → statement M
+tree_insert_spec =
     tie.close
     (tie.spec
-    (λ c. search (insert-short, needs))
+    (λ c. search (insert_short, needs))
     (λ c κs. search needs) (λ c. search needs)
-    (λ c. search (insert-bad, needs))
+    (λ c. search (insert_bad, needs))
     (λ c κs. search needs) (λ c. search needs)
-    (λ c. search (insert-range, needs))
+    (λ c. search (insert_range, needs))
     is-full-requires
     (λ c. search needs)
-    (λ c. search (insert-full, needs))
+    (λ c. search (insert_full, needs))
     insert-run-requires
     (λ c. search needs)
-    (λ c. search (insert-taken, needs)))
+    (λ c. search (insert_taken, needs)))

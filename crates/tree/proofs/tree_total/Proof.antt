@@ -4,6 +4,6 @@ use Rattle.tree.proofs.TreeCallCases.{total-short, total-bad, sound-tree, total-
 use Rattle.tree.proofs.tree_total.Statement.{statement}
 use Rattle.tree.proofs.tree_total.Tie as tie
 
-pub tree-total-spec : {M : Type 1} → statement M
-tree-total-spec =
+pub tree_total_spec : {M : Type 1} → statement M
+tree_total_spec =
     tie.close (tie.spec (λ c. search (total-short, needs)) (λ c κs. search needs) (λ c. search (total-bad, needs)) (λ c κs. search (sound-tree, needs)) (λ c. search (total-taken, needs)))

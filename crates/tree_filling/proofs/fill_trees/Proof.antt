@@ -4,8 +4,8 @@ use Rattle.tree_filling.proofs.TreeFillCases.{trees-cases}
 use Rattle.tree_filling.proofs.fill_trees.Statement.{statement}
 use Rattle.tree_filling.proofs.fill_trees.Tie as tie
 
-pub fill-trees-spec : {M : Type 1} → statement M
-fill-trees-spec =
+pub fill_trees_spec : {M : Type 1} → statement M
+fill_trees_spec =
     tie.close
     (tie.spec
     (λ c. search trees-cases)

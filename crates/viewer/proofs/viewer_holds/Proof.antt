@@ -4,6 +4,6 @@ use Rattle.viewer.proofs.ViewCases.{view-cases}
 use Rattle.viewer.proofs.viewer_holds.Statement.{statement}
 use Rattle.viewer.proofs.viewer_holds.Tie as tie
 
-pub viewer-holds-spec : {M : Type 1} → statement M
-viewer-holds-spec =
+pub viewer_holds_spec : {M : Type 1} → statement M
+viewer_holds_spec =
     tie.close (tie.spec (λ c. search view-cases) (λ c. search needs) (λ c κs. search needs) (λ c. search needs))

@@ -4,8 +4,8 @@ use Rattle.viewer.proofs.ViewCases.{view-cases}
 use Rattle.viewer.proofs.viewer_runs.Statement.{statement}
 use Rattle.viewer.proofs.viewer_runs.Tie as tie
 
-pub viewer-runs-spec : {M : Type 1} → statement M
-viewer-runs-spec =
+pub viewer_runs_spec : {M : Type 1} → statement M
+viewer_runs_spec =
     tie.close
     (tie.spec
     (λ c. search view-cases)

@@ -4,8 +4,8 @@ use Rattle.viewer.proofs.ViewCases.{view-cases}
 use Rattle.viewer.proofs.viewer_totals.Statement.{statement}
 use Rattle.viewer.proofs.viewer_totals.Tie as tie
 
-pub viewer-totals-spec : {M : Type 1} → statement M
-viewer-totals-spec =
+pub viewer_totals_spec : {M : Type 1} → statement M
+viewer_totals_spec =
     tie.close
     (tie.spec
     (λ c. search view-cases)

@@ -14,8 +14,8 @@ decreases-loop text list₀ before₀ at₀ list before at = length text - at
 returns : tie.Need-returns invariant-loop decreases-loop
 returns c = (search text-cases, search text-cases)
 
-pub read-places-spec : {M : Type 1} → statement M
-read-places-spec =
+pub read_places_spec : {M : Type 1} → statement M
+read_places_spec =
     tie.close
     (tie.spec
     invariant-loop

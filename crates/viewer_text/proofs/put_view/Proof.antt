@@ -27,8 +27,8 @@ returns c =
     view-answer a.netlist.now a.store.now a.places.now words.result v.new.1.1.1.0 words.ensures v.result v.ensures in
     (put, (answer, p.ensures.1))
 
-pub put-view-spec : {M : Type 1} → statement M
-put-view-spec =
+pub put_view_spec : {M : Type 1} → statement M
+put_view_spec =
     tie.close
     (tie.spec
     (λ c κs. search needs) (λ c. search needs) (λ c κs. search needs) (λ c. search needs)

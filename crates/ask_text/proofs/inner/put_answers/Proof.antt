@@ -23,8 +23,8 @@ loop-again c =
     let at-loop = at_test.before in
     piece-next _ _ _ _ _ _ at-loop.loop.invariant at_test.loop-test.true at_byte.take-byte.ensures
 
-pub put-answers-spec : {M : Type 1} → statement M
-put-answers-spec =
+pub put_answers_spec : {M : Type 1} → statement M
+put_answers_spec =
     tie.close
     (tie.spec
     invariant-loop

@@ -4,8 +4,8 @@ use Rattle.ask_text.proofs.AnswerSteps.{last-cases}
 use Rattle.ask_text.proofs.inner.put_last.Statement.{statement}
 use Rattle.ask_text.proofs.inner.put_last.Tie as tie
 
-pub put-last-spec : {M : Type 1} → statement M
-put-last-spec =
+pub put_last_spec : {M : Type 1} → statement M
+put_last_spec =
     tie.close
     (tie.spec
     (λ c. search needs) (λ c. search needs) (λ c κs. search needs) (λ c. search needs) (λ c κs. search needs)

@@ -22,7 +22,7 @@ returns-2 c =
     let p = at-line.byte-after in
     byte-other a.asking a.paths a.rising.now a.falling.now a.byte a.out.now at_test.if1.false (omega (arith, at-start.requires.room)) p.result p.ensures
 
-pub take-byte-spec : {M : Type 1} → statement M
-take-byte-spec =
+pub take_byte_spec : {M : Type 1} → statement M
+take_byte_spec =
     tie.close
     (tie.spec (λ c κs. search needs) (λ c. search needs) (λ c. search needs) returns (λ c κs. search needs) returns-2)

@@ -21,8 +21,8 @@ returns-2 c =
     let at-input = at_last.before.before.before.before.before.before.before.before.before in
     input-answered at-input.take-input.ensures _ _ _ _ _ _ at_last.put_last.ensures
 
-pub answer-input-spec : {M : Type 1} → statement M
-answer-input-spec =
+pub answer_input_spec : {M : Type 1} → statement M
+answer_input_spec =
     tie.close
     (tie.spec
     (λ c κs. search needs) (λ c. search needs) (λ c. search needs)

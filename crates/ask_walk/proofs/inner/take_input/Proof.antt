@@ -73,15 +73,15 @@ returns-3 c =
     (omega (arith, at_test.loop-test.true)) space)
     _
 
-pub take-input-spec : {M : Type 1} → statement M
-take-input-spec =
+pub take_input_spec : {M : Type 1} → statement M
+take_input_spec =
     tie.close
     (tie.spec
     invariant-loop
     decreases-loop
     (λ c. input-start _ _)
     (λ c κs. search needs) (λ c. search needs)
-    (λ c. c.before.before.before.before.before.before.before.loop.invariant.sameOut)
+    (λ c. c.before.before.before.before.before.before.before.loop.invariant.same_out)
     (λ c. input-end c.before.before.before.before.before.before.before.loop.invariant _)
     (λ c. search needs) (λ c. search needs)
     put-answers-requires

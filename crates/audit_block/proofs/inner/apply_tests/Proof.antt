@@ -7,7 +7,7 @@ use Rattle.audit_block.proofs.inner.apply_tests.Tie as tie
 fill-block-requires : tie.Need-fill-block-requires
 fill-block-requires c κs =
     let start = c.before.before.before.before.before.before.before.before in
-    (tests-tables start.requires, start.requires.upRoom, start.requires.downRoom, refl, start.requires.memory.workLength)
+    (tests-tables start.requires, start.requires.up_room_of, start.requires.down_room, refl, start.requires.memory.work_length)
 
 apply-block-requires : tie.Need-apply-block-requires
 apply-block-requires c κs =
@@ -23,8 +23,8 @@ returns c =
     let made = filled.fill-block.ensures in
     tests-taken start.requires made.3 made.4 applied.apply-block.ensures.0 applied.apply-block.ensures.1 made.0 made.1
 
-pub apply-tests-spec : {M : Type 1} → statement M
-apply-tests-spec =
+pub apply_tests_spec : {M : Type 1} → statement M
+apply_tests_spec =
     tie.close
     (tie.spec
     fill-block-requires

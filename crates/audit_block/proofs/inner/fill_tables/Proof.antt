@@ -15,5 +15,5 @@ returns c =
     let start = table.before.before.before in
     tables-made start.requires.0 table.fill-table.ensures.1 c.fill-path-offsets.ensures.1 start.args.class
 
-pub fill-tables-spec : {M : Type 1} → statement M
-fill-tables-spec = tie.close (tie.spec (λ c κs. let start = c.before.before in (tables-circuit start.requires.0, start.requires.1)) fill-path-offsets-requires returns)
+pub fill_tables_spec : {M : Type 1} → statement M
+fill_tables_spec = tie.close (tie.spec (λ c κs. let start = c.before.before in (tables-circuit start.requires.0, start.requires.1)) fill-path-offsets-requires returns)

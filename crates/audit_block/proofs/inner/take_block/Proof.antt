@@ -34,8 +34,8 @@ returns-3 c =
     let start = read.before.before.before.before.before.before.before in
     block-onward start.requires read.read-block.ensures.1 tested.apply-tests.ensures c.before.before.enum_told.given.1 c.enum-told2.given.1
 
-pub take-block-spec : {M : Type 1} → statement M
-take-block-spec =
+pub take_block_spec : {M : Type 1} → statement M
+take_block_spec =
     tie.close
     (tie.spec
     (λ c κs. search take_cases)

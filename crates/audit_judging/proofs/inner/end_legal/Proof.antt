@@ -16,8 +16,8 @@ returns-3 c = search legal-cases
 returns-4 : tie.Need-returns-4
 returns-4 c = search legal-cases
 
-pub end-legal-spec : {M : Type 1} → statement M
-end-legal-spec =
+pub end_legal_spec : {M : Type 1} → statement M
+end_legal_spec =
     tie.close
     (tie.spec
     (λ c κs. search needs) (λ c κs. search needs) (λ c κs. search needs)

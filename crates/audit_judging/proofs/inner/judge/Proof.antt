@@ -7,8 +7,8 @@ use Rattle.audit_judging.proofs.inner.judge.Tie as tie
 returns : tie.Need-returns
 returns c = search judge-cases
 
-pub judge-spec : {M : Type 1} → statement M
-judge-spec =
+pub judge_spec : {M : Type 1} → statement M
+judge_spec =
     tie.close
     (tie.spec
     (λ c κs. search needs) (λ c. search needs) (λ c. search needs) (λ c κs. search needs) (λ c. search needs)

@@ -7,5 +7,5 @@ use Rattle.audit_judging.proofs.inner.whole_length.Tie as tie
 returns : tie.Need-returns
 returns c = search length-cases
 
-pub whole-length-spec : {M : Type 1} → statement M
-whole-length-spec = tie.close (tie.spec (λ c. search needs) (λ c. search needs) returns (λ c. search length-cases))
+pub whole_length_spec : {M : Type 1} → statement M
+whole_length_spec = tie.close (tie.spec (λ c. search needs) (λ c. search needs) returns (λ c. search length-cases))

@@ -7,8 +7,8 @@ use Rattle.audit_piece_steps.proofs.inner.apply_piece.Tie as tie
 returns-2 : tie.Need-returns-2
 returns-2 c = search piece-cases
 
-pub apply-piece-spec : {M : Type 1} → statement M
-apply-piece-spec =
+pub apply_piece_spec : {M : Type 1} → statement M
+apply_piece_spec =
     tie.close
     (tie.spec
     (λ c. search needs) (λ c. search needs)

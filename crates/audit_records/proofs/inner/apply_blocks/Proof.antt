@@ -1,6 +1,6 @@
 -- `audit_records::inner::apply_blocks` meets its contract. The invariant, `TakingBlocks`: the records that are left, from the store so far, give the whole.
 use Rattle.model.proofs.Prelude.{◌-◌, length, arith, needs}
-use Rattle.audit_records.proofs.FileBlockSteps.{TakingBlocks, block-fits, taking-less, blocks-cases}
+use Rattle.audit_records.proofs.FileBlockSteps.{TakingBlocks, block-fits, taking_less, blocks-cases}
 use Rattle.audit_records.proofs.inner.apply_blocks.Statement.{statement}
 use Rattle.audit_records.proofs.inner.apply_blocks.Tie as tie
 
@@ -36,14 +36,14 @@ loop-less c =
     let l = tested.before in
     let read = l.before in
     let start = read.before.before.before.before.before.before in
-    taking-less _ _ _ _ _ _ _ _ start.requires l.loop.invariant read.record-length.ensures.0 block.take-block.ensures told.enum_told.given.1
+    taking_less _ _ _ _ _ _ _ _ start.requires l.loop.invariant read.record-length.ensures.0 block.take-block.ensures told.enum_told.given.1
     (omega (arith, tested.loop-test.true))
 
 returns-2 : tie.Need-returns-2 invariant-loop decreases-loop
 returns-2 c = search blocks-cases
 
-pub apply-blocks-spec : {M : Type 1} → statement M
-apply-blocks-spec =
+pub apply_blocks_spec : {M : Type 1} → statement M
+apply_blocks_spec =
     tie.close
     (tie.spec
     invariant-loop

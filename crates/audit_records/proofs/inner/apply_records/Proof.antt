@@ -22,8 +22,8 @@ returns c =
     let start = tables.before.before.before.before.before.before.before in
     stage-file start.requires tables.fill-tables.ensures taken.apply-blocks.ensures
 
-pub apply-records-spec : {M : Type 1} → statement M
-apply-records-spec =
+pub apply_records_spec : {M : Type 1} → statement M
+apply_records_spec =
     tie.close
     (tie.spec
     fill-tables-requires

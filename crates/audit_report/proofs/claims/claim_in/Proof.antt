@@ -5,8 +5,8 @@ use Rattle.audit_report.proofs.ClaimCases.{claim-cases}
 use Rattle.audit_report.proofs.claims.claim_in.Statement.{statement}
 use Rattle.audit_report.proofs.claims.claim_in.Tie as tie
 
-pub claim-in-spec : {M : Type 1} → statement M
-claim-in-spec =
+pub claim_in_spec : {M : Type 1} → statement M
+claim_in_spec =
     tie.close
     (tie.spec
     (λ c κs. search needs) (λ c. search needs) (λ c. search needs)

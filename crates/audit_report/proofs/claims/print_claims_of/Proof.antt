@@ -10,8 +10,8 @@ print-split-requires c κs =
     let truth = ascends-of _ c.before.before.before.ascending2.ensures c.before.before.if3.true in
     (claimed, truth, ascends-of _ c.before.ascending3.ensures c.if4.true)
 
-pub print-claims-of-spec : {M : Type 1} → statement M
-print-claims-of-spec =
+pub print_claims_of_spec : {M : Type 1} → statement M
+print_claims_of_spec =
     tie.close
     (tie.spec
     (λ c κs. search needs) (λ c. search needs) (λ c κs. search needs) (λ c κs. search needs) (λ c κs. search needs)

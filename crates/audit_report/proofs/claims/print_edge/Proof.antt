@@ -8,8 +8,8 @@ print-pieces-requires : tie.Need-print-pieces-requires
 print-pieces-requires c κs =
     (ascends-of _ c.before.before.before.ascending.ensures c.before.before.if1.true, ascends-of _ c.before.ascending2.ensures c.if2.true)
 
-pub print-edge-spec : {M : Type 1} → statement M
-print-edge-spec =
+pub print_edge_spec : {M : Type 1} → statement M
+print_edge_spec =
     tie.close
     (tie.spec
     (λ c κs. search needs) (λ c κs. search needs)

@@ -12,8 +12,8 @@ invariant-loop kind edge a b before shown lines₀ i₀ j₀ from₀ lines i j f
 abbrev decreases-loop : tie.decreases-loop
 decreases-loop kind edge a b before shown lines₀ i₀ j₀ from₀ lines i j from = 2 ^ 64 - from
 
-pub print-pieces-spec : {M : Type 1} → statement M
-print-pieces-spec =
+pub print_pieces_spec : {M : Type 1} → statement M
+print_pieces_spec =
     tie.close
     (tie.spec
     invariant-loop

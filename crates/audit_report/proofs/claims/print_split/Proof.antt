@@ -12,8 +12,8 @@ invariant-loop edge a b plain before shown lines₀ i₀ j₀ from₀ lines i j 
 abbrev decreases-loop : tie.decreases-loop
 decreases-loop edge a b plain before shown lines₀ i₀ j₀ from₀ lines i j from = 2 ^ 64 - from
 
-pub print-split-spec : {M : Type 1} → statement M
-print-split-spec =
+pub print_split_spec : {M : Type 1} → statement M
+print_split_spec =
     tie.close
     (tie.spec
     invariant-loop

@@ -4,8 +4,8 @@ use Rattle.bench_names.proofs.NameNetLaws.{net-of}
 use Rattle.bench_names.proofs.inner.net_at.Statement.{statement}
 use Rattle.bench_names.proofs.inner.net_at.Tie as tie
 
-pub net-at-spec : {M : Type 1} → statement M
-net-at-spec =
+pub net_at_spec : {M : Type 1} → statement M
+net_at_spec =
     tie.close
     (tie.spec
     (λ c κs. search needs) (λ c κs. search needs)

@@ -4,8 +4,8 @@ use Rattle.bench_names.proofs.NameNetLaws.{pair-in, pair-out, net-fits}
 use Rattle.bench_names.proofs.inner.net_of_key.Statement.{statement}
 use Rattle.bench_names.proofs.inner.net_of_key.Tie as tie
 
-pub net-of-key-spec : {M : Type 1} → statement M
-net-of-key-spec =
+pub net_of_key_spec : {M : Type 1} → statement M
+net_of_key_spec =
     tie.close
     (tie.spec
     (λ c κs. search needs)

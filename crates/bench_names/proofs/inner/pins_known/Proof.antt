@@ -15,8 +15,8 @@ decreases-loop line at inputs input-count gates gate-count nets place₀ more₀
 loop-again : tie.Need-loop-preserved invariant-loop decreases-loop
 loop-again c = search (known-again, needs)
 
-pub pins-known-spec : {M : Type 1} → statement M
-pins-known-spec =
+pub pins_known_spec : {M : Type 1} → statement M
+pins_known_spec =
     tie.close
     (tie.spec
     invariant-loop

@@ -12,8 +12,8 @@ copy-words-requires-2 c κs = search fill-cases
 returns-2 : tie.Need-returns-2
 returns-2 c = search fill-cases
 
-pub fill-judged-spec : {M : Type 1} → statement M
-fill-judged-spec =
+pub fill_judged_spec : {M : Type 1} → statement M
+fill_judged_spec =
     tie.close
     (tie.spec
     (λ c κs. search needs) (λ c. search needs) (λ c. search needs)

@@ -6,8 +6,8 @@ use Rattle.bench_net_names.proofs.filling.fill_names.Tie as tie
 use Rattle.bench_circuit.proofs.inner.judging.judge_text.Reads as judge-text-reads
 use Rattle.bench_net_names.proofs.filling.fill_judged.Reads as fill-judged-reads
 
-pub fill-names-spec : {M : Type 1} → statement M
-fill-names-spec =
+pub fill_names_spec : {M : Type 1} → statement M
+fill_names_spec =
     tie.close
     (tie.spec
     (λ c κs. search needs) (λ c. search needs) (λ c. search needs)

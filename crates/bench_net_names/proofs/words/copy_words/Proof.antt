@@ -1,6 +1,6 @@
 -- `bench_net_names::words::copy_words` meets its contract: so many words are copied.
 use Rattle.model.proofs.Prelude.{◌-◌, needs}
-use Rattle.bench_net_names.proofs.WordLaws.{Copied, copy_start, copy-again, copy-place, copy-same, copy-end}
+use Rattle.bench_net_names.proofs.WordLaws.{Copied, copy_start, copy_again, copy_place, copy_same, copy_end}
 use Rattle.bench_net_names.proofs.words.copy_words.Statement.{statement}
 use Rattle.bench_net_names.proofs.words.copy_words.Tie as tie
 
@@ -10,16 +10,16 @@ invariant-loop to-words₀ at words n i₀ to-words i = Copied to-words₀ at wo
 abbrev decreases-loop : tie.decreases-loop
 decreases-loop to-words₀ at words n i₀ to-words i = n - i
 
-pub copy-words-spec : {M : Type 1} → statement M
-copy-words-spec =
+pub copy_words_spec : {M : Type 1} → statement M
+copy_words_spec =
     tie.close
     (tie.spec
     invariant-loop
     decreases-loop
     (λ c. search (copy_start, needs))
     (λ c. search needs) (λ c. search needs) (λ c. search needs) (λ c. search needs)
-    (λ c. search (copy-place, needs))
+    (λ c. search (copy_place, needs))
     (λ c. search needs) (λ c. search needs)
-    (λ c. search (copy-again, needs))
-    (λ c. search (copy-same, needs))
-    (λ c. search (copy-end, needs)))
+    (λ c. search (copy_again, needs))
+    (λ c. search (copy_same, needs))
+    (λ c. search (copy_end, needs)))

@@ -13,8 +13,8 @@ decreases-loop out₀ at word rest₀ place₀ left₀ out rest place left = lef
 loop-holds : tie.Need-loop-init invariant-loop decreases-loop
 loop-holds c = search (word-start, needs)
 
-pub put-word-spec : {M : Type 1} → statement M
-put-word-spec =
+pub put_word_spec : {M : Type 1} → statement M
+put_word_spec =
     tie.close
     (tie.spec
     invariant-loop

@@ -4,8 +4,8 @@ use Rattle.bench_outputs.proofs.OutputFileLaws.{output-yes, output-no, output-fi
 use Rattle.bench_outputs.proofs.inner.put_output.Statement.{statement}
 use Rattle.bench_outputs.proofs.inner.put_output.Tie as tie
 
-pub put-output-spec : {M : Type 1} → statement M
-put-output-spec =
+pub put_output_spec : {M : Type 1} → statement M
+put_output_spec =
     tie.close
     (tie.spec
     (λ c κs. search (output-first, needs))

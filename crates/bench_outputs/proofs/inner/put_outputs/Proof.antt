@@ -25,8 +25,8 @@ loop-again c =
     step l.out l.write l.left l.at l.net l.invariant test.loop-test.true found.find-key.result
     found.find-key.ensures put.put-output.result put.put-output.new.0 put.put-output.ensures
 
-pub put-outputs-spec : {M : Type 1} → statement M
-put-outputs-spec =
+pub put_outputs_spec : {M : Type 1} → statement M
+put_outputs_spec =
     tie.close
     (tie.spec
     invariant-loop

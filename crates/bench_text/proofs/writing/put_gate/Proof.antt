@@ -13,8 +13,8 @@ put-pins-requires c κs =
     let pre = made.before.before.requires in
     (pre.0, (pre.1.0, omega (arith, third.out3.given, second.out2.given, first.out.given, pre.1.1.0)))
 
-pub put-gate-spec : {M : Type 1} → statement M
-put-gate-spec =
+pub put_gate_spec : {M : Type 1} → statement M
+put_gate_spec =
     tie.close
     (tie.spec
     (λ c κs. search needs) (λ c. search needs) (λ c κs. search needs) (λ c. search needs) (λ c κs. search needs)

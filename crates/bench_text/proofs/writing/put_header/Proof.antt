@@ -4,8 +4,8 @@ use Rattle.bench_text.proofs.HeaderLaws.{header-put}
 use Rattle.bench_text.proofs.writing.put_header.Statement.{statement}
 use Rattle.bench_text.proofs.writing.put_header.Tie as tie
 
-pub put-header-spec : {M : Type 1} → statement M
-put-header-spec =
+pub put_header_spec : {M : Type 1} → statement M
+put_header_spec =
     tie.close
     (tie.spec
     (λ c κs. search needs) (λ c κs. search needs) (λ c κs. search needs) (λ c κs. search needs) (λ c. search needs)

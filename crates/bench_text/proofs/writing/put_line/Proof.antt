@@ -5,8 +5,8 @@ use Rattle.bench_text.proofs.WriteLaws.{line-put-gate}
 use Rattle.bench_text.proofs.writing.put_line.Statement.{statement}
 use Rattle.bench_text.proofs.writing.put_line.Tie as tie
 
-pub put-line-spec : {M : Type 1} → statement M
-put-line-spec =
+pub put_line_spec : {M : Type 1} → statement M
+put_line_spec =
     tie.close
     (tie.spec
     (λ c κs. search needs) (λ c. search needs) (λ c. search needs) (λ c. search needs) (λ c. search needs)

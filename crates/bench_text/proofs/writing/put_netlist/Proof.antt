@@ -19,8 +19,8 @@ put-outputs-requires-2 c κs =
     entry.requires.0 entry.requires.1 header.new.0 header.ensures lines.result lines.new.0 lines.ensures in
     ((search (file-gates, needs), search (file-outputs, needs), search (file-second, needs)), after-lines inputs.result inputs.new.0 inputs.ensures)
 
-pub put-netlist-spec : {M : Type 1} → statement M
-put-netlist-spec =
+pub put_netlist_spec : {M : Type 1} → statement M
+put_netlist_spec =
     tie.close
     (tie.spec
     (λ c κs. search needs)

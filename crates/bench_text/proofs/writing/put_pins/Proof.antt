@@ -13,8 +13,8 @@ abbrev decreases-loop : tie.decreases-loop
 decreases-loop out₀ to-place line inputs input-count gates gate-count write₀ place₀ more₀ out write place more =
     length line - place
 
-pub put-pins-spec : {M : Type 1} → statement M
-put-pins-spec =
+pub put_pins_spec : {M : Type 1} → statement M
+put_pins_spec =
     tie.close
     (tie.spec
     invariant-loop

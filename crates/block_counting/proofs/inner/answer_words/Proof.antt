@@ -8,8 +8,8 @@ returns-2 : tie.Need-returns-2
 returns-2 c =
     ap (λ (n : ℕ). record { rising = 0; falling = 0; refusal = n }) c.refusal-number.ensures ∙ sym (ap words_of c.before.before.answer2.given.1)
 
-pub answer-words-spec : {M : Type 1} → statement M
-answer-words-spec =
+pub answer_words_spec : {M : Type 1} → statement M
+answer_words_spec =
     tie.close
     (tie.spec
     (λ c. search needs) (λ c. search needs) (λ c κs. search needs) (λ c. search needs)

@@ -135,8 +135,8 @@ returns c =
     let so_far = c.before.loop.invariant in
     (counted-kept-memory so_far, λ N tests b m. counted-all so_far c.loop-test.false N tests (block_in b m))
 
-pub count-block-spec : {M : Type 1} → statement M
-count-block-spec =
+pub count_block_spec : {M : Type 1} → statement M
+count_block_spec =
     tie.close
     (tie.spec
     invariant-loop

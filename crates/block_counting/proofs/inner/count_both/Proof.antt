@@ -21,8 +21,8 @@ returns-2 c =
     let at-write = c.before.before.before.before.before.before in
     counted-again at-write.write-both.ensures c.count-answer.ensures
 
-pub count-both-spec : {M : Type 1} → statement M
-count-both-spec =
+pub count_both_spec : {M : Type 1} → statement M
+count_both_spec =
     tie.close
     (tie.spec
     (λ c κs. some-made c.before.before.before.requires)

@@ -4,5 +4,5 @@ use Rattle.block_counting.proofs.CountBothLaws.{kept-cases}
 use Rattle.block_counting.proofs.inner.count_kept.Statement.{statement}
 use Rattle.block_counting.proofs.inner.count_kept.Tie as tie
 
-pub count-kept-spec : {M : Type 1} → statement M
-count-kept-spec = tie.close (tie.spec (λ c. search needs) (λ c. search needs) (λ c. search kept-cases) (λ c. search kept-cases))
+pub count_kept_spec : {M : Type 1} → statement M
+count_kept_spec = tie.close (tie.spec (λ c. search needs) (λ c. search needs) (λ c. search kept-cases) (λ c. search kept-cases))

@@ -4,8 +4,8 @@ use Rattle.block_detection.proofs.ActiveLaws.{there-cases}
 use Rattle.block_detection.proofs.inner.active_word.Statement.{statement}
 use Rattle.block_detection.proofs.inner.active_word.Tie as tie
 
-pub active-word-spec : {M : Type 1} → statement M
-active-word-spec =
+pub active_word_spec : {M : Type 1} → statement M
+active_word_spec =
     tie.close
     (tie.spec
     (λ c κs. search there-cases)

@@ -14,7 +14,7 @@ fault-word-requires c κs =
     let gates = c.before.before.before in
     let inputs = gates.before.before.before.before in
     let given = inputs.before.before.before.before.before.before.before.before.requires in
-    block-ready given.0 (gates.gate-words.ensures.kept.sameLength ∙ inputs.input-words.ensures.kept.sameLength)
+    block-ready given.0 (gates.gate-words.ensures.kept.same_length_of ∙ inputs.input-words.ensures.kept.same_length_of)
 
 returns : tie.Need-returns
 returns c =
@@ -26,8 +26,8 @@ returns c =
     block-word given.0 given.1 firsts.transpose.ensures lasts.transpose2.ensures inputs.input-words.ensures gates.gate-words.ensures _ _
     c.fault-word.ensures
 
-pub block-word-spec : {M : Type 1} → statement M
-block-word-spec =
+pub block_word_spec : {M : Type 1} → statement M
+block_word_spec =
     tie.close
     (tie.spec
     (λ c κs. let given = c.before.before.requires in (omega arith, given.1, block-inputs given.0))

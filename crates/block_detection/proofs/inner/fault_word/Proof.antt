@@ -3,6 +3,6 @@ use Rattle.block_detection.proofs.FaultWordCases.{fault-cases}
 use Rattle.block_detection.proofs.inner.fault_word.Statement.{statement}
 use Rattle.block_detection.proofs.inner.fault_word.Tie as tie
 
-pub fault-word-spec : {M : Type 1} → statement M
-fault-word-spec =
+pub fault_word_spec : {M : Type 1} → statement M
+fault_word_spec =
     tie.close (tie.spec (λ c κs. search fault-cases) (λ c κs. search fault-cases) (λ c κs. search fault-cases) (λ c. search fault-cases))

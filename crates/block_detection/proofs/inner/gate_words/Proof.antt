@@ -18,8 +18,8 @@ scan-pins-requires c κs =
     let t = gate.before in
     let l = t.before.before in
     let s = l.before.before in (
-      gate-pins s.requires.0 l.loop.invariant.0.fromInputs t.if1.true gate.gate-at.ensures,
-      omega (arith, l.loop.invariant.0.kept.sameLength, s.requires.1),
+      gate-pins s.requires.0 l.loop.invariant.0.from_inputs t.if1.true gate.gate-at.ensures,
+      omega (arith, l.loop.invariant.0.kept.same_length_of, s.requires.1),
     )
 
 active-words-requires : tie.Need-active-words-requires invariant-loop decreases-loop
@@ -28,10 +28,10 @@ active-words-requires c κs =
     let t = gate.before in
     let l = t.before.before in
     let s = l.before.before in (
-      gate-pins s.requires.0 l.loop.invariant.0.fromInputs t.if1.true gate.gate-at.ensures,
-      gate.gate-at.ensures.maskIs,
-      high-kind s.requires.0 l.loop.invariant.0.fromInputs t.if1.true gate.gate-at.ensures,
-      omega (arith, l.loop.invariant.0.kept.sameLength, s.requires.1),
+      gate-pins s.requires.0 l.loop.invariant.0.from_inputs t.if1.true gate.gate-at.ensures,
+      gate.gate-at.ensures.mask_is,
+      high-kind s.requires.0 l.loop.invariant.0.from_inputs t.if1.true gate.gate-at.ensures,
+      omega (arith, l.loop.invariant.0.kept.same_length_of, s.requires.1),
       l.loop.invariant.1,
       l.loop.invariant.2,
     )
@@ -42,8 +42,8 @@ net-state-requires c κs =
     let t = gate.before in
     let l = t.before.before in
     let s = l.before.before in (
-      low-kind s.requires.0 l.loop.invariant.0.fromInputs t.if1.true gate.gate-at.ensures,
-      high-kind s.requires.0 l.loop.invariant.0.fromInputs t.if1.true gate.gate-at.ensures,
+      low-kind s.requires.0 l.loop.invariant.0.from_inputs t.if1.true gate.gate-at.ensures,
+      high-kind s.requires.0 l.loop.invariant.0.from_inputs t.if1.true gate.gate-at.ensures,
     )
 
 put-net-requires : tie.Need-put-net-requires invariant-loop decreases-loop
@@ -52,7 +52,7 @@ put-net-requires c κs =
     let t = gate.before in
     let l = t.before.before in
     let s = l.before.before in
-    (omega (arith, few-nets s.requires.0, t.if1.true), omega (arith, l.loop.invariant.0.kept.sameLength, s.requires.1))
+    (omega (arith, few-nets s.requires.0, t.if1.true), omega (arith, l.loop.invariant.0.kept.same_length_of, s.requires.1))
 
 add-net : tie.Need-overflow-add-net invariant-loop decreases-loop
 add-net c =
@@ -84,8 +84,8 @@ loop-again c =
       active.active-words.ensures.falls.room,
     )
 
-pub gate-words-spec : {M : Type 1} → statement M
-gate-words-spec =
+pub gate_words_spec : {M : Type 1} → statement M
+gate_words_spec =
     tie.close
     (tie.spec
     invariant-loop
@@ -99,5 +99,5 @@ gate-words-spec =
     add-net
     loop-less
     loop-again
-    (λ c. c.before.before.loop.invariant.0.kept.sameLength)
+    (λ c. c.before.before.loop.invariant.0.kept.same_length_of)
     (λ c. let l = c.before.before in words-end l.before.before.requires.0 l.loop.invariant.0 c.if1.false))

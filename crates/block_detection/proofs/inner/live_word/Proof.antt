@@ -4,8 +4,8 @@ use Rattle.block_detection.proofs.ActiveLaws.{live-cases}
 use Rattle.block_detection.proofs.inner.live_word.Statement.{statement}
 use Rattle.block_detection.proofs.inner.live_word.Tie as tie
 
-pub live-word-spec : {M : Type 1} → statement M
-live-word-spec =
+pub live_word_spec : {M : Type 1} → statement M
+live_word_spec =
     tie.close
     (tie.spec
     (λ c. search needs) (λ c. search needs) (λ c. search needs) (λ c. search needs) (λ c. search needs)

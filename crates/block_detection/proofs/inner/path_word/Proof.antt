@@ -12,8 +12,8 @@ decreases-loop netlist positions counts shape table words edge class at₀ rest�
 loop-again : tie.Need-loop-preserved invariant-loop decreases-loop
 loop-again c = search walk-cases
 
-pub path-word-spec : {M : Type 1} → statement M
-path-word-spec =
+pub path_word_spec : {M : Type 1} → statement M
+path_word_spec =
     tie.close
     (tie.spec
     invariant-loop

@@ -10,8 +10,8 @@ invariant-loop spans₀ inputs input₀ spans input = InputsSpanned inputs spans
 abbrev decreases-loop : tie.decreases-loop
 decreases-loop spans₀ inputs input₀ spans input = inputs - input
 
-pub input-spans-spec : {M : Type 1} → statement M
-input-spans-spec =
+pub input_spans_spec : {M : Type 1} → statement M
+input_spans_spec =
     tie.close
     (tie.spec
     invariant-loop

@@ -35,8 +35,8 @@ returns-3 c =
     let made = nets.net-spans.ensures in
     (listed-spans made start.requires, λ K outs a. listed-fits made a counted.total.given.1 c.before.over-working.ensures c.if1.false)
 
-pub listed-spans-spec : {M : Type 1} → statement M
-listed-spans-spec =
+pub listed_spans_spec : {M : Type 1} → statement M
+listed_spans_spec =
     tie.close
     (tie.spec
     (λ c. search needs)

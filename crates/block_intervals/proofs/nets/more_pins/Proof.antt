@@ -9,8 +9,8 @@ invariant-loop table offsets first byte spans words₀ made left₀ count₀ wor
 abbrev decreases-loop : tie.decreases-loop
 decreases-loop table offsets first byte spans words₀ made left₀ count₀ words left count = left
 
-pub more-pins-spec : {M : Type 1} → statement M
-more-pins-spec =
+pub more_pins_spec : {M : Type 1} → statement M
+more_pins_spec =
     tie.close
     (tie.spec
     invariant-loop

@@ -8,10 +8,10 @@ one-pin-requires : tie.Need-one-pin-requires
 one-pin-requires c κs =
     let r = c.before.before.before.requires in
     let pin = low-ready r in
-    ((r.isNet, low-place r, pin.isNet, pin.fits), (pin.ordered, low-before r))
+    ((r.is_net, low-place r, pin.is_net, pin.fits), (pin.ordered, low-before r))
 
-pub net-span-spec : {M : Type 1} → statement M
-net-span-spec =
+pub net_span_spec : {M : Type 1} → statement M
+net_span_spec =
     tie.close
     (tie.spec
     (λ c. search needs) (λ c. search needs) (λ c. search needs) (λ c. search needs)

@@ -10,8 +10,8 @@ invariant-loop table offsets entries spans₀ words₀ made₀ total₀ i₀ spa
 abbrev decreases-loop : tie.decreases-loop
 decreases-loop table offsets entries spans₀ words₀ made₀ total₀ i₀ spans words made total i = length entries - i
 
-pub net-spans-spec : {M : Type 1} → statement M
-net-spans-spec =
+pub net_spans_spec : {M : Type 1} → statement M
+net_spans_spec =
     tie.close
     (tie.spec
     invariant-loop

@@ -10,8 +10,8 @@ invariant-loop total edges inputs input₀ sum₀ input sum = InputsSummed total
 abbrev decreases-loop : tie.decreases-loop
 decreases-loop total edges inputs input₀ sum₀ input sum = inputs - input
 
-pub over-working-spec : {M : Type 1} → statement M
-over-working-spec =
+pub over_working_spec : {M : Type 1} → statement M
+over_working_spec =
     tie.close
     (tie.spec
     invariant-loop

@@ -5,7 +5,7 @@ use Rattle.block_stage.proofs.covering.cover_edge.Statement.{statement}
 use Rattle.block_stage.proofs.covering.cover_edge.Tie as tie
 
 returns : tie.Need-returns
-returns c = let start = c.before.before.before.before in (start.requires.ready.listed.inputSpans, λ K h. edge_none h c.if1.true)
+returns c = let start = c.before.before.before.before in (start.requires.ready.listed.input_spans, λ K h. edge_none h c.if1.true)
 
 enum_told : tie.Need-enum-told
 enum_told c = search needs
@@ -60,8 +60,8 @@ returns-4 c =
     let made = at-total.before.before.before.before.listed-spans.ensures in
     (made.0, λ K h. edge-joined h made.1 at-total.total.given.1 at_out.out-runs.ensures at-joins.join-edge.ensures)
 
-pub cover-edge-spec : {M : Type 1} → statement M
-cover-edge-spec =
+pub cover_edge_spec : {M : Type 1} → statement M
+cover_edge_spec =
     tie.close
     (tie.spec
     returns

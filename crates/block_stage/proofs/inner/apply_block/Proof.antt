@@ -1,7 +1,7 @@
 -- `block_stage::inner::apply_block` meets its contract. The invariant, `Applying`: the tests that are left, from the store so far, give the whole.
 use Rattle.model.proofs.Prelude.{◌-◌, refl, arith, needs}
 use Rattle.block_stage.proofs.BlockSteps.{Applying, block_in, block-begun, block-inputs, ended-kept, ended, up-inside, down-inside, some-listed, refused-kept, refused-here}
-use Rattle.block_stage.proofs.BlockSteps.{record-taken, block-few, block-cases}
+use Rattle.block_stage.proofs.BlockSteps.{record_taken, block-few, block-cases}
 use Rattle.block_stage.proofs.inner.apply_block.Statement.{statement}
 use Rattle.block_stage.proofs.inner.apply_block.Tie as tie
 
@@ -63,15 +63,15 @@ loop-again c =
     let stage = at_stage.apply-listed.ensures in
     let at-edges = at_stage.before.before.before.before in
     let at_test = at-edges.before.before.before.before.before in
-    record-taken at_test.before.loop.invariant at_test.loop-test.true at-edges.edges_at.ensures stage.1 c.enum_told.given.1 stage.0
+    record_taken at_test.before.loop.invariant at_test.loop-test.true at-edges.edges_at.ensures stage.1 c.enum_told.given.1 stage.0
 
 returns-2 : tie.Need-returns-2 invariant-loop decreases-loop
 returns-2 c =
     let so_far = c.before.loop.invariant in
     (ended-kept so_far, λ N tests b m. ended so_far c.loop-test.false N tests (block_in b m))
 
-pub apply-block-spec : {M : Type 1} → statement M
-apply-block-spec =
+pub apply_block_spec : {M : Type 1} → statement M
+apply_block_spec =
     tie.close
     (tie.spec
     invariant-loop

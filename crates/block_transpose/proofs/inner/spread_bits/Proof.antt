@@ -4,5 +4,5 @@ use Rattle.block_transpose.proofs.SpreadBitsCases.{sum_fits, spread-bits-is}
 use Rattle.block_transpose.proofs.inner.spread_bits.Statement.{statement}
 use Rattle.block_transpose.proofs.inner.spread_bits.Tie as tie
 
-pub spread-bits-spec : {M : Type 1} → statement M
-spread-bits-spec = tie.close (tie.spec (λ c. search needs) (λ c. omega (arith, sum_fits c.args.byte)) (λ c. spread-bits-is c.args.byte c.requires))
+pub spread_bits_spec : {M : Type 1} → statement M
+spread_bits_spec = tie.close (tie.spec (λ c. search needs) (λ c. omega (arith, sum_fits c.args.byte)) (λ c. spread-bits-is c.args.byte c.requires))

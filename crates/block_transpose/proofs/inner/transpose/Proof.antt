@@ -1,6 +1,6 @@
 -- `block_transpose::inner::transpose` meets its contract. The loop's invariant: the inputs below 8 * byte have their words, the others have 0.
 use Rattle.model.proofs.Prelude.{◌<◌, ◌-◌, arith}
-use Rattle.block_transpose.proofs.TransposeCases.{Transposing, transpose-start, transpose-step, transpose-end}
+use Rattle.block_transpose.proofs.TransposeCases.{Transposing, transpose_start, transpose_step, transpose_end}
 use Rattle.block_transpose.proofs.inner.transpose.Statement.{statement}
 use Rattle.block_transpose.proofs.inner.transpose.Tie as tie
 
@@ -24,18 +24,18 @@ loop-again : tie.Need-loop-preserved invariant-loop decreases-loop
 loop-again c =
     let start = c.before.before.before.before.requires in
     let few : c.before.before.before.loop.byte < 8 = omega (arith, start, c.before.before.loop-test.true) in
-    transpose-step c.before.before.before.loop.invariant few c.transpose-column.ensures
+    transpose_step c.before.before.before.loop.invariant few c.transpose-column.ensures
 
-pub transpose-spec : {M : Type 1} → statement M
-transpose-spec =
+pub transpose_spec : {M : Type 1} → statement M
+transpose_spec =
     tie.close
     (tie.spec
     invariant-loop
     decreases-loop
-    (λ c. transpose-start)
+    (λ c. transpose_start)
     (λ c. omega (arith, c.loop.invariant.within))
     transpose-column-requires
     (λ c. omega (arith, c.before.before.before.loop.invariant.within))
     loop-less
     loop-again
-    (λ c. transpose-end c.before.loop.invariant c.loop-test.false))
+    (λ c. transpose_end c.before.loop.invariant c.loop-test.false))

@@ -1,6 +1,6 @@
 -- `block_transpose::inner::transpose_column` meets its contract. The loop's invariant: the records below t stand in the eight words, and nothing above them.
 use Rattle.model.proofs.Prelude.{◌-◌, ◌∙◌, arith}
-use Rattle.block_transpose.proofs.TransposeCases.{Standing, transpose-column-start, transpose-column-step, transpose-column-end}
+use Rattle.block_transpose.proofs.TransposeCases.{Standing, transpose_column-start, transpose_column-step, transpose_column-end}
 use Rattle.block_transpose.proofs.inner.transpose_column.Statement.{statement}
 use Rattle.block_transpose.proofs.inner.transpose_column.Tie as tie
 
@@ -20,7 +20,7 @@ scatter-bytes-requires : tie.Need-scatter-bytes-requires invariant-loop decrease
 scatter-bytes-requires c κs =
     let loop = c.before.before.before.loop in
     let start = c.before.before.before.before.requires in
-    (omega (arith, start), omega (arith, start, loop.invariant.eights, c.before.before.loop-test.true), loop.invariant.sameLength ∙ start.3)
+    (omega (arith, start), omega (arith, start, loop.invariant.eights, c.before.before.loop-test.true), loop.invariant.same_length_of ∙ start.3)
 
 add-t : tie.Need-overflow-add-t invariant-loop decreases-loop
 add-t c =
@@ -36,15 +36,15 @@ loop-again : tie.Need-loop-preserved invariant-loop decreases-loop
 loop-again c =
     let start = c.before.before.before.before.before.requires in
     let loop = c.before.before.before.before.loop in
-    transpose-column-step loop.invariant c.before.before.gather-8x8.ensures c.scatter-bytes.ensures (omega (arith, start, c.before.before.before.loop-test.true))
+    transpose_column-step loop.invariant c.before.before.gather-8x8.ensures c.scatter-bytes.ensures (omega (arith, start, c.before.before.before.loop-test.true))
 
-pub transpose-column-spec : {M : Type 1} → statement M
-transpose-column-spec =
+pub transpose_column_spec : {M : Type 1} → statement M
+transpose_column_spec =
     tie.close
     (tie.spec
     invariant-loop
     decreases-loop
-    (λ c. transpose-column-start)
+    (λ c. transpose_column-start)
     (λ c. omega (arith, c.before.before.requires, c.loop-test.true))
     (λ c. omega (arith, c.before.before.requires))
     gather-8x8-requires
@@ -53,4 +53,4 @@ transpose-column-spec =
     add-t
     loop-less
     loop-again
-    (λ c. transpose-column-end c.before.loop.invariant c.loop-test.false))
+    (λ c. transpose_column-end c.before.loop.invariant c.loop-test.false))

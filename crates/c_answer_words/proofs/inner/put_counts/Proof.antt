@@ -13,8 +13,8 @@ decreases-loop counts answer₀ net₀ answer net = 512 - net
 loop-again : tie.Need-loop-preserved invariant-loop decreases-loop
 loop-again c = search stored-cases
 
-pub put-counts-spec : {M : Type 1} → statement M
-put-counts-spec =
+pub put_counts_spec : {M : Type 1} → statement M
+put_counts_spec =
     tie.close
     (tie.spec
     invariant-loop

@@ -11,8 +11,8 @@ invariant-loop row at answer₀ gates₀ answer gates =
 abbrev decreases-loop : tie.decreases-loop
 decreases-loop row at answer₀ gates₀ answer gates = 64 - gates
 
-pub put-row-spec : {M : Type 1} → statement M
-put-row-spec =
+pub put_row_spec : {M : Type 1} → statement M
+put_row_spec =
     tie.close
     (tie.spec
     invariant-loop

@@ -25,5 +25,5 @@ returns c =
       omega (arith, length-append (get_or rows 0 []) (get_or rows 1 []), n, m),
     )
 
-pub put-rows-spec : {M : Type 1} → statement M
-put-rows-spec = tie.close (tie.spec (λ c. search needs) (λ c. search needs) put-row-requires (λ c. search needs) put-row-requires-2 returns)
+pub put_rows_spec : {M : Type 1} → statement M
+put_rows_spec = tie.close (tie.spec (λ c. search needs) (λ c. search needs) put-row-requires (λ c. search needs) put-row-requires-2 returns)

@@ -9,8 +9,8 @@ invariant-loop numbers count at₀ t5 at = at ≤ 8
 abbrev decreases-loop : tie.decreases-loop
 decreases-loop numbers count at₀ t5 at = 8 - at
 
-pub print-numbers-spec : {M : Type 1} → statement M
-print-numbers-spec =
+pub print_numbers_spec : {M : Type 1} → statement M
+print_numbers_spec =
     tie.close
     (tie.spec
     invariant-loop

@@ -9,8 +9,8 @@ invariant-loop left right count at₀ at = at ≤ 8
 abbrev decreases-loop : tie.decreases-loop
 decreases-loop left right count at₀ at = 8 - at
 
-pub same-numbers-spec : {M : Type 1} → statement M
-same-numbers-spec =
+pub same_numbers_spec : {M : Type 1} → statement M
+same_numbers_spec =
     tie.close
     (tie.spec
     invariant-loop

@@ -9,8 +9,8 @@ invariant-loop cells word found₀ at₀ found at = (at ≤ length cells) × (fo
 abbrev decreases-loop : tie.decreases-loop
 decreases-loop cells word found₀ at₀ found at = length cells - at
 
-pub count-of-spec : {M : Type 1} → statement M
-count-of-spec =
+pub count_of_spec : {M : Type 1} → statement M
+count_of_spec =
     tie.close
     (tie.spec
     invariant-loop

@@ -9,8 +9,8 @@ invariant-loop cells₀ numbers most count at₀ cells at = (at ≤ count) × (l
 abbrev decreases-loop : tie.decreases-loop
 decreases-loop cells₀ numbers most count at₀ cells at = count - at
 
-pub put-numbers-spec : {M : Type 1} → statement M
-put-numbers-spec =
+pub put_numbers_spec : {M : Type 1} → statement M
+put_numbers_spec =
     tie.close
     (tie.spec
     invariant-loop

@@ -9,8 +9,8 @@ invariant-loop a b found₀ at₀ found at = (at ≤ length a) × (found ≤ at)
 abbrev decreases-loop : tie.decreases-loop
 decreases-loop a b found₀ at₀ found at = length a - at
 
-pub same-places-spec : {M : Type 1} → statement M
-same-places-spec =
+pub same_places_spec : {M : Type 1} → statement M
+same_places_spec =
     tie.close
     (tie.spec
     invariant-loop

@@ -9,8 +9,8 @@ invariant-loop a b at₀ at = at ≤ length a
 abbrev decreases-loop : tie.decreases-loop
 decreases-loop a b at₀ at = length a - at
 
-pub same-start-spec : {M : Type 1} → statement M
-same-start-spec =
+pub same_start_spec : {M : Type 1} → statement M
+same_start_spec =
     tie.close
     (tie.spec
     invariant-loop

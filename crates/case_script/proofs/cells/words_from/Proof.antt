@@ -9,8 +9,8 @@ invariant-loop cells place answer₀ at₀ answer at = at₀ ≤ at
 abbrev decreases-loop : tie.decreases-loop
 decreases-loop cells place answer₀ at₀ answer at = length cells - at
 
-pub words-from-spec : {M : Type 1} → statement M
-words-from-spec =
+pub words_from_spec : {M : Type 1} → statement M
+words_from_spec =
     tie.close
     (tie.spec
     invariant-loop

@@ -9,8 +9,8 @@ invariant-loop cells₀ from gates kind pins net at₀ left₀ feeding₀ cells 
 abbrev decreases-loop : tie.decreases-loop
 decreases-loop cells₀ from gates kind pins net at₀ left₀ feeding₀ cells at left feeding = left
 
-pub put-gates-spec : {M : Type 1} → statement M
-put-gates-spec =
+pub put_gates_spec : {M : Type 1} → statement M
+put_gates_spec =
     tie.close
     (tie.spec
     invariant-loop

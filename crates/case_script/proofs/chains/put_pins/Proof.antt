@@ -9,8 +9,8 @@ invariant-loop cells₀ from pins net at₀ left₀ cells at left = (left ≤ pi
 abbrev decreases-loop : tie.decreases-loop
 decreases-loop cells₀ from pins net at₀ left₀ cells at left = left
 
-pub put-pins-spec : {M : Type 1} → statement M
-put-pins-spec =
+pub put_pins_spec : {M : Type 1} → statement M
+put_pins_spec =
     tie.close
     (tie.spec
     invariant-loop

@@ -9,8 +9,8 @@ invariant-loop cells bytes₀ at₀ bytes at = (at ≤ length cells) × (length 
 abbrev decreases-loop : tie.decreases-loop
 decreases-loop cells bytes₀ at₀ bytes at = length cells - at
 
-pub load-bytes-spec : {M : Type 1} → statement M
-load-bytes-spec =
+pub load_bytes_spec : {M : Type 1} → statement M
+load_bytes_spec =
     tie.close
     (tie.spec
     invariant-loop

@@ -9,8 +9,8 @@ invariant-loop cells path₀ at₀ path at = (at ≤ length cells) × (length pa
 abbrev decreases-loop : tie.decreases-loop
 decreases-loop cells path₀ at₀ path at = length cells - at
 
-pub load-path-spec : {M : Type 1} → statement M
-load-path-spec =
+pub load_path_spec : {M : Type 1} → statement M
+load_path_spec =
     tie.close
     (tie.spec
     invariant-loop

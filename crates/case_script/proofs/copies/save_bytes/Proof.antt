@@ -9,8 +9,8 @@ invariant-loop bytes cells₀ at₀ cells at = (at ≤ length bytes) × (length 
 abbrev decreases-loop : tie.decreases-loop
 decreases-loop bytes cells₀ at₀ cells at = length bytes - at
 
-pub save-bytes-spec : {M : Type 1} → statement M
-save-bytes-spec =
+pub save_bytes_spec : {M : Type 1} → statement M
+save_bytes_spec =
     tie.close
     (tie.spec
     invariant-loop

@@ -9,8 +9,8 @@ invariant-loop path cells₀ at₀ cells at = (at ≤ length path) × (length ce
 abbrev decreases-loop : tie.decreases-loop
 decreases-loop path cells₀ at₀ cells at = length path - at
 
-pub save-path-spec : {M : Type 1} → statement M
-save-path-spec =
+pub save_path_spec : {M : Type 1} → statement M
+save_path_spec =
     tie.close
     (tie.spec
     invariant-loop

@@ -9,8 +9,8 @@ invariant-loop part found₀ at₀ found at = at ≤ length part
 abbrev decreases-loop : tie.decreases-loop
 decreases-loop part found₀ at₀ found at = length part - at
 
-pub numbers-in-spec : {M : Type 1} → statement M
-numbers-in-spec =
+pub numbers_in_spec : {M : Type 1} → statement M
+numbers_in_spec =
     tie.close
     (tie.spec
     invariant-loop

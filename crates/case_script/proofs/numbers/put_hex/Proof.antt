@@ -9,8 +9,8 @@ invariant-loop part cells₀ from state₀ at₀ cells state at = (at ≤ length
 abbrev decreases-loop : tie.decreases-loop
 decreases-loop part cells₀ from state₀ at₀ cells state at = length part - at
 
-pub put-hex-spec : {M : Type 1} → statement M
-put-hex-spec =
+pub put_hex_spec : {M : Type 1} → statement M
+put_hex_spec =
     tie.close
     (tie.spec
     invariant-loop

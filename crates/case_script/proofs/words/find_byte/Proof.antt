@@ -9,8 +9,8 @@ invariant-loop text from byte at₀ at = (from ≤ at) × (at ≤ max from (leng
 abbrev decreases-loop : tie.decreases-loop
 decreases-loop text from byte at₀ at = length text - at
 
-pub find-byte-spec : {M : Type 1} → statement M
-find-byte-spec =
+pub find_byte_spec : {M : Type 1} → statement M
+find_byte_spec =
     tie.close
     (tie.spec
     invariant-loop

@@ -9,8 +9,8 @@ invariant-loop text key₀ at₀ key at = at ≤ length text
 abbrev decreases-loop : tie.decreases-loop
 decreases-loop text key₀ at₀ key at = length text - at
 
-pub key-of-spec : {M : Type 1} → statement M
-key-of-spec =
+pub key_of_spec : {M : Type 1} → statement M
+key_of_spec =
     tie.close
     (tie.spec
     invariant-loop

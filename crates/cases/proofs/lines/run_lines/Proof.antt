@@ -10,8 +10,8 @@ invariant-loop script cells₀ store₀ work₀ done₀ at₀ cells store work d
 abbrev decreases-loop : tie.decreases-loop
 decreases-loop script cells₀ store₀ work₀ done₀ at₀ cells store work done at = length script - at
 
-pub run-lines-spec : {M : Type 1} → statement M
-run-lines-spec =
+pub run_lines_spec : {M : Type 1} → statement M
+run_lines_spec =
     tie.close
     (tie.spec
     invariant-loop

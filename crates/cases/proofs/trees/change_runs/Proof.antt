@@ -9,8 +9,8 @@ invariant-loop key low high times step tree₀ least₀ most₀ left₀ tree lea
 abbrev decreases-loop : tie.decreases-loop
 decreases-loop key low high times step tree₀ least₀ most₀ left₀ tree least most left = left
 
-pub change-runs-spec : {M : Type 1} → statement M
-change-runs-spec =
+pub change_runs_spec : {M : Type 1} → statement M
+change_runs_spec =
     tie.close
     (tie.spec
     invariant-loop

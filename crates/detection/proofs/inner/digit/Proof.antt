@@ -4,5 +4,5 @@ use Rattle.record_bytes.proofs.BitLaws.{word-digit}
 use Rattle.detection.proofs.inner.digit.Statement.{statement}
 use Rattle.detection.proofs.inner.digit.Tie as tie
 
-pub digit-spec : {M : Type 1} → statement M
-digit-spec = tie.close (tie.spec (λ c. search needs) (λ c. word-digit c.args.word c.args.place))
+pub digit_spec : {M : Type 1} → statement M
+digit_spec = tie.close (tie.spec (λ c. search needs) (λ c. word-digit c.args.word c.args.place))

@@ -4,5 +4,5 @@ use Rattle.record_bytes.proofs.BitLaws.{word-digit}
 use Rattle.detection_fault.proofs.walking.bit_of.Statement.{statement}
 use Rattle.detection_fault.proofs.walking.bit_of.Tie as tie
 
-pub bit-of-spec : {M : Type 1} → statement M
-bit-of-spec = tie.close (tie.spec (λ c. search needs) (λ c. (word-digit c.args.word c.args.place).1))
+pub bit_of_spec : {M : Type 1} → statement M
+bit_of_spec = tie.close (tie.spec (λ c. search needs) (λ c. (word-digit c.args.word c.args.place).1))

@@ -12,8 +12,8 @@ returns c =
     let at-vectors = at-edges.before.before in
     asked-detects at-vectors.before.before.before.requires _ _ at-vectors.read-vectors.ensures _ masks _ at-edges.edges-of.ensures _ _ edge _ c.open-path.ensures
 
-pub detects-path-spec : {M : Type 1} → statement M
-detects-path-spec =
+pub detects_path_spec : {M : Type 1} → statement M
+detects_path_spec =
     tie.close
     (tie.spec
     (λ c κs. search asked-cases)

@@ -12,8 +12,8 @@ decreases-loop netlist positions counts masks moved net number inputs at₀ rest
 returns : tie.Need-returns invariant-loop decreases-loop
 returns c = search walk-cases
 
-pub open-from-spec : {M : Type 1} → statement M
-open-from-spec =
+pub open_from_spec : {M : Type 1} → statement M
+open_from_spec =
     tie.close
     (tie.spec
     invariant-loop

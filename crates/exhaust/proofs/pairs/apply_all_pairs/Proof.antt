@@ -1,6 +1,6 @@
 -- `exhaust::pairs::apply_all_pairs` meets its contract. The invariant, `TakingPairs`: the pairs of the V1 that are left, from the store so far, give the whole.
 use Rattle.model.proofs.Prelude.{◌-◌, needs}
-use Rattle.exhaust.proofs.PairCases.{TakingPairs, taking-ready, taking-below, taking-next, all-cases}
+use Rattle.exhaust.proofs.PairCases.{TakingPairs, taking_ready, taking_below, taking_next, all-cases}
 use Rattle.exhaust.proofs.pairs.apply_all_pairs.Statement.{statement}
 use Rattle.exhaust.proofs.pairs.apply_all_pairs.Tie as tie
 
@@ -18,8 +18,8 @@ apply-pairs-with-requires c κs =
     let read = l.before in
     let start = read.before.before.before.before.before in
     let ec = read.vectors-of.ensures in
-    let ready = taking-ready _ _ _ _ _ _ _ ec l.loop.invariant start.requires.0 in
-    (ready, (start.requires.1, taking-below _ _ _ _ _ _ _ ec l.loop.invariant start.requires.0 tested.loop-test.true))
+    let ready = taking_ready _ _ _ _ _ _ _ ec l.loop.invariant start.requires.0 in
+    (ready, (start.requires.1, taking_below _ _ _ _ _ _ _ ec l.loop.invariant start.requires.0 tested.loop-test.true))
 
 enum_told : tie.Need-enum-told invariant-loop decreases-loop
 enum_told c = search needs
@@ -31,11 +31,11 @@ loop-again c =
     let l = tested.before in
     let read = l.before in
     let start = read.before.before.before.before.before in
-    taking-next _ _ _ _ _ _ _ read.vectors-of.ensures l.loop.invariant start.requires.0 tested.loop-test.true said.apply-pairs-with.ensures
+    taking_next _ _ _ _ _ _ _ read.vectors-of.ensures l.loop.invariant start.requires.0 tested.loop-test.true said.apply-pairs-with.ensures
     c.enum_told.given.1
 
-pub apply-all-pairs-spec : {M : Type 1} → statement M
-apply-all-pairs-spec =
+pub apply_all_pairs_spec : {M : Type 1} → statement M
+apply_all_pairs_spec =
     tie.close
     (tie.spec
     invariant-loop

@@ -19,8 +19,8 @@ returns c =
     let put = held.put-pairs.ensures in
     pairs-with start.requires.0 start.requires.1.0 _ start.requires.1.1 _ put.0 put.2 tested.apply-tests.ensures
 
-pub apply-pairs-with-spec : {M : Type 1} → statement M
-apply-pairs-with-spec =
+pub apply_pairs_with_spec : {M : Type 1} → statement M
+apply_pairs_with_spec =
     tie.close
     (tie.spec
     (λ c κs. search needs)

@@ -27,8 +27,8 @@ returns c =
     let loop = c.before in
     held-end _ loop.before.vectors-of.ensures loop.loop.invariant c.loop-test.false
 
-pub put-pairs-spec : {M : Type 1} → statement M
-put-pairs-spec =
+pub put_pairs_spec : {M : Type 1} → statement M
+put_pairs_spec =
     tie.close
     (tie.spec
     invariant-loop

@@ -10,5 +10,5 @@ returns c =
     let is = one_shifted c.args.inputs (omega (arith, c.requires)) in
     (is, subst (λ k. k ≤ 64) (sym is) (pow_mono {i = c.args.inputs} {j = 6} c.requires))
 
-pub vectors-of-spec : {M : Type 1} → statement M
-vectors-of-spec = tie.close (tie.spec (λ c. search needs) returns)
+pub vectors_of_spec : {M : Type 1} → statement M
+vectors_of_spec = tie.close (tie.spec (λ c. search needs) returns)

@@ -7,5 +7,5 @@ use Rattle.exhaust_text.proofs.lines.list_faults.Tie as tie
 returns : tie.Need-returns
 returns c = (search line-cases, search line-cases)
 
-pub list-faults-spec : {M : Type 1} → statement M
-list-faults-spec = tie.close (tie.spec (λ c. search needs) (λ c κs. (search line-cases, search line-cases, search line-cases)) returns)
+pub list_faults_spec : {M : Type 1} → statement M
+list_faults_spec = tie.close (tie.spec (λ c. search needs) (λ c κs. (search line-cases, search line-cases, search line-cases)) returns)

@@ -7,8 +7,8 @@ use Rattle.exhaust_text.proofs.lines.put_lines.Tie as tie
 returns : tie.Need-returns
 returns c = search line-cases
 
-pub put-lines-spec : {M : Type 1} → statement M
-put-lines-spec =
+pub put_lines_spec : {M : Type 1} → statement M
+put_lines_spec =
     tie.close
     (tie.spec
     (λ c κs. (search line-cases, search line-cases))

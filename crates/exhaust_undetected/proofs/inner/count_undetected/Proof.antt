@@ -7,6 +7,6 @@ use Rattle.exhaust_undetected.proofs.inner.count_undetected.Tie as tie
 returns : tie.Need-returns
 returns c = search count-cases
 
-pub count-undetected-spec : {M : Type 1} → statement M
-count-undetected-spec =
+pub count_undetected_spec : {M : Type 1} → statement M
+count_undetected_spec =
     tie.close (tie.spec (λ c κs. search count-cases) (λ c. search count-cases) (λ c. search count-cases) (λ c. search needs) returns)

@@ -9,8 +9,8 @@ invariant-loop words paths list₀ from₀ count₀ left₀ list from count left
 abbrev decreases-loop : tie.decreases-loop
 decreases-loop words paths list₀ from₀ count₀ left₀ list from count left = left
 
-pub first-undetected-spec : {M : Type 1} → statement M
-first-undetected-spec =
+pub first_undetected_spec : {M : Type 1} → statement M
+first_undetected_spec =
     tie.close
     (tie.spec
     invariant-loop

@@ -10,8 +10,8 @@ returns c = search first-cases
 returns-2 : tie.Need-returns-2
 returns-2 c = search first-cases
 
-pub next-fault-spec : {M : Type 1} → statement M
-next-fault-spec =
+pub next_fault_spec : {M : Type 1} → statement M
+next_fault_spec =
     tie.close
     (tie.spec
     (λ c κs. search needs) (λ c κs. search needs) (λ c κs. search needs) (λ c κs. search needs) (λ c κs. search needs)

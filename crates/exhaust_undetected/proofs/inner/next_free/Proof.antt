@@ -16,8 +16,8 @@ add-result-2 c = search walk-cases
 returns : tie.Need-returns invariant-loop decreases-loop
 returns c = search walk-cases
 
-pub next-free-spec : {M : Type 1} → statement M
-next-free-spec =
+pub next_free_spec : {M : Type 1} → statement M
+next_free_spec =
     tie.close
     (tie.spec
     invariant-loop

@@ -4,8 +4,8 @@ use Rattle.exhaust_undetected.proofs.ListedCases.{next-cases}
 use Rattle.exhaust_undetected.proofs.inner.next_number.Statement.{statement}
 use Rattle.exhaust_undetected.proofs.inner.next_number.Tie as tie
 
-pub next-number-spec : {M : Type 1} → statement M
-next-number-spec =
+pub next_number_spec : {M : Type 1} → statement M
+next_number_spec =
     tie.close
     (tie.spec
     (λ c κs. search needs) (λ c. search needs) (λ c. search needs) (λ c κs. search needs)

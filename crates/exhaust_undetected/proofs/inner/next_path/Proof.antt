@@ -5,8 +5,8 @@ use Rattle.exhaust_undetected.proofs.FreeLaws.{path-rising, path-falling}
 use Rattle.exhaust_undetected.proofs.inner.next_path.Statement.{statement}
 use Rattle.exhaust_undetected.proofs.inner.next_path.Tie as tie
 
-pub next-path-spec : {M : Type 1} → statement M
-next-path-spec =
+pub next_path_spec : {M : Type 1} → statement M
+next_path_spec =
     tie.close
     (tie.spec
     (λ c. search needs) (λ c. search needs) (λ c. search needs) (λ c. search needs) (λ c. search needs)

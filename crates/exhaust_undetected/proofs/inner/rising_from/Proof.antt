@@ -4,7 +4,7 @@ use Rattle.exhaust_undetected.proofs.FirstLaws.{first-cases}
 use Rattle.exhaust_undetected.proofs.inner.rising_from.Statement.{statement}
 use Rattle.exhaust_undetected.proofs.inner.rising_from.Tie as tie
 
-pub rising-from-spec : {M : Type 1} → statement M
-rising-from-spec =
+pub rising_from_spec : {M : Type 1} → statement M
+rising_from_spec =
     tie.close
     (tie.spec (λ c κs. search needs) (λ c κs. search needs) (λ c. search needs) (λ c. search needs) (λ c. search needs) (λ c. search first-cases) (λ c. search first-cases))

@@ -4,5 +4,5 @@ use Rattle.gate_logic.proofs.EvaluationCases.{class-robust, class-other}
 use Rattle.gate_logic.proofs.inner.class_pins.Statement.{statement}
 use Rattle.gate_logic.proofs.inner.class_pins.Tie as tie
 
-pub class-pins-spec : {M : Type 1} → statement M
-class-pins-spec = tie.close (tie.spec (λ c κs. search needs) (λ c. search (class-robust, needs)) (λ c κs. search needs) (λ c. search (class-other, needs)))
+pub class_pins_spec : {M : Type 1} → statement M
+class_pins_spec = tie.close (tie.spec (λ c κs. search needs) (λ c. search (class-robust, needs)) (λ c κs. search needs) (λ c. search (class-other, needs)))

@@ -11,5 +11,5 @@ returns c =
     either (eqb a.steady a.all) (not (eqb (bit_and a.steady a.controlling) 0)) c.before.one-where.result c.one-where2.result
     c.before.one-where.ensures.0 c.one-where2.ensures.0
 
-pub gate-steady-spec : {M : Type 1} → statement M
-gate-steady-spec = tie.close (tie.spec (λ c κs. search needs) (λ c κs. search needs) returns)
+pub gate_steady_spec : {M : Type 1} → statement M
+gate_steady_spec = tie.close (tie.spec (λ c κs. search needs) (λ c κs. search needs) returns)

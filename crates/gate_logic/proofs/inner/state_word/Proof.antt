@@ -12,8 +12,8 @@ add-result-2 c = omega (arith, c.one-where3.ensures.1, c.before.one-where2.ensur
 returns : tie.Need-returns
 returns c = three-bits c.before.before.one-where.ensures.0 c.before.one-where2.ensures.0 c.one-where3.ensures.0
 
-pub state-word-spec : {M : Type 1} → statement M
-state-word-spec =
+pub state_word_spec : {M : Type 1} → statement M
+state_word_spec =
     tie.close
     (tie.spec
     (λ c κs. search needs) (λ c κs. search needs)

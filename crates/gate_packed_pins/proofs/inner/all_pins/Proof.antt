@@ -8,8 +8,8 @@ use Rattle.gate_packed_pins.proofs.inner.all_pins.Tie as tie
 sub-result : tie.Need-overflow-sub-result
 sub-result c = rw (shifted_one c.before.args.pins (omega (arith, c.before.requires, c.if1.false))) (pow_pos c.before.args.pins)
 
-pub all-pins-spec : {M : Type 1} → statement M
-all-pins-spec =
+pub all_pins_spec : {M : Type 1} → statement M
+all_pins_spec =
     tie.close
     (tie.spec
     (λ c. eight-pins c.before.args.pins c.if1.true)

@@ -7,8 +7,8 @@ use Rattle.gate_packed_pins.proofs.inner.open_set.Tie as tie
 returns-3 : tie.Need-returns-3
 returns-3 c = one-controls c.before.before.args.all c.before.before.args.controlling (search needs) c.if2.false c.before.if1.false
 
-pub open-set-spec : {M : Type 1} → statement M
-open-set-spec =
+pub open_set_spec : {M : Type 1} → statement M
+open_set_spec =
     tie.close
     (tie.spec
     (λ c. search needs) (λ c. search needs)

@@ -8,5 +8,5 @@ returns c =
     let called = c.before.before.before.tree-delete.ensures in
     (c.changed-code.ensures ∙ called.answer, called.holding)
 
-pub genduwal-tree-delete-spec : {M : Type 1} → statement M
-genduwal-tree-delete-spec = tie.close (tie.spec (λ c κs. search needs) (λ c κs. search needs) (λ c. search needs) returns)
+pub genduwal_tree_delete_spec : {M : Type 1} → statement M
+genduwal_tree_delete_spec = tie.close (tie.spec (λ c κs. search needs) (λ c κs. search needs) (λ c. search needs) returns)

@@ -8,5 +8,5 @@ returns c =
     let called = c.before.before.before.tree-empty.ensures in
     (c.emptied-code.ensures ∙ called.answer, called.words)
 
-pub genduwal-tree-empty-spec : {M : Type 1} → statement M
-genduwal-tree-empty-spec = tie.close (tie.spec (λ c κs. search needs) (λ c κs. search needs) (λ c. search needs) returns)
+pub genduwal_tree_empty_spec : {M : Type 1} → statement M
+genduwal_tree_empty_spec = tie.close (tie.spec (λ c κs. search needs) (λ c κs. search needs) (λ c. search needs) returns)

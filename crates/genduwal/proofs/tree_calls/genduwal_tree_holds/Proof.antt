@@ -4,8 +4,8 @@ use Rattle.c_answer_words.proofs.CodeLaws.{answered-by}
 use Rattle.genduwal.proofs.tree_calls.genduwal_tree_holds.Statement.{statement}
 use Rattle.genduwal.proofs.tree_calls.genduwal_tree_holds.Tie as tie
 
-pub genduwal-tree-holds-spec : {M : Type 1} → statement M
-genduwal-tree-holds-spec =
+pub genduwal_tree_holds_spec : {M : Type 1} → statement M
+genduwal_tree_holds_spec =
     tie.close
     (tie.spec
     (λ c κs. search needs) (λ c κs. search needs)

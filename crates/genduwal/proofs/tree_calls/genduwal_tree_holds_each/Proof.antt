@@ -9,5 +9,5 @@ returns c =
     let called = c.before.before.before.before.tree-holds-each.ensures in
     (answered-by called.answer c.each-code.ensures, called.words)
 
-pub genduwal-tree-holds-each-spec : {M : Type 1} → statement M
-genduwal-tree-holds-each-spec = tie.close (tie.spec (λ c κs. search needs) (λ c κs. search needs) (λ c. search needs) returns)
+pub genduwal_tree_holds_each_spec : {M : Type 1} → statement M
+genduwal_tree_holds_each_spec = tie.close (tie.spec (λ c κs. search needs) (λ c κs. search needs) (λ c. search needs) returns)

@@ -8,5 +8,5 @@ returns c =
     let called = c.before.before.before.tree-insert.ensures in
     (c.changed-code.ensures ∙ called.answer, called.holding)
 
-pub genduwal-tree-insert-spec : {M : Type 1} → statement M
-genduwal-tree-insert-spec = tie.close (tie.spec (λ c κs. search needs) (λ c κs. search needs) (λ c. search needs) returns)
+pub genduwal_tree_insert_spec : {M : Type 1} → statement M
+genduwal_tree_insert_spec = tie.close (tie.spec (λ c κs. search needs) (λ c κs. search needs) (λ c. search needs) returns)

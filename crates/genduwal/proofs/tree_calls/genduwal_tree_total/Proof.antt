@@ -4,8 +4,8 @@ use Rattle.c_answer_words.proofs.CodeLaws.{answered-by}
 use Rattle.genduwal.proofs.tree_calls.genduwal_tree_total.Statement.{statement}
 use Rattle.genduwal.proofs.tree_calls.genduwal_tree_total.Tie as tie
 
-pub genduwal-tree-total-spec : {M : Type 1} → statement M
-genduwal-tree-total-spec =
+pub genduwal_tree_total_spec : {M : Type 1} → statement M
+genduwal_tree_total_spec =
     tie.close
     (tie.spec
     (λ c κs. search needs) (λ c κs. search needs)

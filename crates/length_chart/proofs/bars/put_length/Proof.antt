@@ -1,7 +1,7 @@
 -- `length_chart::bars::put_length` meets its contract: a group of lines where there is a path.
 use native.Mathlib.Omega.{arith}
 use Rattle.text_buffer.proofs.WrittenLaws.{none_written, written_as}
-use Rattle.length_chart.proofs.LengthBarCases.{no-bars, bars-written}
+use Rattle.length_chart.proofs.LengthBarCases.{no-bars, bars_written}
 use borrow.Author.Rules.{rules}
 use Rattle.length_chart.proofs.bars.put_length.Statement.{statement}
 use Rattle.length_chart.proofs.bars.put_length.Tie as tie
@@ -40,13 +40,13 @@ returns-2 c =
     let label = at_label.put-numbered2.ensures in
     let bars = at-bars.put-pair.ensures in
     let close = at-close.put-plain.ensures in (
-      bars-written a.gates a.paths a.rising a.falling r.result f.result (omega (arith, test.if1.false)) r.ensures f.ensures place.0 title.0
+      bars_written a.gates a.paths a.rising a.falling r.result f.result (omega (arith, test.if1.false)) r.ensures f.ensures place.0 title.0
           label.0 bars.0 close.0,
       omega (arith, place.1, title.1, label.1, bars.1, close.1),
     )
 
-pub put-length-spec : {M : Type 1} → statement M
-put-length-spec =
+pub put_length_spec : {M : Type 1} → statement M
+put_length_spec =
     tie.close
     (tie.spec
     returns

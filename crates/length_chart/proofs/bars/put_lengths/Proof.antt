@@ -3,15 +3,15 @@ use borrow.Author.Rules.{rules}
 use mathlib.Core.Path.{◌≡◌, ap}
 use Prim.Native.Nat.{◌+◌, ◌-◌, ◌*◌, ◌≤◌}
 use native.Mathlib.Omega.{arith}
-use Rattle.text_buffer.specs.Written.{Written, eachBelow}
+use Rattle.text_buffer.specs.Written.{Written, each_below_of}
 use Rattle.text_buffer.proofs.WrittenLaws.{none_below, one-more-below, written_as, written-length}
-use Rattle.length_chart.specs.Chart.{barsAt}
+use Rattle.length_chart.specs.Chart.{bars_at}
 use Rattle.length_chart.proofs.bars.put_lengths.Statement.{statement}
 use Rattle.length_chart.proofs.bars.put_lengths.Tie as tie
 
 abbrev invariant-loop : tie.invariant-loop
 invariant-loop out₀ start paths rising falling at₀ i₀ out at i =
-    (i ≤ 64) × (at ≤ start + 500 * i) × Written out₀ out start (eachBelow (barsAt paths rising falling) i) at
+    (i ≤ 64) × (at ≤ start + 500 * i) × Written out₀ out start (each_below_of (bars_at paths rising falling) i) at
 
 abbrev decreases-loop : tie.decreases-loop
 decreases-loop out₀ start paths rising falling at₀ i₀ out at i = 64 - i
@@ -19,7 +19,7 @@ decreases-loop out₀ start paths rising falling at₀ i₀ out at i = 64 - i
 loop-holds : tie.Need-loop-init invariant-loop decreases-loop
 loop-holds c =
     let a = c.before.args in
-    (omega arith, omega arith, none_below (barsAt a.paths.now a.rising.now a.falling.now) a.out.now a.start (omega arith))
+    (omega arith, omega arith, none_below (bars_at a.paths.now a.rising.now a.falling.now) a.out.now a.start (omega arith))
 
 put-length-requires : tie.Need-put-length-requires invariant-loop decreases-loop
 put-length-requires c κs =
@@ -33,7 +33,7 @@ loop-again c =
     let test = c.before.before.before.before.before.before.before in
     let l = test.before.loop in
     let a = test.before.before.before.args in
-    let more = one-more-below (barsAt a.paths.now a.rising.now a.falling.now) l.i l.invariant.2 put.ensures.0 in
+    let more = one-more-below (bars_at a.paths.now a.rising.now a.falling.now) l.i l.invariant.2 put.ensures.0 in
     (omega arith, omega (arith, put.ensures.1, l.invariant.1), more)
 
 returns : tie.Need-returns invariant-loop decreases-loop
@@ -41,11 +41,11 @@ returns c =
     let l = c.before.loop in
     let a = c.before.before.before.args in
     let all : l.i ≡ 64 = omega arith in
-    let lines = eachBelow (barsAt a.paths.now a.rising.now a.falling.now) in
+    let lines = each_below_of (bars_at a.paths.now a.rising.now a.falling.now) in
     (written_as (ap lines all) l.invariant.2, omega (arith, l.invariant.1))
 
-pub put-lengths-spec : {M : Type 1} → statement M
-put-lengths-spec =
+pub put_lengths_spec : {M : Type 1} → statement M
+put_lengths_spec =
     tie.close
     (tie.spec
     invariant-loop

@@ -1,13 +1,13 @@
 -- `length_chart::frame::put_scale` meets its contract: its lines one after the other.
 use native.Mathlib.Omega.{arith}
 use Rattle.text_buffer.proofs.WrittenLaws.{then-written}
-use Rattle.length_chart.specs.Chart.{scaleLines}
+use Rattle.length_chart.specs.Chart.{scale_lines}
 use borrow.Author.Rules.{rules}
 use Rattle.length_chart.proofs.frame.put_scale.Statement.{statement}
 use Rattle.length_chart.proofs.frame.put_scale.Tie as tie
 
 returns : tie.Need-returns
-unfolding scaleLines
+unfolding scale_lines
 returns c =
     let at-6 = c.before.before in
     let at_5 = at-6.before.before.before.before.before in
@@ -20,8 +20,8 @@ returns c =
       omega (arith, at_1.put-plain.ensures.1, at-2.put-plain2.ensures.1, at-3.put-plain3.ensures.1, at-4.put-plain4.ensures.1, at_5.put-plain5.ensures.1, at-6.put-plain6.ensures.1),
     )
 
-pub put-scale-spec : {M : Type 1} → statement M
-put-scale-spec =
+pub put_scale_spec : {M : Type 1} → statement M
+put_scale_spec =
     tie.close
     (tie.spec
     (λ c. search rules) (λ c κs. search rules) (λ c. search rules) (λ c κs. search rules) (λ c. search rules)

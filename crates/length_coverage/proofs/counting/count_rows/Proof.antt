@@ -9,5 +9,5 @@ rows-by-net-requires c κs =
     let filled = c.before in
     rows-known filled.before.before.before.before.requires filled.fill-rows.ensures
 
-pub count-rows-spec : {M : Type 1} → statement M
-count-rows-spec = tie.close (tie.spec (λ c κs. (some-circuit c.before.before.before.requires, refl)) rows-by-net-requires (λ c. search needs))
+pub count_rows_spec : {M : Type 1} → statement M
+count_rows_spec = tie.close (tie.spec (λ c κs. (some-circuit c.before.before.before.requires, refl)) rows-by-net-requires (λ c. search needs))

@@ -1,7 +1,7 @@
 -- `length_coverage::counting::rows_by_net` meets its contract: the paths' row adds up to T, or one path is too long; the held rows are those of the runs.
 use Rattle.model.proofs.Prelude.{needs}
 use Rattle.model.specs.Path.{rising, falling}
-use Rattle.length_coverage.proofs.CountingCases.{total-ranked, edge-ranked, paths-long, paths-fit, one-too-long, all-counted}
+use Rattle.length_coverage.proofs.CountingCases.{total-ranked, edge-ranked, paths-long, paths-fit, one-too_long, all-counted}
 use Rattle.length_coverage.proofs.counting.rows_by_net.Statement.{statement}
 use Rattle.length_coverage.proofs.counting.rows_by_net.Tie as tie
 
@@ -17,7 +17,7 @@ returns c =
     let summed = test.before in
     let ranked = summed.before.before in
     let start = ranked.before.before.before.requires in
-    one-too-long start ranked.rank-row.ensures summed.row-sum.ensures test.if1.true _ c.no_rows.ensures
+    one-too_long start ranked.rank-row.ensures summed.row-sum.ensures test.if1.true _ c.no_rows.ensures
 
 held-row-requires : tie.Need-held-row-requires
 held-row-requires c κs =
@@ -44,8 +44,8 @@ returns-2 c =
     (all-counted start ranked.rank-row.ensures summed.row-sum.ensures test.if1.false up.edge-runs.ensures down.edge-runs2.ensures
     rise.held-row.ensures fall.held-row2.ensures)
 
-pub rows-by-net-spec : {M : Type 1} → statement M
-rows-by-net-spec =
+pub rows_by_net_spec : {M : Type 1} → statement M
+rows_by_net_spec =
     tie.close
     (tie.spec
     (λ c κs. search (total-ranked, needs))

@@ -34,7 +34,7 @@ use Rattle.length_coverage.specs.contracts.counting.rows_with.Key.{name as #f}
 use Rattle.length_coverage.specs.contracts.counting.rows_with as f
 use Rattle.length_coverage.proofs.counting.rows_with.Statement as stated
 use Rattle.length_coverage.proofs.counting.rows_with.Code as code
-use Rattle.length_coverage.proofs.RowPairs.{Pair, pair-laws, inField, field-same}
+use Rattle.length_coverage.proofs.RowPairs.{Pair, pair-laws, in_field, field-same}
 
 abbrev stayed : Stays (f.ended).signature.params (f.ended).kept
 stayed = (stay_none (λ _. E.the_row) yes, (stay_none (λ _. Pair) yes, (stay_none (λ _. Pair) yes, tt)))
@@ -66,13 +66,13 @@ module _ {M : Type 1} {𝓤 : Ura M} (𝓛 : Logic 𝓤) (mem : Memory → SProp
       suffices ! _ (ends_at 𝓛 f.ended stayed (f.clauses 𝓛 mem run) ((tt, tt, tt, (a, (x, (y, tt))), at), tt) got g (tt, (tt, (tt, tt))) (tt, (tt, (tt, tt)))) $ says ! refl $
       frame ! $ frame ! $ owned ! T.the_row (Is T.the_row) (LL.makes T.the_type T'.the_plain 𝓛) g _ is $ done !
 
-  rows_are : (xs : List (List ℕ)) → Is Pair xs (rv xs ∷ []) → Is Pair (inField xs) (rv (inField xs) ∷ [])
+  rows_are : (xs : List (List ℕ)) → Is Pair xs (rv xs ∷ []) → Is Pair (in_field xs) (rv (in_field xs) ∷ [])
   rows_are xs = subst (λ (zs : List (List ℕ)). Is Pair zs (rv zs ∷ [])) (sym (field-same xs))
 
   made-is : Is E.the_row a (va ∷ []) → Is Pair x (rv x ∷ []) → Is Pair y (rv y ∷ []) → Is T.the_row g (got ∷ [])
   made-is p q r =
       subst (λ (zs : List (List ℕ)). Is T.the_row g (vstruct (of_list (va ∷ rv zs ∷ rv y ∷ [])) ∷ [])) (field-same x)
-      (subst (λ (zs : List (List ℕ)). Is T.the_row g (vstruct (of_list (va ∷ rv (inField x) ∷ rv zs ∷ [])) ∷ [])) (field-same y)
+      (subst (λ (zs : List (List ℕ)). Is T.the_row g (vstruct (of_list (va ∷ rv (in_field x) ∷ rv zs ∷ [])) ∷ [])) (field-same y)
       (LL.owes T.the_type T'.the_laws g (p, (rows_are x q, (rows_are y r, tt)))))
 
   module _ (C : Calls 𝓤 H) (Λ : Loops 𝓤 H) where
@@ -108,9 +108,9 @@ f_meets {𝓤 = 𝓤} 𝓛 mem run 𝓣 =
     (Goes-none 𝓛 0 (λ _. E.the_row) yes (λ κs x f. refl), (Goes-none 𝓛 0 (λ _. Pair) yes (λ κs x f. refl), (Goes-none 𝓛 0 (λ _. Pair) yes (λ κs x f. refl), tt)))
     (f.clauses 𝓛 mem run) (WpFn 𝓤 𝓛.H 𝓣.C 𝓣.Λ code.function) (WpFn-mono 𝓤 𝓛.H 𝓛.laws 𝓣 code.function) (f-walks 𝓛 mem run 𝓣.C 𝓣.Λ)
 
-pub rows-with-spec : {M : Type 1} → stated.statement M
+pub rows_with_spec : {M : Type 1} → stated.statement M
 unfolding code.routine tables_of
-rows-with-spec 𝓤 𝓛 𝓜 𝓡 =
+rows_with_spec 𝓤 𝓛 𝓜 𝓡 =
     entered 𝓤 𝓛.H (triple_of 𝓛 f.signature (f.spec 𝓛 𝓜.mem 𝓡.run))
     (tables 𝓤 𝓛.H 𝓜 𝓡 code.env).C (tables 𝓤 𝓛.H 𝓜 𝓡 code.env).Λ #f code.function (code.unfolded 𝓤 𝓛.H 𝓜 𝓡)
     (f_meets 𝓛 𝓜.mem 𝓡.run (tables_of 𝓤 𝓛.H 𝓜 (tables 𝓤 𝓛.H 𝓜 𝓡 code.env)))

@@ -10,8 +10,8 @@ invariant-loop sums₀ high low at₀ sums at = Summed sums₀ sums (over sums�
 abbrev decreases-loop : tie.decreases-loop
 decreases-loop sums₀ high low at₀ sums at = 64 - at
 
-pub add-difference-spec : {M : Type 1} → statement M
-add-difference-spec =
+pub add_difference_spec : {M : Type 1} → statement M
+add_difference_spec =
     tie.close
     (tie.spec
     invariant-loop

@@ -16,8 +16,8 @@ add-sums c = search longer-cases
 loop-again : tie.Need-loop-preserved invariant-loop decreases-loop
 loop-again c = search longer-cases
 
-pub add-longer-spec : {M : Type 1} → statement M
-add-longer-spec =
+pub add_longer_spec : {M : Type 1} → statement M
+add_longer_spec =
     tie.close
     (tie.spec
     invariant-loop

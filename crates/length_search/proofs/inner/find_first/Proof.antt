@@ -16,8 +16,8 @@ loop-again c = search find_cases
 loop-again-2 : tie.Need-loop-preserved-2 invariant-loop decreases-loop
 loop-again-2 c = search find_cases
 
-pub find-first-spec : {M : Type 1} → statement M
-find-first-spec =
+pub find_first_spec : {M : Type 1} → statement M
+find_first_spec =
     tie.close
     (tie.spec
     invariant-loop

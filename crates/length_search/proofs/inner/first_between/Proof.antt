@@ -4,8 +4,8 @@ use Rattle.length_search.proofs.RangeCases.{range-cases}
 use Rattle.length_search.proofs.inner.first_between.Statement.{statement}
 use Rattle.length_search.proofs.inner.first_between.Tie as tie
 
-pub first-between-spec : {M : Type 1} → statement M
-first-between-spec =
+pub first_between_spec : {M : Type 1} → statement M
+first_between_spec =
     tie.close
     (tie.spec
     (λ c. search range-cases)

@@ -16,8 +16,8 @@ add_at c = search go-cases
 loop-again-2 : tie.Need-loop-preserved-2 invariant-loop decreases-loop
 loop-again-2 c = search go-cases
 
-pub next-untested-spec : {M : Type 1} → statement M
-next-untested-spec =
+pub next_untested_spec : {M : Type 1} → statement M
+next_untested_spec =
     tie.close
     (tie.spec
     invariant-loop

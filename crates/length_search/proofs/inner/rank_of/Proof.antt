@@ -4,5 +4,5 @@ use Rattle.length_search.proofs.FindCases.{rank-cases}
 use Rattle.length_search.proofs.inner.rank_of.Statement.{statement}
 use Rattle.length_search.proofs.inner.rank_of.Tie as tie
 
-pub rank-of-spec : {M : Type 1} → statement M
-rank-of-spec = tie.close (tie.spec (λ c κs. search needs) (λ c. search needs) (λ c. search needs) (λ c. search rank-cases))
+pub rank_of_spec : {M : Type 1} → statement M
+rank_of_spec = tie.close (tie.spec (λ c κs. search needs) (λ c. search needs) (λ c. search needs) (λ c. search rank-cases))

@@ -19,5 +19,5 @@ returns-4 c =
     let a = c.before.before.before.args in
     falling-told a.paths a.rising a.falling (omega arith) (omega arith) (omega arith)
 
-pub are-held-spec : {M : Type 1} → statement M
-are-held-spec = tie.close (tie.spec (λ c. let a = c.before.args in no-paths a.paths a.rising a.falling (omega arith)) returns-2 returns-3 returns-4)
+pub are_held_spec : {M : Type 1} → statement M
+are_held_spec = tie.close (tie.spec (λ c. let a = c.before.args in no-paths a.paths a.rising a.falling (omega arith)) returns-2 returns-3 returns-4)

@@ -1,9 +1,9 @@
 -- `length_text::columns::share_line` meets its contract: percent where the numbers can be a circuit's, else `-`.
 use Rattle.model.proofs.Prelude.{◌+◌, ◌*◌, ◌∙◌, sym, arith, needs}
 use Rattle.text_line.specs.Lines.{ascii}
-use Rattle.text_line.proofs.LineLaws.{first_part, onLine-alone}
-use Rattle.text_percent.specs.Shares.{percentText}
-use Rattle.length_text.proofs.HeldShareCases.{held-numbers, percent-fits, share-there, share-missing}
+use Rattle.text_line.proofs.LineLaws.{first_part, on_line-alone}
+use Rattle.text_percent.specs.Shares.{percent_text}
+use Rattle.length_text.proofs.HeldShareCases.{held-numbers, percent_fits, share_there, share_missing}
 use Rattle.length_text.proofs.columns.share_line.Statement.{statement}
 use Rattle.length_text.proofs.columns.share_line.Tie as tie
 
@@ -34,10 +34,10 @@ returns c =
     let told = at-empty.before.before.are-held in
     let a = at-empty.before.before.before.args in
     let yes = sym told.ensures ∙ at-empty.before.if1.true in
-    let fits = percent-fits a.paths a.rising a.falling (held-numbers a.paths a.rising a.falling yes) in
+    let fits = percent_fits a.paths a.rising a.falling (held-numbers a.paths a.rising a.falling yes) in
     first_part _ _ _ at-empty.empty-line.ensures c.with-percent.ensures
-    ∙ onLine-alone (percentText (a.rising + a.falling) (2 * a.paths)) (omega arith)
-    ∙ share-there a.paths a.rising a.falling yes
+    ∙ on_line-alone (percent_text (a.rising + a.falling) (2 * a.paths)) (omega arith)
+    ∙ share_there a.paths a.rising a.falling yes
 
 returns-2 : tie.Need-returns-2
 returns-2 c =
@@ -46,11 +46,11 @@ returns-2 c =
     let a = at-empty.before.before.before.args in
     let no = sym told.ensures ∙ at-empty.before.if1.false in
     first_part _ _ _ at-empty.empty-line2.ensures c.with-text.ensures
-    ∙ onLine-alone (ascii "-") (omega arith)
-    ∙ share-missing a.paths a.rising a.falling no
+    ∙ on_line-alone (ascii "-") (omega arith)
+    ∙ share_missing a.paths a.rising a.falling no
 
-pub share-line-spec : {M : Type 1} → statement M
-share-line-spec =
+pub share_line_spec : {M : Type 1} → statement M
+share_line_spec =
     tie.close
     (tie.spec
     (λ c κs. search needs) (λ c κs. search needs)

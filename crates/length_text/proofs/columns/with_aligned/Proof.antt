@@ -1,6 +1,6 @@
 -- `length_text::columns::with_aligned` meets its contract: as many blanks as the text leaves of the column, then the text.
 use Rattle.model.proofs.Prelude.{◌≡◌, sym, length, replicate, length-take-le, arith, needs}
-use Rattle.text_line.proofs.LineLaws.{then-part, as-part}
+use Rattle.text_line.proofs.LineLaws.{then-part, as_part}
 use Rattle.length_text.proofs.ColumnLaws.{aligned-made}
 use Rattle.length_text.proofs.columns.with_aligned.Statement.{statement}
 use Rattle.length_text.proofs.columns.with_aligned.Tie as tie
@@ -35,11 +35,11 @@ returns c =
     let count = at_count.line-length in
     let gap = at_gap.blanks-before in
     let both = then-part _ _ _ _ _ at-blanks.with-text.ensures c.with-text2.ensures in
-    as-part _ _ _ _ both
+    as_part _ _ _ _ both
     (aligned-made a.width gap.result a.text.length count.result a.text.bytes start.requires count.ensures.0 gap.ensures)
 
-pub with-aligned-spec : {M : Type 1} → statement M
-with-aligned-spec =
+pub with_aligned_spec : {M : Type 1} → statement M
+with_aligned_spec =
     tie.close
     (tie.spec
     (λ c κs. search needs) (λ c κs. search needs) (λ c. search needs)

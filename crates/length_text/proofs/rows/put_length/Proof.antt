@@ -2,9 +2,9 @@
 use Rattle.model.proofs.Prelude.{ℕ, ◌≤◌, ◌∙◌, ap, List, length, arith, needs}
 use Rattle.text_line.specs.Lines.{text_of}
 use Rattle.text_line.proofs.DecimalLaws.{at-most-20}
-use Rattle.text_buffer.specs.Written.{plainLine}
+use Rattle.text_buffer.specs.Written.{plain_line}
 use Rattle.text_buffer.proofs.WrittenLaws.{none_written, written_as}
-use Rattle.length_text.specs.LengthTable.{rowText}
+use Rattle.length_text.specs.LengthTable.{row_text}
 use Rattle.length_text.proofs.LengthRowCases.{no_row, row-there}
 use Rattle.length_text.proofs.rows.put_length.Statement.{statement}
 use Rattle.length_text.proofs.rows.put_length.Tie as tie
@@ -28,9 +28,9 @@ returns-2 c =
     let put = c.before.before.put-row in
     let at-number = c.before.before.before in
     let a = at-number.before.before.before.before.args in
-    let named = ap (λ (t : List ℕ). plainLine (rowText t a.paths a.rising a.falling)) at-number.number-line.ensures in
+    let named = ap (λ (t : List ℕ). plain_line (row_text t a.paths a.rising a.falling)) at-number.number-line.ensures in
     (written_as (named ∙ row-there a.gates a.paths a.rising a.falling (omega arith)) put.ensures.0, put.ensures.1)
 
-pub put-length-spec : {M : Type 1} → statement M
-put-length-spec =
+pub put_length_spec : {M : Type 1} → statement M
+put_length_spec =
     tie.close (tie.spec returns (λ c κs. search needs) put-row-requires (λ c. search needs) returns-2)

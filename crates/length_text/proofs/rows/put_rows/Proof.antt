@@ -1,6 +1,6 @@
 -- `length_text::rows::put_rows` meets its contract. The invariant: the lines of the lengths below `i` are written, of at most 129 bytes each.
 use Rattle.model.proofs.Prelude.{◌≤◌, ◌+◌, ◌-◌, ◌*◌, ◌≡◌, ap, arith, needs}
-use Rattle.text_buffer.specs.Written.{Written, eachBelow}
+use Rattle.text_buffer.specs.Written.{Written, each_below_of}
 use Rattle.text_buffer.proofs.WrittenLaws.{none_below, one-more-below, written_as, written-length}
 use Rattle.length_text.specs.LengthTable.{row_at}
 use Rattle.length_text.proofs.rows.put_rows.Statement.{statement}
@@ -8,7 +8,7 @@ use Rattle.length_text.proofs.rows.put_rows.Tie as tie
 
 abbrev invariant-loop : tie.invariant-loop
 invariant-loop out₀ start paths rising falling at₀ i₀ out at i =
-    (i ≤ 64) × (at ≤ start + 129 * i) × Written out₀ out start (eachBelow (row_at paths rising falling) i) at
+    (i ≤ 64) × (at ≤ start + 129 * i) × Written out₀ out start (each_below_of (row_at paths rising falling) i) at
 
 abbrev decreases-loop : tie.decreases-loop
 decreases-loop out₀ start paths rising falling at₀ i₀ out at i = 64 - i
@@ -38,11 +38,11 @@ returns c =
     let l = c.before.loop in
     let a = c.before.before.before.args in
     let all : l.i ≡ 64 = omega arith in
-    let lines = eachBelow (row_at a.paths.now a.rising.now a.falling.now) in
+    let lines = each_below_of (row_at a.paths.now a.rising.now a.falling.now) in
     (written_as (ap lines all) l.invariant.2, omega (arith, l.invariant.1))
 
-pub put-rows-spec : {M : Type 1} → statement M
-put-rows-spec =
+pub put_rows_spec : {M : Type 1} → statement M
+put_rows_spec =
     tie.close
     (tie.spec
     invariant-loop

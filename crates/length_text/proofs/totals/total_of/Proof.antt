@@ -25,8 +25,8 @@ returns c =
     let row = c.before.before.args.row.now in
     total-is row l.i l.sum l.invariant.0 (omega arith) l.invariant.1
 
-pub total-of-spec : {M : Type 1} → statement M
-total-of-spec =
+pub total_of_spec : {M : Type 1} → statement M
+total_of_spec =
     tie.close
     (tie.spec
     invariant-loop

@@ -4,6 +4,6 @@ use Rattle.length_untested.proofs.DownCases.{all-cases}
 use Rattle.length_untested.proofs.downward.longest_rows.Statement.{statement}
 use Rattle.length_untested.proofs.downward.longest_rows.Tie as tie
 
-pub longest-rows-spec : {M : Type 1} → statement M
-longest-rows-spec =
+pub longest_rows_spec : {M : Type 1} → statement M
+longest_rows_spec =
     tie.close (tie.spec (λ c κs. search all-cases) (λ c κs. search all-cases) (λ c. search all-cases) (λ c κs. search needs) (λ c. search all-cases))

@@ -12,8 +12,8 @@ decreases-loop netlist positions counts rows shape words paths held total gates�
 loop-again : tie.Need-loop-preserved invariant-loop decreases-loop
 loop-again c = search down-cases
 
-pub search-down-spec : {M : Type 1} → statement M
-search-down-spec =
+pub search_down_spec : {M : Type 1} → statement M
+search_down_spec =
     tie.close
     (tie.spec
     invariant-loop

@@ -16,7 +16,7 @@ fill-block-requires c κs =
     let at_read = c.before.before.before.before.before in
     let at-vectors = at_read.before in
     let ready = at-vectors.before.before.before.before.before.before.requires in
-    (tests-tables (read-ready ready at_read.read-block.ensures.1), ready.upRoom, ready.downRoom, refl, ready.memory.workLength)
+    (tests-tables (read-ready ready at_read.read-block.ensures.1), ready.up_room_of, ready.down_room, refl, ready.memory.work_length)
 
 count-block-requires : tie.Need-count-block-requires
 count-block-requires c κs =
@@ -145,8 +145,8 @@ returns-2 c =
     part-ended ready read filled.3 filled.4 counted.0 counted.1 filled.0 filled.1 at_length.record-length.ensures.0 at_next.next-answer.ensures
     c.enum_told.given.1
 
-pub count-part-spec : {M : Type 1} → statement M
-count-part-spec =
+pub count_part_spec : {M : Type 1} → statement M
+count_part_spec =
     tie.close
     (tie.spec
     read-block-requires

@@ -3,14 +3,14 @@ use Rattle.model.proofs.Prelude.{◌-◌, refl, length, arith, needs}
 use Rattle.listing_blocks.proofs.PieceSteps.{
   Listing,
   listing_start,
-  listing-ready,
-  listing-end,
+  listing_ready,
+  listing_end,
   listing_full,
   block_within,
   block_room,
   block-places,
   block-less,
-  listing-next,
+  listing_next,
 }
 use Rattle.listing_blocks.proofs.blocks.list_blocks.Statement.{statement}
 use Rattle.listing_blocks.proofs.blocks.list_blocks.Tie as tie
@@ -26,7 +26,7 @@ decreases-loop table offsets numbers piece store₀ work₀ out₀ rising-lists�
 count-part-requires : tie.Need-count-part-requires invariant-loop decreases-loop
 count-part-requires c κs =
     let at_room = c.before.before.before.before.before in
-    listing-ready at_room.before.before.loop.invariant
+    listing_ready at_room.before.before.loop.invariant
 
 put-lines-requires : tie.Need-put-lines-requires invariant-loop decreases-loop
 put-lines-requires c κs =
@@ -74,10 +74,10 @@ loop-again c =
     let at_count = at-work.before.before.before.before.before in
     let at_room = at_count.before.before.before.before.before.before in
     let at_test = at_room.before in
-    listing-next at_test.before.loop.invariant at_test.loop-test.true at_count.count-part.ensures at-put.put-lines.ensures
+    listing_next at_test.before.loop.invariant at_test.loop-test.true at_count.count-part.ensures at-put.put-lines.ensures
 
-pub list-blocks-spec : {M : Type 1} → statement M
-list-blocks-spec =
+pub list_blocks_spec : {M : Type 1} → statement M
+list_blocks_spec =
     tie.close
     (tie.spec
     invariant-loop
@@ -93,4 +93,4 @@ list-blocks-spec =
     loop-less
     loop-again
     (λ c. search needs) (λ c. search needs) (λ c. search needs)
-    (λ c. listing-end c.before.loop.invariant c.loop-test.false))
+    (λ c. listing_end c.before.loop.invariant c.loop-test.false))

@@ -19,6 +19,6 @@ returns-3 c =
     let full = at_after.before.before.if1.false in
     next-some (omega (arith, full)) (inl at_after.after.given.1)
 
-pub next-answer-spec : {M : Type 1} → statement M
-next-answer-spec =
+pub next_answer_spec : {M : Type 1} → statement M
+next_answer_spec =
     tie.close (tie.spec (λ c. next-none (inl c.if1.true)) (λ c. search needs) enum_told returns-2 returns-3 (λ c. next-none (inr (omega (arith, c.if2.false)))))

@@ -22,8 +22,8 @@ returns c =
     let start = tables.before.before.before.before.before.before.before.before.before.before.before.before.before in
     piece-listed start.requires tables.fill-tables.ensures listed.list-blocks.ensures
 
-pub list-piece-spec : {M : Type 1} → statement M
-list-piece-spec =
+pub list_piece_spec : {M : Type 1} → statement M
+list_piece_spec =
     tie.close
     (tie.spec
     fill-tables-requires

@@ -4,5 +4,5 @@ use Rattle.listing_head.proofs.HeadCases.{head-cases}
 use Rattle.listing_head.proofs.inner.class_answer.Statement.{statement}
 use Rattle.listing_head.proofs.inner.class_answer.Tie as tie
 
-pub class-answer-spec : {M : Type 1} → statement M
-class-answer-spec = tie.close (tie.spec (λ c κs. search needs) (λ c. search head-cases) (λ c. search head-cases))
+pub class_answer_spec : {M : Type 1} → statement M
+class_answer_spec = tie.close (tie.spec (λ c κs. search needs) (λ c. search head-cases) (λ c. search head-cases))

@@ -4,5 +4,5 @@ use Rattle.listing_head.proofs.HeadCases.{head-cases}
 use Rattle.listing_head.proofs.inner.in_turn.Statement.{statement}
 use Rattle.listing_head.proofs.inner.in_turn.Tie as tie
 
-pub in-turn-spec : {M : Type 1} → statement M
-in-turn-spec = tie.close (tie.spec (λ c. search needs) (λ c. search needs) (λ c. search head-cases) (λ c. search needs))
+pub in_turn_spec : {M : Type 1} → statement M
+in_turn_spec = tie.close (tie.spec (λ c. search needs) (λ c. search needs) (λ c. search head-cases) (λ c. search needs))

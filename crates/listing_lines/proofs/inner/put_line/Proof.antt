@@ -50,8 +50,8 @@ returns-2 c =
     line_refused a.out.now p1.new.0 p2.new.0 p3.new.0 a.at p1.result p2.result p3.result a.place at-start.requires p1.ensures p2.ensures
     a.new-rising a.new-falling a.refusal at_test.if1.false p3.ensures.0
 
-pub put-line-spec : {M : Type 1} → statement M
-put-line-spec =
+pub put_line_spec : {M : Type 1} → statement M
+put_line_spec =
     tie.close
     (tie.spec
     (λ c κs. search needs) (λ c. search needs)

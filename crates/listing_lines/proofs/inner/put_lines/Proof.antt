@@ -22,7 +22,7 @@ add-place : tie.Need-overflow-add-place invariant-loop decreases-loop
 add-place c =
     let at-put = c.before.before in
     let at_test = at-put.before.before.before.before.before in
-    omega (arith, at_test.loop-test.true, at_test.before.loop.invariant.placeIs, at_test.before.before.before.requires.2)
+    omega (arith, at_test.loop-test.true, at_test.before.loop.invariant.place_is_of, at_test.before.before.before.requires.2)
 
 loop-again : tie.Need-loop-preserved invariant-loop decreases-loop
 loop-again c =
@@ -30,8 +30,8 @@ loop-again c =
     let at_test = at-put.before.before.before.before.before in
     lines_next _ _ _ _ _ at_test.before.loop.invariant at_test.loop-test.true at-put.put-line.ensures
 
-pub put-lines-spec : {M : Type 1} → statement M
-put-lines-spec =
+pub put_lines_spec : {M : Type 1} → statement M
+put_lines_spec =
     tie.close
     (tie.spec
     invariant-loop

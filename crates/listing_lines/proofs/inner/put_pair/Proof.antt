@@ -42,8 +42,8 @@ returns c =
     pair_put a.out.now p1.new.0 p2.new.0 p3.new.0 p4.new.0 a.at p1.result p2.result p3.result p4.result a.first a.second
     at-start.requires p1.ensures p2.ensures p3.ensures p4.ensures
 
-pub put-pair-spec : {M : Type 1} → statement M
-put-pair-spec =
+pub put_pair_spec : {M : Type 1} → statement M
+put_pair_spec =
     tie.close
     (tie.spec
     (λ c κs. search needs) (λ c. search needs)

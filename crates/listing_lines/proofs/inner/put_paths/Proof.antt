@@ -1,13 +1,13 @@
 -- `listing_lines::inner::put_paths` meets its contract: the word `paths` and a number.
 use Rattle.model.proofs.Prelude.{needs}
-use Rattle.listing_lines.specs.ListingLines.{pathsLine}
+use Rattle.listing_lines.specs.ListingLines.{paths_line}
 use Rattle.listing_lines.proofs.inner.put_paths.Statement.{statement}
 use Rattle.listing_lines.proofs.inner.put_paths.Tie as tie
 
 returns : tie.Need-returns
-unfolding pathsLine
+unfolding paths_line
 returns c = c.before.before.put-numbered.ensures.0
 
-pub put-paths-spec : {M : Type 1} → statement M
-put-paths-spec =
+pub put_paths_spec : {M : Type 1} → statement M
+put_paths_spec =
     tie.close (tie.spec (λ c. search needs) (λ c. search needs) (λ c κs. search needs) (λ c. search needs) returns)

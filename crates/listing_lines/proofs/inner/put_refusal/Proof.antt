@@ -14,8 +14,8 @@ returns c =
     let p = at-line.put-numbered in
     refusal-put a.out.now p.new.0 a.at p.result n.result a.why n.ensures p.ensures.0
 
-pub put-refusal-spec : {M : Type 1} → statement M
-put-refusal-spec =
+pub put_refusal_spec : {M : Type 1} → statement M
+put_refusal_spec =
     tie.close
     (tie.spec
     (λ c. search needs) (λ c κs. search needs) (λ c. search needs) (λ c. search needs) (λ c κs. search needs)

@@ -1,7 +1,7 @@
 -- `listing_piece::inner::list_read` meets its contract. The invariant, `Reading`: what was written, what waits in the buffer, and the lines of the records that
 -- are left give the whole.
 use Rattle.model.proofs.Prelude.{◌-◌, length, needs}
-use Rattle.listing_piece.proofs.ReadSteps.{Reading, reading-start, reading-ready, reading-end, more-inside, more_room, reading-next, reading-less}
+use Rattle.listing_piece.proofs.ReadSteps.{Reading, reading_start, reading_ready, reading_end, more-inside, more_room, reading_next, reading_less}
 use Rattle.listing_piece.proofs.inner.list_read.Statement.{statement}
 use Rattle.listing_piece.proofs.inner.list_read.Tie as tie
 
@@ -29,7 +29,7 @@ loop-less c =
     let at_test = at_more.before.before.before.before in
     let so_far = at_test.before.before.loop.invariant in
     let more = at_more.list-piece in
-    reading-less so_far at_test.if1.true more.auto.1.1.1.1.1.1.1.0 more.ensures c.write-full.ensures
+    reading_less so_far at_test.if1.true more.auto.1.1.1.1.1.1.1.0 more.ensures c.write_full.ensures
 
 loop-again : tie.Need-loop-preserved invariant-loop decreases-loop
 loop-again c =
@@ -38,19 +38,19 @@ loop-again c =
     let at_test = at_more.before.before.before.before in
     let so_far = at_test.before.before.loop.invariant in
     let more = at_more.list-piece in
-    reading-next so_far at_test.if1.true more.auto.1.1.1.1.1.1.1.0 more.ensures c.write-full.ensures
+    reading_next so_far at_test.if1.true more.auto.1.1.1.1.1.1.1.0 more.ensures c.write_full.ensures
 
 returns : tie.Need-returns invariant-loop decreases-loop
-returns c = reading-end c.before.before.loop.invariant c.if1.false
+returns c = reading_end c.before.before.loop.invariant c.if1.false
 
-pub list-read-spec : {M : Type 1} → statement M
-list-read-spec =
+pub list_read_spec : {M : Type 1} → statement M
+list_read_spec =
     tie.close
     (tie.spec
     invariant-loop
     decreases-loop
-    (λ c. reading-start c.before.before.before.before.before.before.requires)
-    (λ c κs. reading-ready c.before.before.before.before.before.loop.invariant)
+    (λ c. reading_start c.before.before.before.before.before.before.requires)
+    (λ c κs. reading_ready c.before.before.before.before.before.loop.invariant)
     write-full-requires
     loop-less
     loop-again

@@ -9,8 +9,8 @@ slice-aggregate-write-all c =
     let start = c.before.before.before in
     part_length start.args.listed.bytes start.args.out.now start.requires.0
 
-pub write-full-spec : {M : Type 1} → statement M
-write-full-spec =
+pub write_full_spec : {M : Type 1} → statement M
+write_full_spec =
     tie.close
     (tie.spec
     (λ c. search needs)

@@ -4,8 +4,8 @@ use Rattle.listing_text.proofs.RunSteps.{edge-cases}
 use Rattle.listing_text.proofs.inner.put_falling.Statement.{statement}
 use Rattle.listing_text.proofs.inner.put_falling.Tie as tie
 
-pub put-falling-spec : {M : Type 1} → statement M
-put-falling-spec =
+pub put_falling_spec : {M : Type 1} → statement M
+put_falling_spec =
     tie.close
     (tie.spec
     (λ c. search needs) (λ c κs. search needs)

@@ -4,8 +4,8 @@ use Rattle.listing_text.proofs.RunSteps.{edge-cases}
 use Rattle.listing_text.proofs.inner.put_rising.Statement.{statement}
 use Rattle.listing_text.proofs.inner.put_rising.Tie as tie
 
-pub put-rising-spec : {M : Type 1} → statement M
-put-rising-spec =
+pub put_rising_spec : {M : Type 1} → statement M
+put_rising_spec =
     tie.close
     (tie.spec
     (λ c. search needs) (λ c κs. search needs)

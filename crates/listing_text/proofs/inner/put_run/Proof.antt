@@ -14,5 +14,5 @@ returns c =
     let p2 = at-numbers.put-pair in
     then-written (written {out = a.out.now} {at = a.at} {t = a.letter.now} (omega (arith, at-start.requires)) p1.ensures) p2.ensures
 
-pub put-run-spec : {M : Type 1} → statement M
-put-run-spec = tie.close (tie.spec (λ c κs. search needs) (λ c κs. search needs) (λ c. search needs) returns)
+pub put_run_spec : {M : Type 1} → statement M
+put_run_spec = tie.close (tie.spec (λ c κs. search needs) (λ c κs. search needs) (λ c. search needs) returns)

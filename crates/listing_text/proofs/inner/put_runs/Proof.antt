@@ -1,15 +1,15 @@
 -- `listing_text::inner::put_runs` meets its contract. The invariant: the lines that are left, written from here, give the whole, and there is room for them.
 use Rattle.model.proofs.Prelude.{ℕ, ◌≤◌, ◌+◌, ◌*◌, ◌/◌, ◌≡◌, ◌∙◌, ap, sym, List, length, sets, arith, needs}
 use Rattle.text_buffer.proofs.WrittenLaws.{written-length}
-use Rattle.listing_text.proofs.RunSteps.{runsLeft, run_length, runs-step, runs-bytes, runs-end}
+use Rattle.listing_text.proofs.RunSteps.{runs_left, run_length, runs-step, runs-bytes, runs-end}
 use Rattle.listing_text.proofs.inner.put_runs.Statement.{statement}
 use Rattle.listing_text.proofs.inner.put_runs.Tie as tie
 
 abbrev invariant-loop : tie.invariant-loop
 invariant-loop out₀ start letter runs at₀ place₀ left₀ out at place left =
     (length out ≡ length out₀) × (place + 2 * left ≡ 2 * (length runs / 2)) × (at + 44 * left ≤ start + 44 * (length runs / 2))
-    × (sets out at (runsLeft letter runs place left) ≡ sets out₀ start (runsLeft letter runs 0 (length runs / 2)))
-    × (at + length (runsLeft letter runs place left) ≡ start + length (runsLeft letter runs 0 (length runs / 2)))
+    × (sets out at (runs_left letter runs place left) ≡ sets out₀ start (runs_left letter runs 0 (length runs / 2)))
+    × (at + length (runs_left letter runs place left) ≡ start + length (runs_left letter runs 0 (length runs / 2)))
 
 abbrev decreases-loop : tie.decreases-loop
 decreases-loop out₀ start letter runs at₀ place₀ left₀ out at place left = left
@@ -45,8 +45,8 @@ returns c =
       omega (arith, l.invariant.2),
     )
 
-pub put-runs-spec : {M : Type 1} → statement M
-put-runs-spec =
+pub put_runs_spec : {M : Type 1} → statement M
+put_runs_spec =
     tie.close
     (tie.spec
     invariant-loop

@@ -12,5 +12,5 @@ returns c =
     let rising = middle.before.before.before.before.put-rising in
     store-put _ _ _ _ _ _ _ _ rising.ensures.0 falling.ensures.0 totals.ensures
 
-pub put-store-spec : {M : Type 1} → statement M
-put-store-spec = tie.close (tie.spec (λ c κs. search needs) (λ c κs. search needs) (λ c κs. search needs) (λ c. search needs) returns)
+pub put_store_spec : {M : Type 1} → statement M
+put_store_spec = tie.close (tie.spec (λ c κs. search needs) (λ c κs. search needs) (λ c κs. search needs) (λ c. search needs) returns)

@@ -22,8 +22,8 @@ returns c =
     let q = at-falling.put-numbered2 in
     totals-put a.out.now p.new.0 q.new.0 a.words.now a.start p.result q.result t.result t.ensures p.ensures.0 q.ensures.0
 
-pub put-totals-spec : {M : Type 1} → statement M
-put-totals-spec =
+pub put_totals_spec : {M : Type 1} → statement M
+put_totals_spec =
     tie.close
     (tie.spec
     (λ c κs. search needs) (λ c. search needs) (λ c. search needs) (λ c κs. search needs) (λ c. search needs)

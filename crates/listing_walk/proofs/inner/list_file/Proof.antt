@@ -8,8 +8,8 @@ use Rattle.listing_walk.proofs.inner.list_file.Tie as tie
 returns : tie.Need-returns
 returns c = search lines-cases
 
-pub list-file-spec : {M : Type 1} → statement M
-list-file-spec =
+pub list_file_spec : {M : Type 1} → statement M
+list_file_spec =
     tie.close
     (tie.spec
     (λ c κs. search needs) (λ c κs. search needs) (λ c. search needs)

@@ -29,8 +29,8 @@ add-so-far c =
     let start = at-slices.before.before.before.before.before in
     omega (arith, at_read.read-part.ensures.1, at_test.loop-test.true, at-full.whole_part.ensures.0, start.requires.2)
 
-pub list-pieces-spec : {M : Type 1} → statement M
-list-pieces-spec =
+pub list_pieces_spec : {M : Type 1} → statement M
+list_pieces_spec =
     tie.close
     (tie.spec
     invariant-loop

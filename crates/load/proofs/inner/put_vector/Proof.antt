@@ -1,7 +1,7 @@
 -- `load::inner::put_vector` meets its contract. The invariant: what is written, and the records of the inputs that are left, written from here on, give
 -- the whole.
 use Rattle.model.proofs.Prelude.{◌-◌, ◌∙◌, needs}
-use Rattle.load.proofs.VectorSteps.{Writing, write-last, write-next, write-cases}
+use Rattle.load.proofs.VectorSteps.{Writing, write_last, write_next, write-cases}
 use Rattle.load.proofs.inner.put_vector.Statement.{statement}
 use Rattle.load.proofs.inner.put_vector.Tie as tie
 
@@ -23,7 +23,7 @@ loop-again c =
     let draw = sized.before in
     let a = draw.before.before in
     let l = loop.loop in
-    write-next a.args.inputs a.args.state sized.vector-bytes.result a.args.at a.args.records.now l.records l.place l.input l.invariant
+    write_next a.args.inputs a.args.state sized.vector-bytes.result a.args.at a.args.records.now l.records l.place l.input l.invariant
     a.requires.0 sized.vector-bytes.ensures.0 bit.before.loop-test.true draw.draw-vector.result draw.draw-vector.ensures
     low.lowered.result bit.weight.result bit.weight.ensures low.lowered.ensures _ _ first.put-test.ensures second.put-test2.ensures
     (second.put-test2.auto.0 ∙ first.put-test.auto.0)
@@ -35,13 +35,13 @@ returns c =
     let draw = sized.before in
     let a = draw.before.before in
     let l = loop.loop in (
-      draw.draw-vector.ensures.stateIs,
-      write-last a.args.inputs a.args.state sized.vector-bytes.result a.args.at a.args.records.now l.records l.place l.input
+      draw.draw-vector.ensures.state_is,
+      write_last a.args.inputs a.args.state sized.vector-bytes.result a.args.at a.args.records.now l.records l.place l.input
           l.invariant c.loop-test.false,
     )
 
-pub put-vector-spec : {M : Type 1} → statement M
-put-vector-spec =
+pub put_vector_spec : {M : Type 1} → statement M
+put_vector_spec =
     tie.close
     (tie.spec
     invariant-loop

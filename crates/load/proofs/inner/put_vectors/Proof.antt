@@ -12,8 +12,8 @@ invariant-loop state inputs vectors records₀ size last₀ place₀ left₀ rec
 abbrev decreases-loop : tie.decreases-loop
 decreases-loop state inputs vectors records₀ size last₀ place₀ left₀ records last place left = left
 
-pub put-vectors-spec : {M : Type 1} → statement M
-put-vectors-spec =
+pub put_vectors_spec : {M : Type 1} → statement M
+put_vectors_spec =
     tie.close
     (tie.spec
     invariant-loop

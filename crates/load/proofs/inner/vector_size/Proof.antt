@@ -12,7 +12,7 @@ returns : tie.Need-returns
 returns c =
     (rw c.vector-bytes.ensures.0 refl, size_small c.before.args.inputs c.vector-bytes.result c.before.requires c.vector-bytes.ensures.1)
 
-pub vector-size-spec : {M : Type 1} → statement M
-vector-size-spec =
+pub vector_size_spec : {M : Type 1} → statement M
+vector_size_spec =
     tie.close
     (tie.spec (λ c κs. search needs) (λ c. search needs) (λ c. search needs) (λ c. search needs) mul-result-3 returns)

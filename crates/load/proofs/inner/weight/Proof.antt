@@ -4,5 +4,5 @@ use Rattle.record_bytes.proofs.BitLaws.{one_shifted}
 use Rattle.load.proofs.inner.weight.Statement.{statement}
 use Rattle.load.proofs.inner.weight.Tie as tie
 
-pub weight-spec : {M : Type 1} → statement M
-weight-spec = tie.close (tie.spec (λ c. search needs) (λ c. one_shifted c.args.input (omega (arith, c.requires))))
+pub weight_spec : {M : Type 1} → statement M
+weight_spec = tie.close (tie.spec (λ c. search needs) (λ c. one_shifted c.args.input (omega (arith, c.requires))))

@@ -4,8 +4,8 @@ use Rattle.load_records.proofs.TestPutLaws.{mark-put}
 use Rattle.load_records.proofs.inner.put_mark.Statement.{statement}
 use Rattle.load_records.proofs.inner.put_mark.Tie as tie
 
-pub put-mark-spec : {M : Type 1} → statement M
-put-mark-spec =
+pub put_mark_spec : {M : Type 1} → statement M
+put_mark_spec =
     tie.close
     (tie.spec
     (λ c. search needs) (λ c. search needs)

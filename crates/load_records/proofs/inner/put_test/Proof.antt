@@ -7,8 +7,8 @@ use Rattle.load_records.proofs.inner.put_test.Tie as tie
 returns : tie.Need-returns
 returns c = search test-put-cases
 
-pub put-test-spec : {M : Type 1} → statement M
-put-test-spec =
+pub put_test_spec : {M : Type 1} → statement M
+put_test_spec =
     tie.close
     (tie.spec
     (λ c κs. search needs) (λ c. search needs) (λ c κs. search needs) (λ c. search needs) (λ c. search needs)

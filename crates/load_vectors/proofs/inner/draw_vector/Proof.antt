@@ -13,8 +13,8 @@ decreases-loop state inputs vector₀ last₀ input₀ vector last input = input
 loop-again : tie.Need-loop-preserved invariant-loop decreases-loop
 loop-again c = search draw-cases
 
-pub draw-vector-spec : {M : Type 1} → statement M
-draw-vector-spec =
+pub draw_vector_spec : {M : Type 1} → statement M
+draw_vector_spec =
     tie.close
     (tie.spec
     invariant-loop

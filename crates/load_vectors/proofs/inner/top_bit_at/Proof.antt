@@ -7,5 +7,5 @@ use Rattle.load_vectors.proofs.inner.top_bit_at.Tie as tie
 returns : tie.Need-returns
 returns c = top-is c.args.state c.args.input (omega (arith, c.requires))
 
-pub top-bit-at-spec : {M : Type 1} → statement M
-top-bit-at-spec = tie.close (tie.spec (λ c. search (lowest-fits, needs)) (λ c. search needs) returns)
+pub top_bit_at_spec : {M : Type 1} → statement M
+top_bit_at_spec = tie.close (tie.spec (λ c. search (lowest-fits, needs)) (λ c. search needs) returns)

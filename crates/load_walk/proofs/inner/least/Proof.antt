@@ -3,5 +3,5 @@ use Rattle.load_walk.proofs.WalkCases.{lesser-cases}
 use Rattle.load_walk.proofs.inner.least.Statement.{statement}
 use Rattle.load_walk.proofs.inner.least.Tie as tie
 
-pub least-spec : {M : Type 1} → statement M
-least-spec = tie.close (tie.spec (λ c. search lesser-cases) (λ c. search lesser-cases))
+pub least_spec : {M : Type 1} → statement M
+least_spec = tie.close (tie.spec (λ c. search lesser-cases) (λ c. search lesser-cases))

@@ -7,8 +7,8 @@ use Rattle.load_walk.proofs.inner.next_piece.Tie as tie
 returns : tie.Need-returns
 returns c = search piece-cases
 
-pub next-piece-spec : {M : Type 1} → statement M
-next-piece-spec =
+pub next_piece_spec : {M : Type 1} → statement M
+next_piece_spec =
     tie.close
     (tie.spec
     (λ c κs. search needs) (λ c. search needs) (λ c κs. search needs)

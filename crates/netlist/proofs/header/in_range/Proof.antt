@@ -4,6 +4,6 @@ use Rattle.record_bytes.proofs.Tests.{tests}
 use Rattle.netlist.proofs.header.in_range.Statement.{statement}
 use Rattle.netlist.proofs.header.in_range.Tie as tie
 
-pub in-range-spec : {M : Type 1} → statement M
-in-range-spec =
+pub in_range_spec : {M : Type 1} → statement M
+in_range_spec =
     tie.close (tie.spec (λ c. search tests) (λ c. search tests) (λ c. search tests) (λ c. search needs) (λ c. search tests) (λ c. search tests) (λ c. search tests))

@@ -4,8 +4,8 @@ use Rattle.netlist.proofs.HeaderCases.{header-cases}
 use Rattle.netlist.proofs.header.read_header.Statement.{statement}
 use Rattle.netlist.proofs.header.read_header.Tie as tie
 
-pub read-header-spec : {M : Type 1} → statement M
-read-header-spec =
+pub read_header_spec : {M : Type 1} → statement M
+read_header_spec =
     tie.close
     (tie.spec
     (λ c κs. search needs)

@@ -4,8 +4,8 @@ use Rattle.netlist.proofs.TableLaws.{part_at}
 use Rattle.netlist.proofs.inner.gate_part.Statement.{statement}
 use Rattle.netlist.proofs.inner.gate_part.Tie as tie
 
-pub gate-part-spec : {M : Type 1} → statement M
-gate-part-spec =
+pub gate_part_spec : {M : Type 1} → statement M
+gate_part_spec =
     tie.close
     (tie.spec
     (λ c. search needs) (λ c. search needs) (λ c κs. search needs) (λ c. search needs) (λ c. search needs)

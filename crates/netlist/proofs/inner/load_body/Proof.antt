@@ -10,8 +10,8 @@ returns c = search body-cases
 returns-4 : tie.Need-returns-4
 returns-4 c = search body-cases
 
-pub load-body-spec : {M : Type 1} → statement M
-load-body-spec =
+pub load_body_spec : {M : Type 1} → statement M
+load_body_spec =
     tie.close
     (tie.spec
     (λ c κs. search needs) (λ c κs. search needs) (λ c. search needs) (λ c. search needs) (λ c. search needs)

@@ -4,6 +4,6 @@ use Rattle.netlist.proofs.LoadCases.{by-value-cases}
 use Rattle.netlist.proofs.inner.load_by_value.Statement.{statement}
 use Rattle.netlist.proofs.inner.load_by_value.Tie as tie
 
-pub load-by-value-spec : {M : Type 1} → statement M
-load-by-value-spec =
+pub load_by_value_spec : {M : Type 1} → statement M
+load_by_value_spec =
     tie.close (tie.spec (λ c κs. search by-value-cases) (λ c. search needs) (λ c. search needs) (λ c. search by-value-cases) (λ c. search by-value-cases))

@@ -4,7 +4,7 @@ use Rattle.record_bytes.proofs.PartLaws.{part-rest}
 use Rattle.netlist.proofs.inner.outputs_part.Statement.{statement}
 use Rattle.netlist.proofs.inner.outputs_part.Tie as tie
 
-pub outputs-part-spec : {M : Type 1} → statement M
-outputs-part-spec =
+pub outputs_part_spec : {M : Type 1} → statement M
+outputs_part_spec =
     tie.close
     (tie.spec (λ c. search needs) (λ c. search needs) (λ c. search needs) (λ c. search needs) (λ c. search needs) (λ c. search (part-rest, needs)))

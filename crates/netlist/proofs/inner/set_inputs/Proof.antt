@@ -11,8 +11,8 @@ invariant-loop counts₀ inputs i₀ counts i = (i ≤ inputs) × (counts ≡ pa
 abbrev decreases-loop : tie.decreases-loop
 decreases-loop counts₀ inputs i₀ counts i = inputs - i
 
-pub set-inputs-spec : {M : Type 1} → statement M
-set-inputs-spec =
+pub set_inputs_spec : {M : Type 1} → statement M
+set_inputs_spec =
     tie.close
     (tie.spec
     invariant-loop

@@ -7,8 +7,8 @@ use Rattle.netlist_gates.proofs.inner.read_gate.Tie as tie
 returns-6 : tie.Need-returns-6
 returns-6 c = search gate-cases
 
-pub read-gate-spec : {M : Type 1} → statement M
-read-gate-spec =
+pub read_gate_spec : {M : Type 1} → statement M
+read_gate_spec =
     tie.close
     (tie.spec
     (λ c κs. search needs)

@@ -21,8 +21,8 @@ decreases-loop netlist inputs gates counts₀ positions₀ left₀ net₀ at₀ 
 loop-again : tie.Need-loop-preserved invariant-loop decreases-loop
 loop-again c = (search read-gates-cases, search read-gates-cases, search read-gates-cases, search read-gates-cases, search read-gates-cases, search read-gates-cases)
 
-pub read-gates-spec : {M : Type 1} → statement M
-read-gates-spec =
+pub read_gates_spec : {M : Type 1} → statement M
+read_gates_spec =
     tie.close
     (tie.spec
     invariant-loop

@@ -4,5 +4,5 @@ use Rattle.netlist_gates.proofs.PinSteps.{two-first-not, two-decides}
 use Rattle.netlist_gates.proofs.inner.two_lower.Statement.{statement}
 use Rattle.netlist_gates.proofs.inner.two_lower.Tie as tie
 
-pub two-lower-spec : {M : Type 1} → statement M
-two-lower-spec = tie.close (tie.spec (λ c κs. search needs) (λ c κs. search needs) (λ c. search (two-first-not, needs)) (λ c. search (two-decides, needs)))
+pub two_lower_spec : {M : Type 1} → statement M
+two_lower_spec = tie.close (tie.spec (λ c κs. search needs) (λ c κs. search needs) (λ c. search (two-first-not, needs)) (λ c. search (two-decides, needs)))

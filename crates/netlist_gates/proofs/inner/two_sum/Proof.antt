@@ -4,8 +4,8 @@ use Rattle.netlist_gates.proofs.PinSteps.{lower-first, two-second-net, two-first
 use Rattle.netlist_gates.proofs.inner.two_sum.Statement.{statement}
 use Rattle.netlist_gates.proofs.inner.two_sum.Tie as tie
 
-pub two-sum-spec : {M : Type 1} → statement M
-two-sum-spec =
+pub two_sum_spec : {M : Type 1} → statement M
+two_sum_spec =
     tie.close
     (tie.spec
     (λ c κs. search needs) (λ c. search needs)

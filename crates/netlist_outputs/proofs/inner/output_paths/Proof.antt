@@ -4,5 +4,5 @@ use Rattle.netlist_outputs.proofs.OutputCases.{paths-cases}
 use Rattle.netlist_outputs.proofs.inner.output_paths.Statement.{statement}
 use Rattle.netlist_outputs.proofs.inner.output_paths.Tie as tie
 
-pub output-paths-spec : {M : Type 1} → statement M
-output-paths-spec = tie.close (tie.spec (λ c. search paths-cases) (λ c. search needs) (λ c. search needs) (λ c. search paths-cases))
+pub output_paths_spec : {M : Type 1} → statement M
+output_paths_spec = tie.close (tie.spec (λ c. search paths-cases) (λ c. search needs) (λ c. search needs) (λ c. search paths-cases))

@@ -10,8 +10,8 @@ returns-4 c = search output-cases
 returns-5 : tie.Need-returns-5
 returns-5 c = search output-cases
 
-pub read-output-spec : {M : Type 1} → statement M
-read-output-spec =
+pub read_output_spec : {M : Type 1} → statement M
+read_output_spec =
     tie.close
     (tie.spec
     (λ c κs. search needs)

@@ -6,8 +6,8 @@ use Rattle.path_lines.proofs.nets.put_bracketed.Tie as tie
 use Rattle.bench_net_names.proofs.put_name.Reads as put-name-reads
 use Rattle.path_lines.proofs.nets.put_in_brackets.Reads as put-in-brackets-reads
 
-pub put-bracketed-spec : {M : Type 1} → statement M
-put-bracketed-spec =
+pub put_bracketed_spec : {M : Type 1} → statement M
+put_bracketed_spec =
     tie.close
     (tie.spec
     (λ c. search needs) (λ c κs. search needs)

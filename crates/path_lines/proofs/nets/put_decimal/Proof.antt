@@ -5,5 +5,5 @@ use Rattle.path_lines.proofs.nets.put_decimal.Statement.{statement}
 use Rattle.path_lines.proofs.nets.put_decimal.Tie as tie
 use Rattle.text_line.proofs.inner.put_number.Reads as put-number-reads
 
-pub put-decimal-spec : {M : Type 1} → statement M
-put-decimal-spec = tie.close (tie.spec (λ c κs. search needs) (λ c. search needs) (λ c. search part-cases))
+pub put_decimal_spec : {M : Type 1} → statement M
+put_decimal_spec = tie.close (tie.spec (λ c κs. search needs) (λ c. search needs) (λ c. search part-cases))

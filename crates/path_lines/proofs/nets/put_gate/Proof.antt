@@ -7,8 +7,8 @@ use Rattle.netlist.proofs.inner.pin_net.Reads as pin-net-reads
 use Rattle.path_lines.proofs.nets.put_gate_end.Reads as put-gate-end-reads
 use Rattle.path_lines.proofs.nets.put_gate_start.Reads as put-gate-start-reads
 
-pub put-gate-spec : {M : Type 1} → statement M
-put-gate-spec =
+pub put_gate_spec : {M : Type 1} → statement M
+put_gate_spec =
     tie.close
     (tie.spec
     (λ c κs. search needs) (λ c. search needs) (λ c κs. search needs) (λ c κs. search needs) (λ c. search needs)

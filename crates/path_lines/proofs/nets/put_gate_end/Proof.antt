@@ -17,8 +17,8 @@ returns c =
     let put = end-put _ _ _ start.put-part.ensures.0 number.put-decimal.ensures.0 middle.put-part2.ensures.0 in
     (put net.put-net.ensures.0 last.put-part3.ensures.0, search needs)
 
-pub put-gate-end-spec : {M : Type 1} → statement M
-put-gate-end-spec =
+pub put_gate_end_spec : {M : Type 1} → statement M
+put_gate_end_spec =
     tie.close
     (tie.spec
     (λ c. search needs) (λ c κs. search needs) (λ c κs. search needs) (λ c. search needs) (λ c κs. search needs)

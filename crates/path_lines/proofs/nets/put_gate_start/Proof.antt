@@ -15,8 +15,8 @@ returns c =
     let start = net.before.before.before.before in
     (start-put _ _ _ start.put-part.ensures.0 net.put-net.ensures.0 colon.put-part2.ensures.0 kind.put-kind.ensures.0, search needs)
 
-pub put-gate-start-spec : {M : Type 1} → statement M
-put-gate-start-spec =
+pub put_gate_start_spec : {M : Type 1} → statement M
+put_gate_start_spec =
     tie.close
     (tie.spec
     (λ c. search needs) (λ c κs. search needs) (λ c κs. search needs) (λ c. search needs) (λ c κs. search needs)

@@ -5,8 +5,8 @@ use Rattle.path_lines.proofs.nets.put_in_brackets.Statement.{statement}
 use Rattle.path_lines.proofs.nets.put_in_brackets.Tie as tie
 use Rattle.path_lines.proofs.nets.put_part.Reads as put-part-reads
 
-pub put-in-brackets-spec : {M : Type 1} → statement M
-put-in-brackets-spec =
+pub put_in_brackets_spec : {M : Type 1} → statement M
+put_in_brackets_spec =
     tie.close
     (tie.spec
     (λ c. search needs) (λ c κs. search needs) (λ c κs. search needs) (λ c. search needs) (λ c κs. search needs)

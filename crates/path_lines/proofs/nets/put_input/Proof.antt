@@ -6,8 +6,8 @@ use Rattle.path_lines.proofs.nets.put_input.Tie as tie
 use Rattle.path_lines.proofs.nets.put_net.Reads as put-net-reads
 use Rattle.path_lines.proofs.nets.put_part.Reads as put-part-reads
 
-pub put-input-spec : {M : Type 1} → statement M
-put-input-spec =
+pub put_input_spec : {M : Type 1} → statement M
+put_input_spec =
     tie.close
     (tie.spec
     (λ c. search needs) (λ c κs. search needs) (λ c κs. search needs) (λ c. search needs) (λ c κs. search needs)

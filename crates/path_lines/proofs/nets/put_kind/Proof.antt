@@ -8,8 +8,8 @@ use Rattle.path_lines.proofs.nets.put_part.Reads as put-part-reads
 returns-3 : tie.Need-returns-3
 returns-3 c = search kind-cases
 
-pub put-kind-spec : {M : Type 1} → statement M
-put-kind-spec =
+pub put_kind_spec : {M : Type 1} → statement M
+put_kind_spec =
     tie.close
     (tie.spec
     (λ c. search needs) (λ c κs. search needs) (λ c. search needs) (λ c κs. search needs) (λ c. search needs)

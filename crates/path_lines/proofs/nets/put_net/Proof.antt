@@ -6,5 +6,5 @@ use Rattle.path_lines.proofs.nets.put_net.Tie as tie
 use Rattle.path_lines.proofs.nets.put_bracketed.Reads as put-bracketed-reads
 use Rattle.path_lines.proofs.nets.put_decimal.Reads as put-decimal-reads
 
-pub put-net-spec : {M : Type 1} → statement M
-put-net-spec = tie.close (tie.spec (λ c κs. search needs) (λ c κs. search needs) (λ c. search needs) (λ c. search line-cases))
+pub put_net_spec : {M : Type 1} → statement M
+put_net_spec = tie.close (tie.spec (λ c κs. search needs) (λ c κs. search needs) (λ c. search needs) (λ c. search line-cases))

@@ -17,8 +17,8 @@ returns c =
     let put = output-put _ _ _ start.put-part.ensures.0 number.put-decimal.ensures.0 middle.put-part2.ensures.0 in
     (put net.put-net.ensures.0 last.put-part3.ensures.0, search needs)
 
-pub put-output-spec : {M : Type 1} → statement M
-put-output-spec =
+pub put_output_spec : {M : Type 1} → statement M
+put_output_spec =
     tie.close
     (tie.spec
     (λ c. search needs) (λ c κs. search needs) (λ c κs. search needs) (λ c. search needs) (λ c κs. search needs)

@@ -1,6 +1,6 @@
 -- `path_lines::walk::put_gates` meets its contract: what is put so far, with the lines of the gates that are left, is the whole.
 use Rattle.model.proofs.Prelude.{needs}
-use Rattle.bench_net_names.specs.Table.{nameIn}
+use Rattle.bench_net_names.specs.Table.{name_in_of}
 use Rattle.path_lines.proofs.WalkCases.{Walking, walk-cases, walk-place, walk-room, walk-kind-low, walk-kind-high}
 use Rattle.path_lines.proofs.walk.put_gates.Statement.{statement}
 use Rattle.path_lines.proofs.walk.put_gates.Tie as tie
@@ -13,7 +13,7 @@ use Rattle.record_bytes.proofs.inner.wide_word.Reads as wide-word-reads
 
 abbrev invariant-loop : tie.invariant-loop
 invariant-loop out₀ at names netlist positions words output inputs net₀ place₀ k₀ out net place k =
-    Walking out₀ at (nameIn names) netlist positions words output inputs out net place k
+    Walking out₀ at (name_in_of names) netlist positions words output inputs out net place k
 
 abbrev decreases-loop : tie.decreases-loop
 decreases-loop out₀ at names netlist positions words output inputs net₀ place₀ k₀ out net place k = net
@@ -36,8 +36,8 @@ pin-net-requires c κs =
     let above = read.before.loop-test.true in
     walk-room _ _ _ _ _ _ _ _ _ _ _ _ read.before.before.loop.invariant above _ read.gate-part.ensures _ _ tested.before.wide.ensures.0 tested.if1.false
 
-pub put-gates-spec : {M : Type 1} → statement M
-put-gates-spec =
+pub put_gates_spec : {M : Type 1} → statement M
+put_gates_spec =
     tie.close
     (tie.spec
     invariant-loop

@@ -6,8 +6,8 @@ use Rattle.path_lines.proofs.walk.put_loaded.Tie as tie
 use Rattle.netlist.proofs.inner.load.Reads as load-reads
 use Rattle.path_lines.proofs.walk.put_walk.Reads as put-walk-reads
 
-pub put-loaded-spec : {M : Type 1} → statement M
-put-loaded-spec =
+pub put_loaded_spec : {M : Type 1} → statement M
+put_loaded_spec =
     tie.close
     (tie.spec
     (λ c κs. search load-cases)

@@ -9,8 +9,8 @@ use Rattle.path_lines.proofs.nets.put_output.Reads as put-output-reads
 use Rattle.path_lines.proofs.walk.put_gates.Reads as put-gates-reads
 use Rattle.record_bytes.proofs.inner.wide_word.Reads as wide-word-reads
 
-pub put-walk-spec : {M : Type 1} → statement M
-put-walk-spec =
+pub put_walk_spec : {M : Type 1} → statement M
+put_walk_spec =
     tie.close
     (tie.spec
     (λ c. search needs) (λ c κs. search needs)

@@ -1,7 +1,7 @@
 -- `path_of_number::writing::write_path` meets its contract: output, pins and number of pins, over zeros, are the words of the path.
 use Rattle.model.proofs.Prelude.{needs}
 use Rattle.path_of_number.proofs.PathWordLaws.{end-room, same-words}
-use Rattle.path_of_number.proofs.WritingCases.{writing-cases, picked-pin, end_back, end_fits}
+use Rattle.path_of_number.proofs.WritingCases.{writing-cases, picked_pin, end_back, end_fits}
 use Rattle.path_of_number.proofs.writing.write_path.Statement.{statement}
 use Rattle.path_of_number.proofs.writing.write_path.Tie as tie
 
@@ -9,7 +9,7 @@ cast-path : tie.Need-overflow-cast-path
 cast-path c =
     let picked = c.before.before.before.before.before in
     let start = picked.before.before.before.before in
-    picked-pin _ _ _ _ _ start.requires.0 _ picked.before.outputs-part.ensures _ picked.pick-output.ensures
+    picked_pin _ _ _ _ _ start.requires.0 _ picked.before.outputs-part.ensures _ picked.pick-output.ensures
 
 sub-path : tie.Need-overflow-sub-path
 sub-path c =
@@ -43,8 +43,8 @@ same_length c =
     let start = picked.before.before.before.before in
     same-words _ _ written.descend.new.1.1.1.1.1.1.0 picked.pick-output.result.pin _ start.requires.1 cleared.clear.ensures c.before.path2.given
 
-pub write-path-spec : {M : Type 1} → statement M
-write-path-spec =
+pub write_path_spec : {M : Type 1} → statement M
+write_path_spec =
     tie.close
     (tie.spec
     (λ c κs. search writing-cases)

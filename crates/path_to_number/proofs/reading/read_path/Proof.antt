@@ -13,8 +13,8 @@ returns-2 c = search reading-cases
 returns-3 : tie.Need-returns-3
 returns-3 c = search reading-cases
 
-pub read-path-spec : {M : Type 1} → statement M
-read-path-spec =
+pub read_path_spec : {M : Type 1} → statement M
+read_path_spec =
     tie.close
     (tie.spec
     returns

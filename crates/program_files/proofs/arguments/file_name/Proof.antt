@@ -4,8 +4,8 @@ use Rattle.program_files.proofs.NameLaws.{told-cases}
 use Rattle.program_files.proofs.arguments.file_name.Statement.{statement}
 use Rattle.program_files.proofs.arguments.file_name.Tie as tie
 
-pub file-name-spec : {M : Type 1} → statement M
-file-name-spec =
+pub file_name_spec : {M : Type 1} → statement M
+file_name_spec =
     tie.close
     (tie.spec
     (λ c κs. search needs) (λ c κs. search needs) (λ c. search needs)

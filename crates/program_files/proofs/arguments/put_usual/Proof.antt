@@ -4,8 +4,8 @@ use Rattle.program_files.proofs.NameLaws.{name-cases}
 use Rattle.program_files.proofs.arguments.put_usual.Statement.{statement}
 use Rattle.program_files.proofs.arguments.put_usual.Tie as tie
 
-pub put-usual-spec : {M : Type 1} → statement M
-put-usual-spec =
+pub put_usual_spec : {M : Type 1} → statement M
+put_usual_spec =
     tie.close
     (tie.spec
     (λ c. search name-cases)

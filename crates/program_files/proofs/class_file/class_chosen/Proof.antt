@@ -13,6 +13,6 @@ returns-3 c = search Class-cases
 returns-4 : tie.Need-returns-4
 returns-4 c = search Class-cases
 
-pub class-chosen-spec : {M : Type 1} → statement M
-class-chosen-spec =
+pub class_chosen_spec : {M : Type 1} → statement M
+class_chosen_spec =
     tie.close (tie.spec (λ c. search Class-cases) returns-2 (λ c. search needs) returns-3 returns-4 (λ c. search Class-cases))

@@ -12,8 +12,8 @@ returns c =
     end-told c.is-ended.result (to_z w64 (of_z w64 c.before.before.before.read.result)) start.args.size
     (to_z w64 (of_z w64 c.before.lseek.result)) start.ranges.size c.is-ended.ensures
 
-pub at-end-spec : {M : Type 1} → statement M
-at-end-spec =
+pub at_end_spec : {M : Type 1} → statement M
+at_end_spec =
     tie.close
     (tie.spec
     (λ c. search needs) (λ c κs. search needs) (λ c κs. search needs) (λ c κs. search needs)

@@ -25,8 +25,8 @@ returns-4 c =
     judged-read a.opened.missing a.whole tested.before.is-descriptor.result a.opened.fd tested.before.before.struct_told.given.0.1
     tested.before.is-descriptor.ensures tested.before.before.before.if1.false tested.if2.false
 
-pub close-file-spec : {M : Type 1} → statement M
-close-file-spec =
+pub close_file_spec : {M : Type 1} → statement M
+close_file_spec =
     tie.close
     (tie.spec
     (λ c. search needs) (λ c κs. search needs)

@@ -3,8 +3,8 @@ use Rattle.program_files.proofs.JudgeLaws.{end-cases}
 use Rattle.program_files.proofs.files.is_ended.Statement.{statement}
 use Rattle.program_files.proofs.files.is_ended.Tie as tie
 
-pub is-ended-spec : {M : Type 1} → statement M
-is-ended-spec =
+pub is_ended_spec : {M : Type 1} → statement M
+is_ended_spec =
     tie.close
     (tie.spec
     (λ c. search end-cases)

@@ -3,8 +3,8 @@ use Rattle.program_files.proofs.JudgeLaws.{judge-cases}
 use Rattle.program_files.proofs.files.is_whole.Statement.{statement}
 use Rattle.program_files.proofs.files.is_whole.Tie as tie
 
-pub is-whole-spec : {M : Type 1} → statement M
-is-whole-spec =
+pub is_whole_spec : {M : Type 1} → statement M
+is_whole_spec =
     tie.close
     (tie.spec
     (λ c. search judge-cases)

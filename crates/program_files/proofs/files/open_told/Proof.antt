@@ -4,8 +4,8 @@ use Rattle.program_files.proofs.JudgeLaws.{judge-cases}
 use Rattle.program_files.proofs.files.open_told.Statement.{statement}
 use Rattle.program_files.proofs.files.open_told.Tie as tie
 
-pub open-told-spec : {M : Type 1} → statement M
-open-told-spec =
+pub open_told_spec : {M : Type 1} → statement M
+open_told_spec =
     tie.close
     (tie.spec
     (λ c κs. search needs) (λ c κs. search needs) (λ c. search needs) (λ c κs. search needs) (λ c κs. search needs)

@@ -15,8 +15,8 @@ returns c =
           described.ensures c.close-file.result _ c.close-file.ensures whole.ensures,
     )
 
-pub read-opened-spec : {M : Type 1} → statement M
-read-opened-spec =
+pub read_opened_spec : {M : Type 1} → statement M
+read_opened_spec =
     tie.close
     (tie.spec
     (λ c κs. search needs) (λ c κs. search needs) (λ c κs. search needs) (λ c κs. search needs) (λ c κs. search needs)

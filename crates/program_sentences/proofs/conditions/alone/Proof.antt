@@ -4,8 +4,8 @@ use Rattle.text_line.proofs.LineLaws.{first_part}
 use Rattle.program_sentences.proofs.conditions.alone.Statement.{statement}
 use Rattle.program_sentences.proofs.conditions.alone.Tie as tie
 
-pub alone-spec : {M : Type 1} → statement M
-alone-spec =
+pub alone_spec : {M : Type 1} → statement M
+alone_spec =
     tie.close
     (tie.spec
     (λ c κs. search needs) (λ c κs. search needs)

@@ -2,8 +2,8 @@
 use Rattle.model.proofs.Prelude.{ap, ◌++◌, needs}
 use denote.Enum.Declared.{tag_of}
 use Rattle.model.specs.contracts.Refusal as enum
-use Rattle.model_refusals.proofs.LaterTags.{tagsFrom}
-use Rattle.program_sentences.specs.Conditions.{conditionText}
+use Rattle.model_refusals.proofs.LaterTags.{tags_from}
+use Rattle.program_sentences.specs.Conditions.{condition_text}
 use Rattle.program_sentences.proofs.ConditionLaws.{said, from_next}
 use Rattle.program_sentences.proofs.conditions.line_from_work.Statement.{statement}
 use Rattle.program_sentences.proofs.conditions.line_from_work.Tie as tie
@@ -11,10 +11,10 @@ use Rattle.program_sentences.proofs.conditions.line_from_work.Tie as tie
 returns-12 : tie.Need-returns-12
 returns-12 c =
     let why = c.before.before.args.why in
-    λ t. c.line-from-class.ensures (from_next 22 33 0 (tagsFrom 1 21 ++ tagsFrom 33 9) (tag_of enum.the_type why) tt c.before.match.keys12 t)
+    λ t. c.line-from-class.ensures (from_next 22 33 0 (tags_from 1 21 ++ tags_from 33 9) (tag_of enum.the_type why) tt c.before.match.keys12 t)
 
-pub line-from-work-spec : {M : Type 1} → statement M
-line-from-work-spec =
+pub line_from_work_spec : {M : Type 1} → statement M
+line_from_work_spec =
     tie.close
     (tie.spec
     (λ c. search needs) (λ c. search needs) (λ c κs. search needs) (λ c. search needs) (λ c. search needs)
@@ -24,15 +24,15 @@ line-from-work-spec =
     (λ c κs. search needs) (λ c. search needs) (λ c. search needs) (λ c κs. search needs) (λ c. search needs)
     (λ c. search needs) (λ c κs. search needs) (λ c. search needs) (λ c. search needs) (λ c κs. search needs)
     (λ c. search needs) (λ c. search needs) (λ c κs. search needs) (λ c κs. search needs)
-    (λ c. λ t. said _ _ _ c.alone.ensures tt (ap conditionText c.before.before.enum_told.given.1))
-    (λ c. λ t. said _ _ _ c.alone2.ensures tt (ap conditionText c.before.before.enum-told2.given.1))
-    (λ c. λ t. said _ _ _ c.alone3.ensures tt (ap conditionText c.before.before.enum-told3.given.1))
-    (λ c. λ t. said _ _ _ c.alone4.ensures tt (ap conditionText c.before.before.enum-told4.given.1))
-    (λ c. λ t. said _ _ _ c.alone5.ensures tt (ap conditionText c.before.before.enum-told5.given.1))
-    (λ c. λ t. said _ _ _ c.alone6.ensures tt (ap conditionText c.before.before.enum-told6.given.1))
-    (λ c. λ t. said _ _ _ c.alone7.ensures tt (ap conditionText c.before.before.enum-told7.given.1))
-    (λ c. λ t. said _ _ _ c.alone8.ensures tt (ap conditionText c.before.before.enum-told8.given.1))
-    (λ c. λ t. said _ _ _ c.alone9.ensures tt (ap conditionText c.before.before.enum-told9.given.1))
-    (λ c. λ t. said _ _ _ c.alone10.ensures tt (ap conditionText c.before.before.enum-told10.given.1))
-    (λ c. λ t. said _ _ _ c.alone11.ensures tt (ap conditionText c.before.before.enum-told11.given.1))
+    (λ c. λ t. said _ _ _ c.alone.ensures tt (ap condition_text c.before.before.enum_told.given.1))
+    (λ c. λ t. said _ _ _ c.alone2.ensures tt (ap condition_text c.before.before.enum-told2.given.1))
+    (λ c. λ t. said _ _ _ c.alone3.ensures tt (ap condition_text c.before.before.enum-told3.given.1))
+    (λ c. λ t. said _ _ _ c.alone4.ensures tt (ap condition_text c.before.before.enum-told4.given.1))
+    (λ c. λ t. said _ _ _ c.alone5.ensures tt (ap condition_text c.before.before.enum-told5.given.1))
+    (λ c. λ t. said _ _ _ c.alone6.ensures tt (ap condition_text c.before.before.enum-told6.given.1))
+    (λ c. λ t. said _ _ _ c.alone7.ensures tt (ap condition_text c.before.before.enum-told7.given.1))
+    (λ c. λ t. said _ _ _ c.alone8.ensures tt (ap condition_text c.before.before.enum-told8.given.1))
+    (λ c. λ t. said _ _ _ c.alone9.ensures tt (ap condition_text c.before.before.enum-told9.given.1))
+    (λ c. λ t. said _ _ _ c.alone10.ensures tt (ap condition_text c.before.before.enum-told10.given.1))
+    (λ c. λ t. said _ _ _ c.alone11.ensures tt (ap condition_text c.before.before.enum-told11.given.1))
     returns-12)

@@ -7,5 +7,5 @@ use Rattle.program_sentences.proofs.version.version_line.Tie as tie
 returns : tie.Need-returns
 returns c = said _ _ _ c.alone.ensures tt refl
 
-pub version-line-spec : {M : Type 1} → statement M
-version-line-spec = tie.close (tie.spec (λ c. search needs) (λ c κs. search needs) returns)
+pub version_line_spec : {M : Type 1} → statement M
+version_line_spec = tie.close (tie.spec (λ c. search needs) (λ c κs. search needs) returns)

@@ -4,6 +4,6 @@ use Rattle.record_bytes.proofs.Tests.{tests}
 use Rattle.record_bytes.proofs.inner.begins_with.Statement.{statement}
 use Rattle.record_bytes.proofs.inner.begins_with.Tie as tie
 
-pub begins-with-spec : {M : Type 1} → statement M
-begins-with-spec =
+pub begins_with_spec : {M : Type 1} → statement M
+begins_with_spec =
     tie.close (tie.spec (λ c. search tests) (λ c. search needs) (λ c. search tests) (λ c. search needs) (λ c. search tests))

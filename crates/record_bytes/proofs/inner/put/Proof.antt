@@ -1,13 +1,13 @@
 -- `record_bytes::inner::put` meets its contract: what is left to write, written, gives the whole.
 use Rattle.model.proofs.Prelude.{◌+◌, ◌≡◌, ◌∙◌, sym, length, length-set, sets, arith, needs}
-use Rattle.model.specs.Base.{littleEndian}
+use Rattle.model.specs.Base.{little_endian}
 use Rattle.record_bytes.proofs.ByteLaws.{put_step, put-none}
 use Rattle.record_bytes.proofs.inner.put.Statement.{statement}
 use Rattle.record_bytes.proofs.inner.put.Tie as tie
 
 abbrev invariant-loop : tie.invariant-loop
 invariant-loop s₀ at k number place₀ left₀ rest₀ s place left rest =
-    (length s ≡ length s₀) × (place + left ≡ at + k) × (sets s place (littleEndian left rest) ≡ sets s₀ at (littleEndian k number))
+    (length s ≡ length s₀) × (place + left ≡ at + k) × (sets s place (little_endian left rest) ≡ sets s₀ at (little_endian k number))
 
 abbrev decreases-loop : tie.decreases-loop
 decreases-loop s₀ at k number place₀ left₀ rest₀ s place left rest = left

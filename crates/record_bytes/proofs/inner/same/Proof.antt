@@ -1,7 +1,7 @@
 -- `record_bytes::inner::same` meets its contract: what is left decides.
 use Rattle.model.proofs.Prelude.{◌+◌, ◌≡◌, ◌∙◌, sym, drop, take, arith, needs}
-use Rattle.model.specs.Base.{littleEndian}
-use Rattle.model.specs.Report.{sameBytes}
+use Rattle.model.specs.Base.{little_endian}
+use Rattle.model.specs.Report.{same_bytes}
 use Rattle.record_bytes.proofs.ByteLaws.{same-yes, same-no, same_none}
 use Rattle.record_bytes.proofs.inner.same.Statement.{statement}
 use Rattle.record_bytes.proofs.inner.same.Tie as tie
@@ -9,7 +9,7 @@ use Rattle.record_bytes.proofs.inner.same.Tie as tie
 abbrev invariant-loop : tie.invariant-loop
 invariant-loop s at k number place₀ left₀ rest₀ place left rest =
     (place + left ≡ at + k)
-    × (sameBytes (take left (drop place s)) (littleEndian left rest) ≡ sameBytes (take k (drop at s)) (littleEndian k number))
+    × (same_bytes (take left (drop place s)) (little_endian left rest) ≡ same_bytes (take k (drop at s)) (little_endian k number))
 
 abbrev decreases-loop : tie.decreases-loop
 decreases-loop s at k number place₀ left₀ rest₀ place left rest = left

@@ -21,6 +21,6 @@ returns-2 c =
     rw (and_mask a.inputs 3)
     (spare-mask a.vector.now a.inputs (λ z. c.before.if1.false (and_mask a.inputs 3 ∙ z)) (c.shared-slice-known.given (a.inputs / 8)).fits)
 
-pub spare-zero-spec : {M : Type 1} → statement M
-spare-zero-spec =
+pub spare_zero_spec : {M : Type 1} → statement M
+spare_zero_spec =
     tie.close (tie.spec (λ c. omega (arith, mask_lt c.args.inputs 3)) returns shared-slice-read-result (λ c. mask_lt c.before.before.args.inputs 3) returns-2)

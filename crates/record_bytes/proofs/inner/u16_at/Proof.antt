@@ -7,8 +7,8 @@ use Rattle.record_bytes.proofs.inner.u16_at.Tie as tie
 returns : tie.Need-returns
 returns c = search (field_is, needs)
 
-pub u16-at-spec : {M : Type 1} → statement M
-u16-at-spec =
+pub u16_at_spec : {M : Type 1} → statement M
+u16_at_spec =
     tie.close
     (tie.spec
     (λ c. search needs) (λ c κs. search needs) (λ c. search needs) (λ c. search needs) (λ c κs. search needs)

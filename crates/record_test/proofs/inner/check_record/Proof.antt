@@ -33,8 +33,8 @@ some-change-requires c κs =
 returns-5 : tie.Need-returns-5
 returns-5 c = search record-cases
 
-pub check-record-spec : {M : Type 1} → statement M
-check-record-spec =
+pub check_record_spec : {M : Type 1} → statement M
+check_record_spec =
     tie.close
     (tie.spec
     (λ c κs. search needs) (λ c. search needs) (λ c. search needs)

@@ -6,5 +6,5 @@ use Rattle.record_test.proofs.inner.edges_of.Tie as tie
 returns : tie.Need-returns
 returns c = edges-true c.args.tested
 
-pub edges-of-spec : {M : Type 1} → statement M
-edges-of-spec = tie.close (tie.spec returns)
+pub edges_of_spec : {M : Type 1} → statement M
+edges_of_spec = tie.close (tie.spec returns)

@@ -11,8 +11,8 @@ returns c =
     vectors-true (λ i. omega (arith, known.shared-slice-known.given i)) bytes.vector-bytes.ensures.0 known.before.requires.1
     c.before.before.word_of.ensures c.word-of2.ensures
 
-pub read-vectors-spec : {M : Type 1} → statement M
-read-vectors-spec =
+pub read_vectors_spec : {M : Type 1} → statement M
+read_vectors_spec =
     tie.close
     (tie.spec
     (λ c κs. search needs) (λ c. search needs) (λ c. search needs) (λ c. search needs) (λ c κs. search needs)

@@ -32,8 +32,8 @@ returns-2 c =
     no_change start.args.v1.now start.args.v2.now start.args.inputs
     (λ i h. c.before.loop.invariant.1 i (omega (arith, bytes, c.loop-test.false)))
 
-pub some-change-spec : {M : Type 1} → statement M
-some-change-spec =
+pub some_change_spec : {M : Type 1} → statement M
+some_change_spec =
     tie.close
     (tie.spec
     invariant-loop

@@ -32,8 +32,8 @@ returns c =
     let a = c.before.before.before in
     read_done a.requires.0 a.requires.1 c.before.loop.invariant (search needs)
 
-pub word-of-spec : {M : Type 1} → statement M
-word-of-spec =
+pub word_of_spec : {M : Type 1} → statement M
+word_of_spec =
     tie.close
     (tie.spec
     invariant-loop

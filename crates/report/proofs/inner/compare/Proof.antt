@@ -4,8 +4,8 @@ use Rattle.report.proofs.ReportCases.{compare-cases}
 use Rattle.report.proofs.inner.compare.Statement.{statement}
 use Rattle.report.proofs.inner.compare.Tie as tie
 
-pub compare-spec : {M : Type 1} → statement M
-compare-spec =
+pub compare_spec : {M : Type 1} → statement M
+compare_spec =
     tie.close
     (tie.spec
     (λ c κs. search needs)

@@ -14,8 +14,8 @@ add-if1 c =
 returns-4 : tie.Need-returns-4
 returns-4 c = search report-cases
 
-pub same-report-spec : {M : Type 1} → statement M
-same-report-spec =
+pub same_report_spec : {M : Type 1} → statement M
+same_report_spec =
     tie.close
     (tie.spec
     (λ c κs. search needs) (λ c κs. search needs) (λ c κs. search needs) (λ c. search needs) (λ c. search needs)

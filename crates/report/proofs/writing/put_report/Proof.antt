@@ -20,8 +20,8 @@ returns c =
     rising.edge-runs.ensures runs.edge-runs2.ensures rising.before.totals-of.result rising.before.totals-of.ensures
     a.report.now _ _ _ head.put-head.ensures first.put-words.ensures last.put-words2.ensures
 
-pub put-report-spec : {M : Type 1} → statement M
-put-report-spec =
+pub put_report_spec : {M : Type 1} → statement M
+put_report_spec =
     tie.close
     (tie.spec
     (λ c κs. search needs) (λ c κs. search needs) (λ c κs. search needs) (λ c κs. search needs) (λ c. search needs)

@@ -7,8 +7,8 @@ use Rattle.report_runs.proofs.inner.falling_runs.Tie as tie
 returns : tie.Need-returns
 returns c = search (falling-cut, needs)
 
-pub falling-runs-spec : {M : Type 1} → statement M
-falling-runs-spec =
+pub falling_runs_spec : {M : Type 1} → statement M
+falling_runs_spec =
     tie.close
     (tie.spec
     (λ c κs. search needs) (λ c. search needs) (λ c. search needs) (λ c κs. search needs)

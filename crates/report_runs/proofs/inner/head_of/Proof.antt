@@ -14,8 +14,8 @@ returns c =
     let falling = c.before.before.u16-at4.ensures.0 in
     head_read bytes _ _ _ _ _ _ _ tests later paths rising falling c.before.number-at2.ensures c.number-at3.ensures
 
-pub head-of-spec : {M : Type 1} → statement M
-head-of-spec =
+pub head_of_spec : {M : Type 1} → statement M
+head_of_spec =
     tie.close
     (tie.spec
     (λ c κs. search needs) (λ c. search needs) (λ c κs. search needs) (λ c. search needs) (λ c. search needs)

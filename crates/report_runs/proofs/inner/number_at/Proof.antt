@@ -4,8 +4,8 @@ use Rattle.report_runs.proofs.EightByteLaws.{eight}
 use Rattle.report_runs.proofs.inner.number_at.Statement.{statement}
 use Rattle.report_runs.proofs.inner.number_at.Tie as tie
 
-pub number-at-spec : {M : Type 1} → statement M
-number-at-spec =
+pub number_at_spec : {M : Type 1} → statement M
+number_at_spec =
     tie.close
     (tie.spec
     (λ c κs. search needs) (λ c. search needs) (λ c κs. search needs) (λ c. search needs) (λ c κs. search needs)

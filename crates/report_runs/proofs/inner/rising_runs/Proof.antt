@@ -4,5 +4,5 @@ use Rattle.report_runs.proofs.ClaimLaws.{rising_part}
 use Rattle.report_runs.proofs.inner.rising_runs.Statement.{statement}
 use Rattle.report_runs.proofs.inner.rising_runs.Tie as tie
 
-pub rising-runs-spec : {M : Type 1} → statement M
-rising-runs-spec = tie.close (tie.spec (λ c κs. search needs) (λ c κs. search needs) (λ c. search (rising_part, needs)))
+pub rising_runs_spec : {M : Type 1} → statement M
+rising_runs_spec = tie.close (tie.spec (λ c κs. search needs) (λ c κs. search needs) (λ c. search (rising_part, needs)))

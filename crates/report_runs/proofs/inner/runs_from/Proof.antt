@@ -10,8 +10,8 @@ returns c =
     let e : a.at + 16 * c.before.least.result - a.at ≡ 16 * c.before.least.result = omega arith in
     ap (λ (k : ℕ). take k (drop a.at a.report.now)) (e ∙ ap (λ (k : ℕ). 16 * k) c.before.least.ensures)
 
-pub runs-from-spec : {M : Type 1} → statement M
-runs-from-spec =
+pub runs_from_spec : {M : Type 1} → statement M
+runs_from_spec =
     tie.close
     (tie.spec
     (λ c. search needs) (λ c κs. search needs) (λ c. search needs) (λ c. search needs) (λ c. search needs)

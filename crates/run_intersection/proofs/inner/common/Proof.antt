@@ -16,8 +16,8 @@ loop-again c = search meet-cases
 loop-again-2 : tie.Need-loop-preserved-2 invariant-loop decreases-loop
 loop-again-2 c = search meet-cases
 
-pub common-spec : {M : Type 1} → statement M
-common-spec =
+pub common_spec : {M : Type 1} → statement M
+common_spec =
     tie.close
     (tie.spec
     invariant-loop

@@ -10,8 +10,8 @@ returns c = search put-cases
 returns-2 : tie.Need-returns-2
 returns-2 c = search put-cases
 
-pub put-overlap-spec : {M : Type 1} → statement M
-put-overlap-spec =
+pub put_overlap_spec : {M : Type 1} → statement M
+put_overlap_spec =
     tie.close
     (tie.spec
     (λ c κs. search needs) (λ c κs. search needs)

@@ -10,8 +10,8 @@ invariant-loop words from to x lo₀ hi₀ lo hi = Left words from to x lo hi
 abbrev decreases-loop : tie.decreases-loop
 decreases-loop words from to x lo₀ hi₀ lo hi = hi - lo
 
-pub contains-spec : {M : Type 1} → statement M
-contains-spec =
+pub contains_spec : {M : Type 1} → statement M
+contains_spec =
     tie.close
     (tie.spec
     invariant-loop

@@ -9,8 +9,8 @@ invariant-loop words from to x at₀ left₀ at left = (from ≤ at) × (at + le
 abbrev decreases-loop : tie.decreases-loop
 decreases-loop words from to x at₀ left₀ at left = left
 
-pub first-reaching-spec : {M : Type 1} → statement M
-first-reaching-spec =
+pub first_reaching_spec : {M : Type 1} → statement M
+first_reaching_spec =
     tie.close
     (tie.spec
     invariant-loop

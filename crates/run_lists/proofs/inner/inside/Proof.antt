@@ -13,8 +13,8 @@ decreases-loop a a-from a-to b b-from b-to i₀ j₀ i j = b-to - j
 loop-again : tie.Need-loop-preserved invariant-loop decreases-loop
 loop-again c = search (walked_more, needs)
 
-pub inside-spec : {M : Type 1} → statement M
-inside-spec =
+pub inside_spec : {M : Type 1} → statement M
+inside_spec =
     tie.close
     (tie.spec
     invariant-loop

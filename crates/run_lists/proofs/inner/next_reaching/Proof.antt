@@ -9,8 +9,8 @@ invariant-loop words from to x i₀ i = (from ≤ i) × (i ≤ to)
 abbrev decreases-loop : tie.decreases-loop
 decreases-loop words from to x i₀ i = to - i
 
-pub next-reaching-spec : {M : Type 1} → statement M
-next-reaching-spec =
+pub next_reaching_spec : {M : Type 1} → statement M
+next_reaching_spec =
     tie.close
     (tie.spec
     invariant-loop

@@ -10,5 +10,5 @@ at_most step once l = le_trans (le_of_eq (mul_comm step once)) (le_trans (mul-le
     one-most : {n : ℕ} → n < 2 → n ≤ 1
     one-most k = omega (arith, k)
 
-pub step-where-spec : {M : Type 1} → statement M
-step-where-spec = tie.close (tie.spec (λ c. omega (arith, at_most c.args.step c.args.once c.requires, c.well-formed.0.1)) (λ c. search (at_most, needs)))
+pub step_where_spec : {M : Type 1} → statement M
+step_where_spec = tie.close (tie.spec (λ c. omega (arith, at_most c.args.step c.args.once c.requires, c.well-formed.0.1)) (λ c. search (at_most, needs)))

@@ -4,8 +4,8 @@ use Rattle.run_shifted.proofs.OpenNetLaws.{net-cases}
 use Rattle.run_shifted.proofs.inner.add_net.Statement.{statement}
 use Rattle.run_shifted.proofs.inner.add_net.Tie as tie
 
-pub add-net-spec : {M : Type 1} → statement M
-add-net-spec =
+pub add_net_spec : {M : Type 1} → statement M
+add_net_spec =
     tie.close
     (tie.spec
     (λ c. search needs) (λ c. search needs) (λ c κs. search needs) (λ c. search needs) (λ c. search needs)

@@ -4,8 +4,8 @@ use Rattle.run_union.proofs.ShiftedCases.{nothing-more, first_run, placed-room, 
 use Rattle.run_union.proofs.inner.append_rest.Statement.{statement}
 use Rattle.run_union.proofs.inner.append_rest.Tie as tie
 
-pub append-rest-spec : {M : Type 1} → statement M
-append-rest-spec =
+pub append_rest_spec : {M : Type 1} → statement M
+append_rest_spec =
     tie.close
     (tie.spec
     (λ c. search (nothing-more, needs))

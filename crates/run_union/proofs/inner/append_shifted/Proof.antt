@@ -15,8 +15,8 @@ append-rest-requires c κs =
       (search needs, rest-sound offset some begun.requires.1.0.1 begun.requires.0 begun.requires.1.1 added count),
     )
 
-pub append-shifted-spec : {M : Type 1} → statement M
-append-shifted-spec =
+pub append_shifted_spec : {M : Type 1} → statement M
+append_shifted_spec =
     tie.close
     (tie.spec
     (λ c. search (nothing-more, needs))

@@ -4,8 +4,8 @@ use Rattle.run_union.proofs.ShiftedCases.{fits-no, fits-yes}
 use Rattle.run_union.proofs.inner.fit_after.Statement.{statement}
 use Rattle.run_union.proofs.inner.fit_after.Tie as tie
 
-pub fit-after-spec : {M : Type 1} → statement M
-fit-after-spec =
+pub fit_after_spec : {M : Type 1} → statement M
+fit_after_spec =
     tie.close
     (tie.spec
     (λ c. search needs) (λ c. search needs)

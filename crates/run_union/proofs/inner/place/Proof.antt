@@ -7,8 +7,8 @@ use Rattle.run_union.proofs.inner.place.Tie as tie
 returns-2 : tie.Need-returns-2
 returns-2 c = search (place-full, needs)
 
-pub place-spec : {M : Type 1} → statement M
-place-spec =
+pub place_spec : {M : Type 1} → statement M
+place_spec =
     tie.close
     (tie.spec
     (λ c. search needs) (λ c. search needs) (λ c. search needs) (λ c. search needs) (λ c. search needs)

@@ -16,8 +16,8 @@ returns-3 c = λ K a.
     let made = nets.before.before.before.before.before.input-runs.ensures in
     edge-full made.0 made.1 nets.net-runs.ensures K a c.enum-told2.given.1
 
-pub detected-runs-spec : {M : Type 1} → statement M
-detected-runs-spec =
+pub detected_runs_spec : {M : Type 1} → statement M
+detected_runs_spec =
     tie.close
     (tie.spec
     (λ c. search edge-cases)

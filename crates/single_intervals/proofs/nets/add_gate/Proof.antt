@@ -4,6 +4,6 @@ use Rattle.single_intervals.proofs.OpenRunLaws.{pass-cases}
 use Rattle.single_intervals.proofs.nets.add_gate.Statement.{statement}
 use Rattle.single_intervals.proofs.nets.add_gate.Tie as tie
 
-pub add-gate-spec : {M : Type 1} → statement M
-add-gate-spec =
+pub add_gate_spec : {M : Type 1} → statement M
+add_gate_spec =
     tie.close (tie.spec (λ c κs. search pass-cases) (λ c. search pass-cases) (λ c κs. search needs) (λ c. search needs) (λ c. search needs))

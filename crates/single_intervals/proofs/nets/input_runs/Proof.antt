@@ -11,8 +11,8 @@ invariant-loop edges inputs starts₀ words₀ input₀ start₀ starts words in
 abbrev decreases-loop : tie.decreases-loop
 decreases-loop edges inputs starts₀ words₀ input₀ start₀ starts words input start = inputs - input
 
-pub input-runs-spec : {M : Type 1} → statement M
-input-runs-spec =
+pub input_runs_spec : {M : Type 1} → statement M
+input_runs_spec =
     tie.close
     (tie.spec
     invariant-loop

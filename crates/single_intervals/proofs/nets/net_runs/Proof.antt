@@ -19,8 +19,8 @@ loop-again c =
       search needs,
     )
 
-pub net-runs-spec : {M : Type 1} → statement M
-net-runs-spec =
+pub net_runs_spec : {M : Type 1} → statement M
+net_runs_spec =
     tie.close
     (tie.spec
     invariant-loop

@@ -4,8 +4,8 @@ use Rattle.single_intervals.proofs.OpenRunLaws.{count-cases}
 use Rattle.single_intervals.proofs.nets.open_count.Statement.{statement}
 use Rattle.single_intervals.proofs.nets.open_count.Tie as tie
 
-pub open-count-spec : {M : Type 1} → statement M
-open-count-spec =
+pub open_count_spec : {M : Type 1} → statement M
+open_count_spec =
     tie.close
     (tie.spec
     (λ c. search needs) (λ c. search needs) (λ c κs. search needs) (λ c. search needs) (λ c. search needs)

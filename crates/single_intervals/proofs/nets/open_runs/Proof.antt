@@ -13,8 +13,8 @@ decreases-loop part mask starts pins pin₀ sum₀ pin sum = pins - pin
 returns : tie.Need-returns invariant-loop decreases-loop
 returns c = search open-cases
 
-pub open-runs-spec : {M : Type 1} → statement M
-open-runs-spec =
+pub open_runs_spec : {M : Type 1} → statement M
+open_runs_spec =
     tie.close
     (tie.spec
     invariant-loop

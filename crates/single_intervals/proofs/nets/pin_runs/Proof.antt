@@ -3,5 +3,5 @@ use Rattle.single_intervals.proofs.OpenRunLaws.{pin-cases}
 use Rattle.single_intervals.proofs.nets.pin_runs.Statement.{statement}
 use Rattle.single_intervals.proofs.nets.pin_runs.Tie as tie
 
-pub pin-runs-spec : {M : Type 1} → statement M
-pin-runs-spec = tie.close (tie.spec (λ c κs. search pin-cases) (λ c κs. search pin-cases) (λ c κs. search pin-cases) (λ c. search pin-cases))
+pub pin_runs_spec : {M : Type 1} → statement M
+pin_runs_spec = tie.close (tie.spec (λ c κs. search pin-cases) (λ c κs. search pin-cases) (λ c κs. search pin-cases) (λ c. search pin-cases))

@@ -19,8 +19,8 @@ returns c =
     let at-vectors = c.before.before.before.before.before.before.before.before.before.before in
     legal-taken at-vectors.before.before.before.before.before.requires at-vectors.read-vectors.ensures masks edges worked
 
-pub apply-legal-spec : {M : Type 1} → statement M
-apply-legal-spec =
+pub apply_legal_spec : {M : Type 1} → statement M
+apply_legal_spec =
     tie.close
     (tie.spec
     (λ c κs. let ready = c.before.before.before.before.requires in (legal-inputs ready, legal-length ready))

@@ -1,7 +1,7 @@
 -- `single_stage::inner::cover_both` meets its contract: the runs made of the rising edge stay while the falling edge is covered.
 use Rattle.model.proofs.Prelude.{◌∙◌, refl, arith, needs}
 use Rattle.model.specs.Path.{rising, falling}
-use Rattle.single_stage.proofs.BothEdgeLaws.{work-few, some-edge, join-ready, both-covered}
+use Rattle.single_stage.proofs.BothEdgeLaws.{work-few, some-edge, join_ready, both-covered}
 use Rattle.single_stage.proofs.inner.cover_both.Statement.{statement}
 use Rattle.single_stage.proofs.inner.cover_both.Tie as tie
 
@@ -11,7 +11,7 @@ join-edge-requires c κs =
     let at-found = c.before.before.before.before in
     let found = at-found.detected-runs in
     let ready = at-found.before.before.before.before.before.requires in
-    join-ready ready rising refl found.auto.1.1.1.1.1.1.0 found.ensures held (omega arith) (omega arith)
+    join_ready ready rising refl found.auto.1.1.1.1.1.1.0 found.ensures held (omega arith) (omega arith)
 
 detected-runs-requires-2 : tie.Need-detected-runs-requires-2
 detected-runs-requires-2 c κs =
@@ -27,7 +27,7 @@ join-edge-requires-2 c κs =
     let at-found = at-joins.before.before.before.before.before in
     let ready = at-found.before.before.before.before.before.requires in
     let so_far = at-joins.join-edge.auto.1.1.0 ∙ at-found.detected-runs.auto.1.1.1.1.1.1.0 in
-    join-ready ready falling so_far (found.auto.1.1.1.1.1.1.0 ∙ so_far) found.ensures held (omega arith) (omega arith)
+    join_ready ready falling so_far (found.auto.1.1.1.1.1.1.0 ∙ so_far) found.ensures held (omega arith) (omega arith)
 
 returns : tie.Need-returns
 returns c =
@@ -43,8 +43,8 @@ returns c =
     both-covered at-found.before.before.before.before.before.requires so_far rising-found.ensures rising-held rising-joins.ensures
     falling-found falling-held falling-joins c.join-answers.ensures
 
-pub cover-both-spec : {M : Type 1} → statement M
-cover-both-spec =
+pub cover_both_spec : {M : Type 1} → statement M
+cover_both_spec =
     tie.close
     (tie.spec
     (λ c κs. some-edge c.before.before.before.before.requires rising refl)

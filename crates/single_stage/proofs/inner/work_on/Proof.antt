@@ -12,5 +12,5 @@ returns c =
     let ready = at_both.before.before.before.before.before.before.requires in
     work-written ready covers.auto.1.1.1.1.1.1.1.0 covers.ensures at-writes.write-both.ensures
 
-pub work-on-spec : {M : Type 1} → statement M
-work-on-spec = tie.close (tie.spec (λ c κs. search needs) (λ c κs. search (work-writes, needs)) (λ c. search needs) (λ c. search needs) returns)
+pub work_on_spec : {M : Type 1} → statement M
+work_on_spec = tie.close (tie.spec (λ c κs. search needs) (λ c κs. search (work-writes, needs)) (λ c. search needs) (λ c. search needs) returns)

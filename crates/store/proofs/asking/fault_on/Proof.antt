@@ -1,6 +1,6 @@
 -- `store::asking::fault_on` meets its contract: the checks of the words, then the range of the fault, then the search of its edge for its path.
 use Rattle.model.proofs.Prelude.{needs}
-use Rattle.store_words.proofs.SoundLaws.{checked-sound}
+use Rattle.store_words.proofs.SoundLaws.{checked_sound}
 use Rattle.store.proofs.AskedSteps.{fault-refused, fault-low, fault-high, fault-found}
 use Rattle.store.proofs.asking.fault_on.Statement.{statement}
 use Rattle.store.proofs.asking.fault_on.Tie as tie
@@ -14,8 +14,8 @@ returns-4 c = search (fault-found, needs)
 returns-5 : tie.Need-returns-5
 returns-5 c = search (fault-found, needs)
 
-pub fault-on-spec : {M : Type 1} → statement M
-fault-on-spec =
+pub fault_on_spec : {M : Type 1} → statement M
+fault_on_spec =
     tie.close
     (tie.spec
     (λ c κs. search needs) (λ c. search needs) (λ c. search needs)
@@ -23,7 +23,7 @@ fault-on-spec =
     (λ c. search needs)
     returns-2
     (λ c κs. search needs) (λ c κs. search needs)
-    (λ c κs. search (checked-sound, needs))
+    (λ c κs. search (checked_sound, needs))
     (λ c. search (fault-refused, needs))
     returns-4
     returns-5)

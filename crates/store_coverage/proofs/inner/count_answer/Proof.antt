@@ -24,8 +24,8 @@ returns-2 c =
     let at_after = c.before.before.before.before in
     λ N t x held old new k. count-taken k at_after.before.enum_told.given.1 at_after.totals-of.ensures
 
-pub count-answer-spec : {M : Type 1} → statement M
-count-answer-spec =
+pub count_answer_spec : {M : Type 1} → statement M
+count_answer_spec =
     tie.close
     (tie.spec
     (λ c. search needs)

@@ -4,5 +4,5 @@ use Rattle.store_coverage.proofs.WorkLaws.{refuse-cases}
 use Rattle.store_coverage.proofs.inner.refuse.Statement.{statement}
 use Rattle.store_coverage.proofs.inner.refuse.Tie as tie
 
-pub refuse-spec : {M : Type 1} → statement M
-refuse-spec = tie.close (tie.spec (λ c κs. search needs) (λ c. search refuse-cases) (λ c. search refuse-cases))
+pub refuse_spec : {M : Type 1} → statement M
+refuse_spec = tie.close (tie.spec (λ c κs. search needs) (λ c. search refuse-cases) (λ c. search refuse-cases))

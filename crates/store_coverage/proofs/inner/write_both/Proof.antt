@@ -1,7 +1,7 @@
 -- `store_coverage::inner::write_both` meets its contract: where one more test can be counted and both edges fit the store is written, edge by edge, and the
 -- test counted.
 use Rattle.model.proofs.Prelude.{needs}
-use Rattle.store_coverage.proofs.WorkLaws.{write-cases, write-counts}
+use Rattle.store_coverage.proofs.WorkLaws.{write-cases, write_counts}
 use Rattle.store_coverage.proofs.inner.write_both.Statement.{statement}
 use Rattle.store_coverage.proofs.inner.write_both.Tie as tie
 
@@ -19,14 +19,14 @@ count-test-requires c κs =
     let at_left = at_more.before in
     let at-made = at_left.before.before.before in
     let start = at-made.before.before.before.before in
-    write-counts at_left.tests_left.ensures at_more.if1.false at-made.answer.given.1 at-rising.write-runs.ensures
+    write_counts at_left.tests_left.ensures at_more.if1.false at-made.answer.given.1 at-rising.write-runs.ensures
     at-falling.write-runs2.ensures start.requires
 
 returns-2 : tie.Need-returns-2
 returns-2 c = search write-cases
 
-pub write-both-spec : {M : Type 1} → statement M
-write-both-spec =
+pub write_both_spec : {M : Type 1} → statement M
+write_both_spec =
     tie.close
     (tie.spec
     (λ c. search needs)

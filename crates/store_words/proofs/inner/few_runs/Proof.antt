@@ -4,8 +4,8 @@ use Rattle.store_words.proofs.CheckSteps.{few-first, few-both}
 use Rattle.store_words.proofs.inner.few_runs.Statement.{statement}
 use Rattle.store_words.proofs.inner.few_runs.Tie as tie
 
-pub few-runs-spec : {M : Type 1} → statement M
-few-runs-spec =
+pub few_runs_spec : {M : Type 1} → statement M
+few_runs_spec =
     tie.close
     (tie.spec
     (λ c. search needs) (λ c. search needs)

@@ -13,8 +13,8 @@ returns-2 c = search (none_both, needs)
 returns-3 : tie.Need-returns-3
 returns-3 c = search (none_first, needs)
 
-pub runs-of-tests-spec : {M : Type 1} → statement M
-runs-of-tests-spec =
+pub runs_of_tests_spec : {M : Type 1} → statement M
+runs_of_tests_spec =
     tie.close
     (tie.spec
     (λ c. search needs)

@@ -1,14 +1,14 @@
 -- `store_words::inner::separated_runs` meets its contract: the test of the rising runs decides, or that of the falling runs does.
 use Rattle.model.proofs.Prelude.{needs}
-use Rattle.store_words.proofs.CheckSteps.{separated_first, separated-both}
+use Rattle.store_words.proofs.CheckSteps.{separated_first, separated_both}
 use Rattle.store_words.proofs.inner.separated_runs.Statement.{statement}
 use Rattle.store_words.proofs.inner.separated_runs.Tie as tie
 
 returns : tie.Need-returns
-returns c = separated-both _ _ _ c.before.before.separated.ensures c.before.if1.true _ c.separated2.ensures
+returns c = separated_both _ _ _ c.before.before.separated.ensures c.before.if1.true _ c.separated2.ensures
 
-pub separated-runs-spec : {M : Type 1} → statement M
-separated-runs-spec =
+pub separated_runs_spec : {M : Type 1} → statement M
+separated_runs_spec =
     tie.close
     (tie.spec
     (λ c. search needs) (λ c. search needs) (λ c. search needs) (λ c. search needs) (λ c. search needs)

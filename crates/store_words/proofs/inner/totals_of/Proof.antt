@@ -4,8 +4,8 @@ use Rattle.store_words.proofs.SoundLaws.{sound-rising, sound-falling, totals-sum
 use Rattle.store_words.proofs.inner.totals_of.Statement.{statement}
 use Rattle.store_words.proofs.inner.totals_of.Tie as tie
 
-pub totals-of-spec : {M : Type 1} → statement M
-totals-of-spec =
+pub totals_of_spec : {M : Type 1} → statement M
+totals_of_spec =
     tie.close
     (tie.spec
     (λ c. search needs) (λ c. search needs) (λ c. search needs) (λ c. search needs)

@@ -5,13 +5,13 @@ use Rattle.store_words.proofs.inner.zeros_after.Statement.{statement}
 use Rattle.store_words.proofs.inner.zeros_after.Tie as tie
 
 returns : tie.Need-returns
-returns c = zeros-both c.before.before.before.before.before.before.args.words.now _ c.before.before.zero-words.ensures c.before.if1.true _ c.zero-words2.ensures
+returns c = zeros-both c.before.before.before.before.before.before.args.words.now _ c.before.before.zero_words.ensures c.before.if1.true _ c.zero-words2.ensures
 
 returns-2 : tie.Need-returns-2
-returns-2 c = zeros-first c.before.before.before.before.before.args.words.now _ c.before.zero-words.ensures c.if1.false
+returns-2 c = zeros-first c.before.before.before.before.before.args.words.now _ c.before.zero_words.ensures c.if1.false
 
-pub zeros-after-spec : {M : Type 1} → statement M
-zeros-after-spec =
+pub zeros_after_spec : {M : Type 1} → statement M
+zeros_after_spec =
     tie.close
     (tie.spec
     (λ c. search needs) (λ c. search needs) (λ c. search needs) (λ c. search needs) (λ c. search needs)

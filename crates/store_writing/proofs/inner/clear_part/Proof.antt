@@ -16,8 +16,8 @@ loop-again c =
     let l = c.before.loop in
     (length-set l.words l.i 0 ∙ l.invariant.0, sym (zeroed-next l.words l.i _ c.loop-test.true) ∙ l.invariant.1)
 
-pub clear-part-spec : {M : Type 1} → statement M
-clear-part-spec =
+pub clear_part_spec : {M : Type 1} → statement M
+clear_part_spec =
     tie.close
     (tie.spec
     invariant-loop

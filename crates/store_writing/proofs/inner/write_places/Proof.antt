@@ -15,8 +15,8 @@ returns c =
     places-written args.places.now args.words.now args.made args.count args.first args.held args.from args.to cut.0 cut.1 _ _ _
     cut.3 cut.2 start.requires.1.1 moved.move-runs.ensures copied.copy.ensures cleared.clear-part.ensures
 
-pub write-places-spec : {M : Type 1} → statement M
-write-places-spec =
+pub write_places_spec : {M : Type 1} → statement M
+write_places_spec =
     tie.close
     (tie.spec
     (λ c. search needs) (λ c. search needs) (λ c. search needs) (λ c. search needs) (λ c κs. search needs)

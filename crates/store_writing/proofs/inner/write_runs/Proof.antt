@@ -1,6 +1,6 @@
 -- `store_writing::inner::write_runs` meets its contract: the number of runs at the head, then the edge's places after it.
 use Rattle.model.proofs.Prelude.{◌∙◌, length-set, needs}
-use Rattle.path_faults.specs.Answers.{modelEdge}
+use Rattle.path_faults.specs.Answers.{model_edge}
 use Rattle.store_writing.proofs.EdgeWriteCases.{cut-order, cut-held, few-held, few-after, made_inside, places-long, places-zero, runs-made, write-runs-cases}
 use Rattle.store_writing.proofs.inner.write_runs.Statement.{statement}
 use Rattle.store_writing.proofs.inner.write_runs.Tie as tie
@@ -28,11 +28,11 @@ returns-2 c =
     let at-made = at-word.before.before in
     let start = at-made.before.before.before.before in
     let args = start.args in
-    runs-made args.words.now args.made args.store.now (modelEdge args.edge) args.change start.requires _ _ _ at-made.change.given.1 _ _
+    runs-made args.words.now args.made args.store.now (model_edge args.edge) args.change start.requires _ _ _ at-made.change.given.1 _ _
     word.0 word.1 first.0 _ at_places.write-places.ensures
 
-pub write-runs-spec : {M : Type 1} → statement M
-write-runs-spec =
+pub write_runs_spec : {M : Type 1} → statement M
+write_runs_spec =
     tie.close
     (tie.spec
     (λ c. search needs) (λ c. search needs) (λ c κs. search needs) (λ c κs. search needs) (λ c. search needs)

@@ -4,8 +4,8 @@ use Rattle.testfile_argument.proofs.RefusingLaws.{refused-cases}
 use Rattle.testfile_argument.proofs.refusing.refused_line.Statement.{statement}
 use Rattle.testfile_argument.proofs.refusing.refused_line.Tie as tie
 
-pub refused-line-spec : {M : Type 1} → statement M
-refused-line-spec =
+pub refused_line_spec : {M : Type 1} → statement M
+refused_line_spec =
     tie.close
     (tie.spec
     (λ c κs. search needs) (λ c κs. search needs) (λ c. search needs) (λ c κs. search needs) (λ c κs. search needs)

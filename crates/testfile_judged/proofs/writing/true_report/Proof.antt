@@ -4,8 +4,8 @@ use Rattle.testfile_judged.proofs.TrueReportCases.{wrote-cases}
 use Rattle.testfile_judged.proofs.writing.true_report.Statement.{statement}
 use Rattle.testfile_judged.proofs.writing.true_report.Tie as tie
 
-pub true-report-spec : {M : Type 1} → statement M
-true-report-spec =
+pub true_report_spec : {M : Type 1} → statement M
+true_report_spec =
     tie.close
     (tie.spec
     (λ c. search needs) (λ c κs. search needs) (λ c. search needs) (λ c κs. search needs) (λ c κs. search needs)

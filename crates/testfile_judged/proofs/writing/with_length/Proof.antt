@@ -4,5 +4,5 @@ use Rattle.testfile_judged.proofs.TrueReportCases.{answer-cases}
 use Rattle.testfile_judged.proofs.writing.with_length.Statement.{statement}
 use Rattle.testfile_judged.proofs.writing.with_length.Tie as tie
 
-pub with-length-spec : {M : Type 1} → statement M
-with-length-spec = tie.close (tie.spec (λ c. search needs) (λ c. search needs) (λ c. search answer-cases) (λ c. search answer-cases))
+pub with_length_spec : {M : Type 1} → statement M
+with_length_spec = tie.close (tie.spec (λ c. search needs) (λ c. search needs) (λ c. search answer-cases) (λ c. search answer-cases))

@@ -7,8 +7,8 @@ use Rattle.testfile_reading.proofs.inner.read_part.Tie as tie
 returns : tie.Need-returns
 returns c = search read-cases
 
-pub read-part-spec : {M : Type 1} → statement M
-read-part-spec =
+pub read_part_spec : {M : Type 1} → statement M
+read_part_spec =
     tie.close
     (tie.spec
     (λ c. search needs)

@@ -5,5 +5,5 @@ use Rattle.testfile_reading.proofs.ReadPieceLaws.{part-cases}
 use Rattle.testfile_reading.proofs.inner.whole_part.Statement.{statement}
 use Rattle.testfile_reading.proofs.inner.whole_part.Tie as tie
 
-pub whole-part-spec : {M : Type 1} → statement M
-whole-part-spec = tie.close (tie.spec (λ c. search needs) (λ c. mod-le _ _) (λ c. search part-cases))
+pub whole_part_spec : {M : Type 1} → statement M
+whole_part_spec = tie.close (tie.spec (λ c. search needs) (λ c. mod-le _ _) (λ c. search part-cases))

@@ -31,8 +31,8 @@ loop-again c = (search walk-cases, search needs, search needs, search needs)
 returns-2 : tie.Need-returns-2 invariant-loop decreases-loop
 returns-2 c = search walk-cases
 
-pub apply-pieces-spec : {M : Type 1} → statement M
-apply-pieces-spec =
+pub apply_pieces_spec : {M : Type 1} → statement M
+apply_pieces_spec =
     tie.close
     (tie.spec
     invariant-loop

@@ -20,8 +20,8 @@ returns-2 c =
     let walked = c.before.before.before.before.before.before.before.before.before.before.before.before.before.before.apply-pieces in
     file-cut walked.result _ _ _ _ _ _ _ walked.ensures each.result each.ensures.0 tested.result tested.ensures other _ cleared.ensures
 
-pub walk-file-spec : {M : Type 1} → statement M
-walk-file-spec =
+pub walk_file_spec : {M : Type 1} → statement M
+walk_file_spec =
     tie.close
     (tie.spec
     (λ c κs. search needs) (λ c κs. search needs)

@@ -19,5 +19,5 @@ returns-2 c =
     let long : length line.bytes ≡ 128 = search rules in
     (short-line line.bytes long line.length c.if1.false, c.if1.false)
 
-pub line-length-spec : {M : Type 1} → statement M
-line-length-spec = tie.close (tie.spec returns returns-2)
+pub line_length_spec : {M : Type 1} → statement M
+line_length_spec = tie.close (tie.spec returns returns-2)

@@ -4,7 +4,7 @@ use Prim.Native.Nat.{ℕ}
 use native.Mathlib.Omega.{arith}
 use lib.ListN.{length}
 use lib.Seq.{length-take-le}
-use Rattle.text_buffer.specs.Written.{plainLine}
+use Rattle.text_buffer.specs.Written.{plain_line}
 use Rattle.text_buffer.proofs.WrittenLaws.{written_as}
 use Rattle.text_buffer.proofs.LineLengthLaws.{line-bytes}
 use borrow.Author.Rules.{rules}
@@ -43,10 +43,10 @@ returns c =
     let counted = at_count.line-length in
     let same = line-bytes line.length counted.result line.bytes counted.ensures.0 in
     let count = ap (length {A = ℕ}) same in
-    (written_as (ap plainLine same) put.ensures.0, omega (arith, put.ensures.1, count, counted.ensures))
+    (written_as (ap plain_line same) put.ensures.0, omega (arith, put.ensures.1, count, counted.ensures))
 
-pub put-line-spec : {M : Type 1} → statement M
-put-line-spec =
+pub put_line_spec : {M : Type 1} → statement M
+put_line_spec =
     tie.close
     (tie.spec
     (λ c κs. search rules)

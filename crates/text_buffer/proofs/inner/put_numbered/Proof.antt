@@ -1,6 +1,6 @@
 -- `text_buffer::inner::put_numbered` meets its contract: the first text, a number of at most 20 digits, the second text with the end of the line.
 use native.Mathlib.Omega.{arith}
-use Rattle.text_line.specs.Decimal.{decimalText}
+use Rattle.text_line.specs.Decimal.{decimal_text}
 use Rattle.text_line.proofs.DecimalLaws.{at-most-20}
 use Rattle.text_buffer.proofs.WrittenLaws.{written, then-written, written-length}
 use borrow.Author.Rules.{rules}
@@ -23,11 +23,11 @@ returns c =
     let p1 = written {out = a.out.now} {at = a.at} {t = a.before.now} (omega arith) at-text.put-text.ensures in
     let same = written-length p1 in
     let start = at-text.put-text in
-    let p2 = written {out = start.new.0} {at = start.result} {t = decimalText a.number} (omega (arith, same, p1.place, few)) at-number.put-number.ensures in
+    let p2 = written {out = start.new.0} {at = start.result} {t = decimal_text a.number} (omega (arith, same, p1.place, few)) at-number.put-number.ensures in
     let rest = at_plain.put-plain.ensures in
     (then-written (then-written p1 p2) rest.0, omega (arith, p1.place, p2.place, rest.1, few))
 
-pub put-numbered-spec : {M : Type 1} → statement M
-put-numbered-spec =
+pub put_numbered_spec : {M : Type 1} → statement M
+put_numbered_spec =
     tie.close
     (tie.spec (λ c κs. search rules) (λ c κs. search rules) put-plain-requires (λ c. search rules) returns)

@@ -16,7 +16,7 @@ returns c =
     let end = written {out = at-text.put-text.new.0} {at = at-text.put-text.result} {t = 10 ∷ []} (omega (arith, same, p1.place)) at-end.put-text2.ensures in
     (then-written p1 end, omega (arith, p1.place, end.place))
 
-pub put-plain-spec : {M : Type 1} → statement M
-put-plain-spec =
+pub put_plain_spec : {M : Type 1} → statement M
+put_plain_spec =
     tie.close
     (tie.spec (λ c κs. search rules) (λ c. search rules) (λ c κs. search rules) (λ c. search rules) returns)

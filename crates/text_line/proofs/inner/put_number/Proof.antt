@@ -1,7 +1,7 @@
 -- `text_line::inner::put_number` meets its contract: the digits that are written are those of the number, and at most 20.
 use Rattle.model.proofs.Prelude.{ℕ, ◌+◌, ◌≡◌, ◌∙◌, ap, List, length, take, sets, arith, needs}
-use Rattle.text_line.specs.Decimal.{decimalText}
-use Rattle.text_line.proofs.DecimalLaws.{decimal-is, at-most-20}
+use Rattle.text_line.specs.Decimal.{decimal_text}
+use Rattle.text_line.proofs.DecimalLaws.{decimal_is, at-most-20}
 use Rattle.text_line.proofs.inner.put_number.Statement.{statement}
 use Rattle.text_line.proofs.inner.put_number.Tie as tie
 
@@ -10,8 +10,8 @@ put-text-requires c κs =
     let made = c.before.before.decimal in
     let a = c.before.before.before.before.before.args in
     let e = made.ensures in
-    let t : take made.result made.new.1.0 ≡ decimalText a.number =
-    decimal-is made.result a.number made.new.1.0 e.1.0 (omega arith) e.1.1 in
+    let t : take made.result made.new.1.0 ≡ decimal_text a.number =
+    decimal_is made.result a.number made.new.1.0 e.1.0 (omega arith) e.1.1 in
     omega (arith, ap (length {A = ℕ}) t, at-most-20 a.number, c.before.before.before.before.before.requires)
 
 returns : tie.Need-returns
@@ -19,13 +19,13 @@ returns c =
     let made = c.before.before.before.before.before.decimal in
     let a = c.before.before.before.before.before.before.before.before.args in
     let e = made.ensures in
-    let t : take made.result made.new.1.0 ≡ decimalText a.number =
-    decimal-is made.result a.number made.new.1.0 e.1.0 (omega arith) e.1.1 in
+    let t : take made.result made.new.1.0 ≡ decimal_text a.number =
+    decimal_is made.result a.number made.new.1.0 e.1.0 (omega arith) e.1.1 in
     let p = c.before.before.put-text.ensures in
     (p.0 ∙ ap (λ (x : List ℕ). sets a.out.now a.at x) t, p.1 ∙ ap (λ (x : List ℕ). a.at + length x) t)
 
-pub put-number-spec : {M : Type 1} → statement M
-put-number-spec =
+pub put_number_spec : {M : Type 1} → statement M
+put_number_spec =
     tie.close
     (tie.spec
     (λ c κs. search needs) (λ c. search needs) (λ c. search needs)

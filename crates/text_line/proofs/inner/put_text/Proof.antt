@@ -23,8 +23,8 @@ returns c =
     let text = c.before.before.args.text.now in
     (sym (put-end l.out text l.place l.i (omega arith)) ∙ l.invariant.3, omega arith)
 
-pub put-text-spec : {M : Type 1} → statement M
-put-text-spec =
+pub put_text_spec : {M : Type 1} → statement M
+put_text_spec =
     tie.close
     (tie.spec
     invariant-loop

@@ -29,8 +29,8 @@ returns c =
     let l = c.before.loop in
     all-added a.part a.whole l.quotient l.rest l.left (omega arith) l.invariant.1 (omega arith) l.invariant.2
 
-pub thousandths-spec : {M : Type 1} → statement M
-thousandths-spec =
+pub thousandths_spec : {M : Type 1} → statement M
+thousandths_spec =
     tie.close
     (tie.spec
     invariant-loop

@@ -1,7 +1,7 @@
 -- `text_percent::inner::with_percent` meets its contract: the whole percent, then the tenth.
 use Rattle.model.proofs.Prelude.{needs}
-use Rattle.text_line.proofs.LineLaws.{then-part, as-part}
-use Rattle.text_percent.proofs.ShareCases.{percent-parts}
+use Rattle.text_line.proofs.LineLaws.{then-part, as_part}
+use Rattle.text_percent.proofs.ShareCases.{percent_parts}
 use Rattle.text_percent.proofs.inner.with_percent.Statement.{statement}
 use Rattle.text_percent.proofs.inner.with_percent.Tie as tie
 
@@ -16,10 +16,10 @@ returns c =
     let p1 = then-part _ _ _ _ _ at-with-number.with_number.ensures at-with-text.with-text.ensures in
     let p2 = then-part _ _ _ _ _ p1 at-with-number2.with-number2.ensures in
     let p3 = then-part _ _ _ _ _ p2 c.with-text2.ensures in
-    as-part _ _ _ _ p3 (percent-parts share.result a.part a.whole share.ensures)
+    as_part _ _ _ _ p3 (percent_parts share.result a.part a.whole share.ensures)
 
-pub with-percent-spec : {M : Type 1} → statement M
-with-percent-spec =
+pub with_percent_spec : {M : Type 1} → statement M
+with_percent_spec =
     tie.close
     (tie.spec
     (λ c κs. search needs) (λ c κs. search needs) (λ c. search needs) (λ c κs. search needs) (λ c κs. search needs)

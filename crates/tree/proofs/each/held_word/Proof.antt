@@ -7,8 +7,8 @@ use Rattle.tree.proofs.each.held_word.Tie as tie
 returns-3 : tie.Need-returns-3
 returns-3 c = search (word-yes, needs)
 
-pub held-word-spec : {M : Type 1} → statement M
-held-word-spec =
+pub held_word_spec : {M : Type 1} → statement M
+held_word_spec =
     tie.close
     (tie.spec
     (λ c κs. search needs) (λ c. search needs)

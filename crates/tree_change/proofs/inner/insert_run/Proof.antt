@@ -1,6 +1,6 @@
 -- `tree_change::inner::insert_run` meets its contract: an empty tree gets one leaf; else room is made first, which leaves the runs.
 use Rattle.model.proofs.Prelude.{needs}
-use Rattle.tree_change.proofs.ChangeCases.{first-ready, first_done, insert-asks, insert-done}
+use Rattle.tree_change.proofs.ChangeCases.{first-ready, first_done, insert_asks, insert_done}
 use Rattle.tree_change.proofs.inner.insert_run.Statement.{statement}
 use Rattle.tree_change.proofs.inner.insert_run.Tie as tie
 
@@ -26,7 +26,7 @@ put-between-requires c κs =
     let m7 = m3.before.before.before.before in
     let m9 = m7.before.before in
     let m10 = m9.before in
-    insert-asks m10.before.before.before.requires m10.word.ensures m9.if1.false m7.compact.ensures m3.joined-low.ensures m1.joined-high.ensures
+    insert_asks m10.before.before.before.requires m10.word.ensures m9.if1.false m7.compact.ensures m3.joined-low.ensures m1.joined-high.ensures
 
 returns-2 : tie.Need-returns-2
 returns-2 c =
@@ -34,10 +34,10 @@ returns-2 c =
     let m10 = m2.before.before.before.before.before.before.before.before in
     let m12 = m10.before.before in
     let m13 = m12.before in
-    insert-done m13.before.before.before.requires m13.word.ensures m12.if1.false m10.compact.ensures m2.put-between.ensures
+    insert_done m13.before.before.before.requires m13.word.ensures m12.if1.false m10.compact.ensures m2.put-between.ensures
 
-pub insert-run-spec : {M : Type 1} → statement M
-insert-run-spec =
+pub insert_run_spec : {M : Type 1} → statement M
+insert_run_spec =
     tie.close
     (tie.spec
     (λ c κs. search needs) (λ c κs. search needs) (λ c. search needs)

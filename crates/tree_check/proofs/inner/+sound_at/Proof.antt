@@ -4,7 +4,7 @@ use borrow.Fn.Kinds.{In}
 use borrow.Fn.PlainCycle.{Measures, is, falls, and}
 use Rattle.tree_check.proofs.TreeTestCases.{at_leaf, at-node, at_first, at_second, at-two, at-third}
 use Rattle.tree_check.proofs.NodeTestCases.{node-inside}
-use Rattle.tree_words.proofs.ChildLaws.{height-less, some-height}
+use Rattle.tree_words.proofs.ChildLaws.{height_less, some-height}
 use Rattle.tree_check.proofs.inner.+sound_at.{statement}
 use Rattle.tree_check.proofs.inner.+sound_at.Tie.{close}
 use Rattle.tree_check.proofs.inner.sound_at.Reads as sound-at
@@ -55,14 +55,14 @@ sound-at-node-sound-requires t c κs = search needs
 sound-at-returns-2 : (t : ℕ) → sound-at-lts.Need-returns-2 (sound-at-claims t) (sound-at-at t) sound-at.Post
 sound-at-returns-2 t c = search (at-node, needs)
 
-sound-at-sub-below : (t : ℕ) → sound-at-lts.Need-overflow-sub-below (sound-at-claims t) (sound-at-at t) sound-at.Post
-sound-at-sub-below t c = search (some-height, needs)
+sound-at-sub_below : (t : ℕ) → sound-at-lts.Need-overflow-sub-below (sound-at-claims t) (sound-at-at t) sound-at.Post
+sound-at-sub_below t c = search (some-height, needs)
 
 sound-at-first-child-requires : (t : ℕ) → sound-at-lts.Need-first-child-requires (sound-at-claims t) (sound-at-at t) sound-at.Post
 sound-at-first-child-requires t c κs = search (node-inside, needs)
 
 sound-at-sound-at-requires : (t : ℕ) → sound-at-lts.Need-sound-at-requires (sound-at-claims t) (sound-at-at t) sound-at.Post
-sound-at-sound-at-requires t c κs = (search (height-less, needs), search needs)
+sound-at-sound-at-requires t c κs = (search (height_less, needs), search needs)
 
 sound-at-returns-3 : (t : ℕ) → sound-at-lts.Need-returns-3 (sound-at-claims t) (sound-at-at t) sound-at.Post
 sound-at-returns-3 t c = search (at_first, needs)
@@ -71,7 +71,7 @@ sound-at-second-child-requires : (t : ℕ) → sound-at-lts.Need-second-child-re
 sound-at-second-child-requires t c κs = search (node-inside, needs)
 
 sound-at-sound-at-requires-2 : (t : ℕ) → sound-at-lts.Need-sound-at-requires-2 (sound-at-claims t) (sound-at-at t) sound-at.Post
-sound-at-sound-at-requires-2 t c κs = (search (height-less, needs), search needs)
+sound-at-sound-at-requires-2 t c κs = (search (height_less, needs), search needs)
 
 sound-at-returns-4 : (t : ℕ) → sound-at-lts.Need-returns-4 (sound-at-claims t) (sound-at-at t) sound-at.Post
 sound-at-returns-4 t c = search (at_second, needs)
@@ -83,20 +83,20 @@ sound-at-returns-5 : (t : ℕ) → sound-at-lts.Need-returns-5 (sound-at-claims 
 sound-at-returns-5 t c = search (at-two, needs)
 
 sound-at-sound-at-requires-3 : (t : ℕ) → sound-at-lts.Need-sound-at-requires-3 (sound-at-claims t) (sound-at-at t) sound-at.Post
-sound-at-sound-at-requires-3 t c κs = (search (height-less, needs), search needs)
+sound-at-sound-at-requires-3 t c κs = (search (height_less, needs), search needs)
 
 sound-at-returns-6 : (t : ℕ) → sound-at-lts.Need-returns-6 (sound-at-claims t) (sound-at-at t) sound-at.Post
 sound-at-returns-6 t c = search (at-third, needs)
 
-pub +sound-at-spec : {M : Type 1} → statement M
-+sound-at-spec = close μ-sound-at λ t. sound-at-lts.spec (sound-at-claims t)
+pub +sound_at_spec : {M : Type 1} → statement M
++sound_at_spec = close μ-sound-at λ t. sound-at-lts.spec (sound-at-claims t)
     (sound-at-at t)
     sound-at.Post
     (sound-at-leaf-sound-requires t)
     (sound-at-returns t)
     (sound-at-node-sound-requires t)
     (sound-at-returns-2 t)
-    (sound-at-sub-below t)
+    (sound-at-sub_below t)
     (sound-at-first-child-requires t)
     (sound-at-sound-at-requires t)
     (sound-at-returns-3 t)

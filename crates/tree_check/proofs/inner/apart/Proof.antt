@@ -4,5 +4,5 @@ use Rattle.tree_check.proofs.TestCases.{apart_fits, apart-not}
 use Rattle.tree_check.proofs.inner.apart.Statement.{statement}
 use Rattle.tree_check.proofs.inner.apart.Tie as tie
 
-pub apart-spec : {M : Type 1} → statement M
-apart-spec = tie.close (tie.spec (λ c. search (apart-not, needs)) (λ c. search (apart_fits, needs)))
+pub apart_spec : {M : Type 1} → statement M
+apart_spec = tie.close (tie.spec (λ c. search (apart-not, needs)) (λ c. search (apart_fits, needs)))

@@ -4,5 +4,5 @@ use Rattle.tree_check.proofs.TestCases.{inside-before, inside-behind, inside-fit
 use Rattle.tree_check.proofs.inner.inside.Statement.{statement}
 use Rattle.tree_check.proofs.inner.inside.Tie as tie
 
-pub inside-spec : {M : Type 1} → statement M
-inside-spec = tie.close (tie.spec (λ c. search (inside-before, needs)) (λ c. search (inside-behind, needs)) (λ c. search (inside-fits, needs)))
+pub inside_spec : {M : Type 1} → statement M
+inside_spec = tie.close (tie.spec (λ c. search (inside-before, needs)) (λ c. search (inside-behind, needs)) (λ c. search (inside-fits, needs)))

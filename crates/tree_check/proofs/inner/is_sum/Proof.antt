@@ -4,5 +4,5 @@ use Rattle.tree_check.proofs.TestCases.{sum_fits, sum-not}
 use Rattle.tree_check.proofs.inner.is_sum.Statement.{statement}
 use Rattle.tree_check.proofs.inner.is_sum.Tie as tie
 
-pub is-sum-spec : {M : Type 1} → statement M
-is-sum-spec = tie.close (tie.spec (λ c. search (sum-not, needs)) (λ c. search (sum_fits, needs)))
+pub is_sum_spec : {M : Type 1} → statement M
+is_sum_spec = tie.close (tie.spec (λ c. search (sum-not, needs)) (λ c. search (sum_fits, needs)))

@@ -4,5 +4,5 @@ use Rattle.tree_check.proofs.TestCases.{sum3-fits, sum3-not}
 use Rattle.tree_check.proofs.inner.is_sum_of_three.Statement.{statement}
 use Rattle.tree_check.proofs.inner.is_sum_of_three.Tie as tie
 
-pub is-sum-of-three-spec : {M : Type 1} → statement M
-is-sum-of-three-spec = tie.close (tie.spec (λ c. search (sum3-not, needs)) (λ c κs. search needs) (λ c. search (sum3-fits, needs)))
+pub is_sum_of_three_spec : {M : Type 1} → statement M
+is_sum_of_three_spec = tie.close (tie.spec (λ c. search (sum3-not, needs)) (λ c κs. search needs) (λ c. search (sum3-fits, needs)))

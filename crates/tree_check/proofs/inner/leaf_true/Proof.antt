@@ -4,8 +4,8 @@ use Rattle.tree_check.proofs.TestCases.{leaf-no0, leaf-no1, leaf-no2, leaf-code}
 use Rattle.tree_check.proofs.inner.leaf_true.Statement.{statement}
 use Rattle.tree_check.proofs.inner.leaf_true.Tie as tie
 
-pub leaf-true-spec : {M : Type 1} → statement M
-leaf-true-spec =
+pub leaf_true_spec : {M : Type 1} → statement M
+leaf_true_spec =
     tie.close
     (tie.spec
     (λ c. search needs) (λ c. search needs) (λ c. search needs) (λ c. search needs) (λ c. search needs)

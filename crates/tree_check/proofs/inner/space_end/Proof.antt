@@ -3,5 +3,5 @@ use Rattle.model.proofs.Prelude.{needs, lt-ltb, le-ltb}
 use Rattle.tree_check.proofs.inner.space_end.Statement.{statement}
 use Rattle.tree_check.proofs.inner.space_end.Tie as tie
 
-pub space-end-spec : {M : Type 1} → statement M
-space-end-spec = tie.close (tie.spec (λ c. search (lt-ltb, le-ltb, needs)) (λ c. search (lt-ltb, le-ltb, needs)))
+pub space_end_spec : {M : Type 1} → statement M
+space_end_spec = tie.close (tie.spec (λ c. search (lt-ltb, le-ltb, needs)) (λ c. search (lt-ltb, le-ltb, needs)))

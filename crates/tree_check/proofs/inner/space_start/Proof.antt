@@ -3,5 +3,5 @@ use Rattle.model.proofs.Prelude.{needs, lt-ltb, le-ltb}
 use Rattle.tree_check.proofs.inner.space_start.Statement.{statement}
 use Rattle.tree_check.proofs.inner.space_start.Tie as tie
 
-pub space-start-spec : {M : Type 1} → statement M
-space-start-spec = tie.close (tie.spec (λ c. search (lt-ltb, le-ltb, needs)) (λ c. search (lt-ltb, le-ltb, needs)))
+pub space_start_spec : {M : Type 1} → statement M
+space_start_spec = tie.close (tie.spec (λ c. search (lt-ltb, le-ltb, needs)) (λ c. search (lt-ltb, le-ltb, needs)))

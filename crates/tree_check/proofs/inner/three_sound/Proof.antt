@@ -4,8 +4,8 @@ use Rattle.tree_check.proofs.TestCases.{three-no0, three-no1, three-no2, three-n
 use Rattle.tree_check.proofs.inner.three_sound.Statement.{statement}
 use Rattle.tree_check.proofs.inner.three_sound.Tie as tie
 
-pub three-sound-spec : {M : Type 1} → statement M
-three-sound-spec =
+pub three_sound_spec : {M : Type 1} → statement M
+three_sound_spec =
     tie.close
     (tie.spec
     (λ c. search needs) (λ c. search needs) (λ c. search needs) (λ c. search needs)

@@ -7,8 +7,8 @@ use Rattle.tree_check.proofs.inner.two_sound.Tie as tie
 returns-6 : tie.Need-returns-6
 returns-6 c = search (two-last, needs)
 
-pub two-sound-spec : {M : Type 1} → statement M
-two-sound-spec =
+pub two_sound_spec : {M : Type 1} → statement M
+two_sound_spec =
     tie.close
     (tie.spec
     (λ c. search needs) (λ c. search needs) (λ c. search needs) (λ c. search needs)

@@ -16,8 +16,8 @@ copy-at-requires c κs =
     let sound = m10.before.before.before.requires in
     (room-long _ sound _ _ _ m10.word.ensures m9.if1.false m7.word2.ensures m5.word3.ensures, search (room-ask, needs))
 
-pub compact-spec : {M : Type 1} → statement M
-compact-spec =
+pub compact_spec : {M : Type 1} → statement M
+compact_spec =
     tie.close
     (tie.spec
     (λ c κs. search needs) (λ c. search needs)

@@ -3,5 +3,5 @@ use Rattle.model.proofs.Prelude.{needs, lt-ltb, le-ltb}
 use Rattle.tree_compaction.proofs.inner.other_start.Statement.{statement}
 use Rattle.tree_compaction.proofs.inner.other_start.Tie as tie
 
-pub other-start-spec : {M : Type 1} → statement M
-other-start-spec = tie.close (tie.spec (λ c. search (lt-ltb, le-ltb, needs)) (λ c. search (lt-ltb, le-ltb, needs)))
+pub other_start_spec : {M : Type 1} → statement M
+other_start_spec = tie.close (tie.spec (λ c. search (lt-ltb, le-ltb, needs)) (λ c. search (lt-ltb, le-ltb, needs)))

@@ -4,7 +4,7 @@ use Rattle.tree_compaction.proofs.HeadLaws.{put-tree-none, put-tree-some}
 use Rattle.tree_compaction.proofs.inner.put_tree.Statement.{statement}
 use Rattle.tree_compaction.proofs.inner.put_tree.Tie as tie
 
-pub put-tree-spec : {M : Type 1} → statement M
-put-tree-spec =
+pub put_tree_spec : {M : Type 1} → statement M
+put_tree_spec =
     tie.close
     (tie.spec (λ c κs. search needs) (λ c. search needs) (λ c. search (put-tree-none, needs)) (λ c κs. search needs) (λ c. search needs) (λ c. search (put-tree-some, needs)))

@@ -2,8 +2,8 @@
 use Rattle.model.proofs.Prelude.{ℕ, ◌<◌, needs}
 use borrow.Fn.Kinds.{In}
 use borrow.Fn.PlainCycle.{Measures, is, falls, and}
-use Rattle.tree_descent.proofs.VisitCases.{visit-end, visit-leaf, visit-one, visit-good, visit-held, visit-count, visit-few}
-use Rattle.tree_words.proofs.ChildLaws.{height-less, node-ends, some-height}
+use Rattle.tree_descent.proofs.VisitCases.{visit_end, visit_leaf, visit_one, visit_good, visit_held, visit_count, visit_few}
+use Rattle.tree_words.proofs.ChildLaws.{height_less, node-ends, some-height}
 use Rattle.tree_descent.proofs.inner.+descend.{statement}
 use Rattle.tree_descent.proofs.inner.+descend.Tie.{close}
 use Rattle.tree_descent.proofs.inner.descend.Reads as descend
@@ -15,52 +15,52 @@ use Rattle.tree_descent.proofs.inner.next_child.Reads as next-child-reads
 abbrev μ-descend : Measures 1 descend-kinds.ps ℕ
 μ-descend κs a = a.1.1.1.0
 
-abbrev descend-at : ℕ → In 1 descend-kinds.ps
-descend-at t = and 1 descend-kinds.ps (is 1 descend-kinds.ps μ-descend t) descend.Pre
+abbrev descend_at : ℕ → In 1 descend-kinds.ps
+descend_at t = and 1 descend-kinds.ps (is 1 descend-kinds.ps μ-descend t) descend.Pre
 
-abbrev descend-below : ℕ → In 1 descend-kinds.ps
-descend-below t = and 1 descend-kinds.ps (falls 1 descend-kinds.ps ◌<◌ μ-descend t) descend.Pre
+abbrev descend_below : ℕ → In 1 descend-kinds.ps
+descend_below t = and 1 descend-kinds.ps (falls 1 descend-kinds.ps ◌<◌ μ-descend t) descend.Pre
 
 -- what the calls of the body are asked and give
-abbrev descend-claims : ℕ → descend-lts.Claims
-descend-claims t = (
+abbrev descend_claims : ℕ → descend-lts.Claims
+descend_claims t = (
   in-leaf-reads.Asked,
   in-leaf-reads.Learnt,
   next-child-reads.Asked,
   next-child-reads.Learnt,
-  descend-below t,
+  descend_below t,
   descend.Post,
 )
 
-descend-in-leaf-requires : (t : ℕ) → descend-lts.Need-in-leaf-requires (descend-claims t) (descend-at t) descend.Post
-descend-in-leaf-requires t c κs = search (visit-end, needs)
+descend-in-leaf-requires : (t : ℕ) → descend-lts.Need-in-leaf-requires (descend_claims t) (descend_at t) descend.Post
+descend-in-leaf-requires t c κs = search (visit_end, needs)
 
-descend-returns : (t : ℕ) → descend-lts.Need-returns (descend-claims t) (descend-at t) descend.Post
-descend-returns t c = record { answer = search (visit-leaf, needs); way = search (visit-one, needs) }
+descend-returns : (t : ℕ) → descend-lts.Need-returns (descend_claims t) (descend_at t) descend.Post
+descend-returns t c = record { answer = search (visit_leaf, needs); way = search (visit_one, needs) }
 
-descend-next-child-requires : (t : ℕ) → descend-lts.Need-next-child-requires (descend-claims t) (descend-at t) descend.Post
+descend-next-child-requires : (t : ℕ) → descend-lts.Need-next-child-requires (descend_claims t) (descend_at t) descend.Post
 descend-next-child-requires t c κs = search (node-ends, needs)
 
-descend-sub-descend : (t : ℕ) → descend-lts.Need-overflow-sub-descend (descend-claims t) (descend-at t) descend.Post
-descend-sub-descend t c = search (some-height, needs)
+descend_sub_descend : (t : ℕ) → descend-lts.Need-overflow-sub-descend (descend_claims t) (descend_at t) descend.Post
+descend_sub_descend t c = search (some-height, needs)
 
-descend-descend-requires : (t : ℕ) → descend-lts.Need-descend-requires (descend-claims t) (descend-at t) descend.Post
-descend-descend-requires t c κs = (search (height-less, needs), ((search needs, search needs), search (visit-good, needs)))
+descend-descend-requires : (t : ℕ) → descend-lts.Need-descend-requires (descend_claims t) (descend_at t) descend.Post
+descend-descend-requires t c κs = (search (height_less, needs), ((search needs, search needs), search (visit_good, needs)))
 
-descend-add-visited : (t : ℕ) → descend-lts.Need-overflow-add-visited (descend-claims t) (descend-at t) descend.Post
-descend-add-visited t c = record { fits = search (visit-few, needs) }
+descend_add_visited : (t : ℕ) → descend-lts.Need-overflow-add-visited (descend_claims t) (descend_at t) descend.Post
+descend_add_visited t c = record { fits = search (visit_few, needs) }
 
-descend-returns-2 : (t : ℕ) → descend-lts.Need-returns-2 (descend-claims t) (descend-at t) descend.Post
-descend-returns-2 t c = record { answer = search (visit-held, needs); way = search (visit-count, needs) }
+descend-returns-2 : (t : ℕ) → descend-lts.Need-returns-2 (descend_claims t) (descend_at t) descend.Post
+descend-returns-2 t c = record { answer = search (visit_held, needs); way = search (visit_count, needs) }
 
-pub +descend-spec : {M : Type 1} → statement M
-+descend-spec = close μ-descend λ t. descend-lts.spec (descend-claims t)
-    (descend-at t)
+pub +descend_spec : {M : Type 1} → statement M
++descend_spec = close μ-descend λ t. descend-lts.spec (descend_claims t)
+    (descend_at t)
     descend.Post
     (descend-in-leaf-requires t)
     (descend-returns t)
     (descend-next-child-requires t)
-    (descend-sub-descend t)
+    (descend_sub_descend t)
     (descend-descend-requires t)
-    (descend-add-visited t)
+    (descend_add_visited t)
     (descend-returns-2 t)

@@ -3,7 +3,7 @@ use Rattle.model.proofs.Prelude.{ℕ, ◌<◌, needs}
 use borrow.Fn.Kinds.{In}
 use borrow.Fn.PlainCycle.{Measures, is, falls, and}
 use Rattle.tree_descent.proofs.ReachCases.{start-leaf, start-low, start-good, start-on}
-use Rattle.tree_words.proofs.ChildLaws.{height-less, node-ends, some-height}
+use Rattle.tree_words.proofs.ChildLaws.{height_less, node-ends, some-height}
 use Rattle.tree_descent.proofs.inner.+last_starting.{statement}
 use Rattle.tree_descent.proofs.inner.+last_starting.Tie.{close}
 use Rattle.tree_descent.proofs.inner.last_starting.Reads as last-starting
@@ -14,12 +14,12 @@ use Rattle.tree_descent.proofs.inner.next_child.Reads as next-child-reads
 abbrev μ-last-starting : Measures 1 last-starting-kinds.ps ℕ
 μ-last-starting κs a = a.1.1.1.0
 
-abbrev last-starting-at : ℕ → In 1 last-starting-kinds.ps
-last-starting-at t =
+abbrev last-starting_at : ℕ → In 1 last-starting-kinds.ps
+last-starting_at t =
     and 1 last-starting-kinds.ps (is 1 last-starting-kinds.ps μ-last-starting t) last-starting.Pre
 
-abbrev last-starting-below : ℕ → In 1 last-starting-kinds.ps
-last-starting-below t =
+abbrev last-starting_below : ℕ → In 1 last-starting-kinds.ps
+last-starting_below t =
     and
     1
     last-starting-kinds.ps
@@ -27,35 +27,35 @@ last-starting-below t =
     last-starting.Pre
 
 -- what the calls of the body are asked and give
-abbrev last-starting-claims : ℕ → last-starting-lts.Claims
-last-starting-claims t = (
+abbrev last-starting_claims : ℕ → last-starting-lts.Claims
+last-starting_claims t = (
   next-child-reads.Asked,
   next-child-reads.Learnt,
-  last-starting-below t,
+  last-starting_below t,
   last-starting.Post,
 )
 
-last-starting-returns : (t : ℕ) → last-starting-lts.Need-returns (last-starting-claims t) (last-starting-at t) last-starting.Post
+last-starting-returns : (t : ℕ) → last-starting-lts.Need-returns (last-starting_claims t) (last-starting_at t) last-starting.Post
 last-starting-returns t c = search (start-leaf, needs)
 
-last-starting-next-child-requires : (t : ℕ) → last-starting-lts.Need-next-child-requires (last-starting-claims t) (last-starting-at t) last-starting.Post
+last-starting-next-child-requires : (t : ℕ) → last-starting-lts.Need-next-child-requires (last-starting_claims t) (last-starting_at t) last-starting.Post
 last-starting-next-child-requires t c κs = search (node-ends, needs)
 
-last-starting-sub-last-starting : (t : ℕ) → last-starting-lts.Need-overflow-sub-last-starting (last-starting-claims t) (last-starting-at t) last-starting.Post
-last-starting-sub-last-starting t c = search (some-height, needs)
+last-starting_sub_last-starting : (t : ℕ) → last-starting-lts.Need-overflow-sub-last-starting (last-starting_claims t) (last-starting_at t) last-starting.Post
+last-starting_sub_last-starting t c = search (some-height, needs)
 
-last-starting-last-starting-requires : (t : ℕ) → last-starting-lts.Need-last-starting-requires (last-starting-claims t) (last-starting-at t) last-starting.Post
-last-starting-last-starting-requires t c κs = (search (height-less, needs), ((search needs, search (start-low, needs)), search (start-good, needs)))
+last-starting-last-starting-requires : (t : ℕ) → last-starting-lts.Need-last-starting-requires (last-starting_claims t) (last-starting_at t) last-starting.Post
+last-starting-last-starting-requires t c κs = (search (height_less, needs), ((search needs, search (start-low, needs)), search (start-good, needs)))
 
-last-starting-returns-2 : (t : ℕ) → last-starting-lts.Need-returns-2 (last-starting-claims t) (last-starting-at t) last-starting.Post
+last-starting-returns-2 : (t : ℕ) → last-starting-lts.Need-returns-2 (last-starting_claims t) (last-starting_at t) last-starting.Post
 last-starting-returns-2 t c = search (start-on, needs)
 
-pub +last-starting-spec : {M : Type 1} → statement M
-+last-starting-spec = close μ-last-starting λ t. last-starting-lts.spec (last-starting-claims t)
-    (last-starting-at t)
+pub +last_starting_spec : {M : Type 1} → statement M
++last_starting_spec = close μ-last-starting λ t. last-starting-lts.spec (last-starting_claims t)
+    (last-starting_at t)
     last-starting.Post
     (last-starting-returns t)
     (last-starting-next-child-requires t)
-    (last-starting-sub-last-starting t)
+    (last-starting_sub_last-starting t)
     (last-starting-last-starting-requires t)
     (last-starting-returns-2 t)

@@ -4,8 +4,8 @@ use Rattle.tree_descent.proofs.VisitCases.{leaf-both, leaf_first}
 use Rattle.tree_descent.proofs.inner.in_leaf.Statement.{statement}
 use Rattle.tree_descent.proofs.inner.in_leaf.Tie as tie
 
-pub in-leaf-spec : {M : Type 1} → statement M
-in-leaf-spec =
+pub in_leaf_spec : {M : Type 1} → statement M
+in_leaf_spec =
     tie.close
     (tie.spec
     (λ c. search needs) (λ c. search needs) (λ c. search needs) (λ c. search needs) (λ c. search needs)

@@ -13,8 +13,8 @@ returns-2 c = search (next-first, next-second, next-middle, next-third, needs)
 returns-3 : tie.Need-returns-3
 returns-3 c = search (next-first, next-second, next-middle, next-third, needs)
 
-pub next-child-spec : {M : Type 1} → statement M
-next-child-spec =
+pub next_child_spec : {M : Type 1} → statement M
+next_child_spec =
     tie.close
     (tie.spec
     (λ c. search needs) (λ c. search needs) (λ c. search needs) (λ c κs. search needs)

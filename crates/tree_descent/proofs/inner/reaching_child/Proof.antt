@@ -4,8 +4,8 @@ use Rattle.tree_descent.proofs.ReachCases.{to-first, to-second, to-middle, to-th
 use Rattle.tree_descent.proofs.inner.reaching_child.Statement.{statement}
 use Rattle.tree_descent.proofs.inner.reaching_child.Tie as tie
 
-pub reaching-child-spec : {M : Type 1} → statement M
-reaching-child-spec =
+pub reaching_child_spec : {M : Type 1} → statement M
+reaching_child_spec =
     tie.close
     (tie.spec
     (λ c κs. search needs) (λ c. search needs) (λ c. search needs) (λ c. search needs)

@@ -1,6 +1,6 @@
 -- `tree_filling::filling::fill` meets its contract. The invariant, `FillingTree`: the leaves are the first i runs.
 use Rattle.model.proofs.Prelude.{◌-◌, refl, needs}
-use Rattle.tree_filling.proofs.FillSteps.{FillingTree, fill_start, fill-inserts, fill-next, fill_done}
+use Rattle.tree_filling.proofs.FillSteps.{FillingTree, fill_start, fill_inserts, fill_next, fill_done}
 use Rattle.tree_filling.proofs.filling.fill.Statement.{statement}
 use Rattle.tree_filling.proofs.filling.fill.Tie as tie
 
@@ -21,7 +21,7 @@ insert-run-requires c κs =
     let at_test = c.before.before.before in
     let at-loop = at_test.before in
     let at-start = at-loop.before.before.before.before.before.before.before in
-    fill-inserts _ _ _ _ _ _ at-start.requires refl at-loop.loop.invariant at_test.loop-test.true
+    fill_inserts _ _ _ _ _ _ at-start.requires refl at-loop.loop.invariant at_test.loop-test.true
 
 loop-again : tie.Need-loop-preserved invariant-loop decreases-loop
 loop-again c =
@@ -29,7 +29,7 @@ loop-again c =
     let at_test = at-insert.before.before.before.before in
     let at-loop = at_test.before in
     let at-start = at-loop.before.before.before.before.before.before.before in
-    fill-next _ _ _ _ _ _ at-start.requires refl at-loop.loop.invariant at_test.loop-test.true _ at-insert.insert-run.ensures
+    fill_next _ _ _ _ _ _ at-start.requires refl at-loop.loop.invariant at_test.loop-test.true _ at-insert.insert-run.ensures
 
 returns : tie.Need-returns invariant-loop decreases-loop
 returns c =

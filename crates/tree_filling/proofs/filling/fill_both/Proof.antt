@@ -7,8 +7,8 @@ use Rattle.tree_filling.proofs.filling.fill_both.Tie as tie
 returns-2 : tie.Need-returns-2
 returns-2 c = search both-cases
 
-pub fill-both-spec : {M : Type 1} → statement M
-fill-both-spec =
+pub fill_both_spec : {M : Type 1} → statement M
+fill_both_spec =
     tie.close
     (tie.spec
     (λ c κs. search needs) (λ c. search needs) (λ c. search needs)

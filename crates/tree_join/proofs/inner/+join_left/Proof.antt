@@ -14,54 +14,54 @@ use Rattle.tree_words.proofs.inner.first_child.Reads as first-child-reads
 abbrev μ-join-left : Measures 1 join-left-kinds.ps ℕ
 μ-join-left κs a = a.1.1.1.0
 
-abbrev join-left-at : ℕ → In 1 join-left-kinds.ps
-join-left-at t =
+abbrev join_left-at : ℕ → In 1 join-left-kinds.ps
+join_left-at t =
     and 1 join-left-kinds.ps (is 1 join-left-kinds.ps μ-join-left t) join-left.Pre
 
-abbrev join-left-below : ℕ → In 1 join-left-kinds.ps
-join-left-below t =
+abbrev join_left-below : ℕ → In 1 join-left-kinds.ps
+join_left-below t =
     and 1 join-left-kinds.ps (falls 1 join-left-kinds.ps ◌<◌ μ-join-left t) join-left.Pre
 
 -- what the calls of the body are asked and give
-abbrev join-left-claims : ℕ → join-left-lts.Claims
-join-left-claims t = (
+abbrev join_left-claims : ℕ → join-left-lts.Claims
+join_left-claims t = (
   first-child-reads.Asked,
   first-child-reads.Learnt,
-  join-left-below t,
+  join_left-below t,
   join-left.Post,
   attach-first-reads.Asked,
   attach-first-reads.Learnt,
 )
 
-join-left-returns : (t : ℕ) → join-left-lts.Need-returns (join-left-claims t) (join-left-at t) join-left.Post
+join-left-returns : (t : ℕ) → join-left-lts.Need-returns (join_left-claims t) (join_left-at t) join-left.Post
 join-left-returns t c = search join-cases
 
-join-left-sub-below : (t : ℕ) → join-left-lts.Need-overflow-sub-below (join-left-claims t) (join-left-at t) join-left.Post
-join-left-sub-below t c = search join-cases
+join_left-sub_below : (t : ℕ) → join-left-lts.Need-overflow-sub-below (join_left-claims t) (join_left-at t) join-left.Post
+join_left-sub_below t c = search join-cases
 
-join-left-first-child-requires : (t : ℕ) → join-left-lts.Need-first-child-requires (join-left-claims t) (join-left-at t) join-left.Post
+join-left-first-child-requires : (t : ℕ) → join-left-lts.Need-first-child-requires (join_left-claims t) (join_left-at t) join-left.Post
 join-left-first-child-requires t c κs = search join-cases
 
-join-left-join-left-requires : (t : ℕ) → join-left-lts.Need-join-left-requires (join-left-claims t) (join-left-at t) join-left.Post
+join-left-join-left-requires : (t : ℕ) → join-left-lts.Need-join-left-requires (join_left-claims t) (join_left-at t) join-left.Post
 join-left-join-left-requires t c κs = (search join-cases, (search join-cases, (search join-cases, search join-cases)))
 
-join-left-attach-first-requires : (t : ℕ) → join-left-lts.Need-attach-first-requires (join-left-claims t) (join-left-at t) join-left.Post
+join-left-attach-first-requires : (t : ℕ) → join-left-lts.Need-attach-first-requires (join_left-claims t) (join_left-at t) join-left.Post
 join-left-attach-first-requires t c κs = (search join-cases, search join-cases)
 
-join-left-same-length : (t : ℕ) → join-left-lts.Need-same-length (join-left-claims t) (join-left-at t) join-left.Post
-join-left-same-length t c = search join-cases
+join_left-same-length : (t : ℕ) → join-left-lts.Need-same-length (join_left-claims t) (join_left-at t) join-left.Post
+join_left-same-length t c = search join-cases
 
-join-left-returns-2 : (t : ℕ) → join-left-lts.Need-returns-2 (join-left-claims t) (join-left-at t) join-left.Post
+join-left-returns-2 : (t : ℕ) → join-left-lts.Need-returns-2 (join_left-claims t) (join_left-at t) join-left.Post
 join-left-returns-2 t c = search join-cases
 
-pub +join-left-spec : {M : Type 1} → statement M
-+join-left-spec = close μ-join-left λ t. join-left-lts.spec (join-left-claims t)
-    (join-left-at t)
+pub +join_left_spec : {M : Type 1} → statement M
++join_left_spec = close μ-join-left λ t. join-left-lts.spec (join_left-claims t)
+    (join_left-at t)
     join-left.Post
     (join-left-returns t)
-    (join-left-sub-below t)
+    (join_left-sub_below t)
     (join-left-first-child-requires t)
     (join-left-join-left-requires t)
     (join-left-attach-first-requires t)
-    (join-left-same-length t)
+    (join_left-same-length t)
     (join-left-returns-2 t)

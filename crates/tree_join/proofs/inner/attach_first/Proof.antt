@@ -4,8 +4,8 @@ use Rattle.tree_join.proofs.AttachCases.{attach-cases}
 use Rattle.tree_join.proofs.inner.attach_first.Statement.{statement}
 use Rattle.tree_join.proofs.inner.attach_first.Tie as tie
 
-pub attach-first-spec : {M : Type 1} → statement M
-attach-first-spec =
+pub attach_first_spec : {M : Type 1} → statement M
+attach_first_spec =
     tie.close
     (tie.spec
     (λ c κs. search attach-cases)

@@ -30,8 +30,8 @@ group-requires-2 c κs =
     let asked = m9.requires.1 in
     (search needs, last-three-asks _ _ _ _ _ _ _ asked _ _ first-child-gives third-child-gives _ second-child-gives if1-left room)
 
-pub attach-last-spec : {M : Type 1} → statement M
-attach-last-spec =
+pub attach_last_spec : {M : Type 1} → statement M
+attach_last_spec =
     tie.close
     (tie.spec
     (λ c κs. search attach-cases)

@@ -4,8 +4,8 @@ use Rattle.tree_join.proofs.GroupCases.{group-cases}
 use Rattle.tree_join.proofs.inner.group.Statement.{statement}
 use Rattle.tree_join.proofs.inner.group.Tie as tie
 
-pub group-spec : {M : Type 1} → statement M
-group-spec =
+pub group_spec : {M : Type 1} → statement M
+group_spec =
     tie.close
     (tie.spec
     (λ c κs. search group-cases)

@@ -7,8 +7,8 @@ use Rattle.tree_lookup.proofs.inner.is_full.Tie as tie
 returns-2 : tie.Need-returns-2
 returns-2 c = search (full-far, needs)
 
-pub is-full-spec : {M : Type 1} → statement M
-is-full-spec =
+pub is_full_spec : {M : Type 1} → statement M
+is_full_spec =
     tie.close
     (tie.spec
     (λ c. search needs) (λ c κs. search needs)

@@ -4,8 +4,8 @@ use Rattle.tree_lookup.proofs.LookupCases.{found_inside, stored-zero, stored_oth
 use Rattle.tree_lookup.proofs.inner.is_stored.Statement.{statement}
 use Rattle.tree_lookup.proofs.inner.is_stored.Tie as tie
 
-pub is-stored-spec : {M : Type 1} → statement M
-is-stored-spec =
+pub is_stored_spec : {M : Type 1} → statement M
+is_stored_spec =
     tie.close
     (tie.spec
     (λ c κs. search needs)

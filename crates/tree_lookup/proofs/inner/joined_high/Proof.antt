@@ -4,7 +4,7 @@ use Rattle.tree_lookup.proofs.LookupCases.{found_inside, high_zero, high-it, hig
 use Rattle.tree_lookup.proofs.inner.joined_high.Statement.{statement}
 use Rattle.tree_lookup.proofs.inner.joined_high.Tie as tie
 
-pub joined-high-spec : {M : Type 1} → statement M
-joined-high-spec =
+pub joined_high_spec : {M : Type 1} → statement M
+joined_high_spec =
     tie.close
     (tie.spec (λ c. search needs) (λ c κs. search needs) (λ c. search (high_zero, needs)) (λ c κs. search (found_inside, needs)) (λ c. search (high-it, needs)) (λ c. search (high-own, needs)))

@@ -4,8 +4,8 @@ use Rattle.tree_lookup.proofs.LookupCases.{found_inside, low-zero, low-it, low-o
 use Rattle.tree_lookup.proofs.inner.joined_low.Statement.{statement}
 use Rattle.tree_lookup.proofs.inner.joined_low.Tie as tie
 
-pub joined-low-spec : {M : Type 1} → statement M
-joined-low-spec =
+pub joined_low_spec : {M : Type 1} → statement M
+joined_low_spec =
     tie.close
     (tie.spec
     (λ c. search needs) (λ c κs. search needs)

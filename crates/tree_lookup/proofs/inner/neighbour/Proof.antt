@@ -33,8 +33,8 @@ returns-4 c =
     let clear = m7.requires.1 in
     near-above _ tree _ _ _ least order reaching-gives if1-left _ high-at-gives if2-left _ low-at-gives clear if3-left
 
-pub neighbour-spec : {M : Type 1} → statement M
-neighbour-spec =
+pub neighbour_spec : {M : Type 1} → statement M
+neighbour_spec =
     tie.close
     (tie.spec
     (λ c. search needs) (λ c κs. search needs)

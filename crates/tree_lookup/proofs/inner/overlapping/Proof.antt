@@ -4,6 +4,6 @@ use Rattle.tree_lookup.proofs.LookupCases.{found_inside, over_zero, over-behind,
 use Rattle.tree_lookup.proofs.inner.overlapping.Statement.{statement}
 use Rattle.tree_lookup.proofs.inner.overlapping.Tie as tie
 
-pub overlapping-spec : {M : Type 1} → statement M
-overlapping-spec =
+pub overlapping_spec : {M : Type 1} → statement M
+overlapping_spec =
     tie.close (tie.spec (λ c κs. search needs) (λ c. search (over_zero, needs)) (λ c κs. search (found_inside, needs)) (λ c. search (over-behind, needs)) (λ c. search (over-here, needs)))

@@ -1,7 +1,7 @@
 -- `tree_lookup::inner::starting` meets its contract: no run begins below the root's least number; else the descent finds the last that does.
 use Rattle.model.proofs.Prelude.{needs}
 use Rattle.tree_lookup.proofs.LookupCases.{start-empty, start_under, start-ask, start-there}
-use Rattle.tree_lookup.proofs.RootLaws.{root-end, root-good, root-free}
+use Rattle.tree_lookup.proofs.RootLaws.{root_end, root_good, root_free}
 use Rattle.tree_lookup.proofs.inner.starting.Statement.{statement}
 use Rattle.tree_lookup.proofs.inner.starting.Tie as tie
 
@@ -17,16 +17,16 @@ last-starting-requires c κs =
     let m6 = m5.before in
     let word-gives = m6.word.ensures in
     let pre = m6.before.before.requires in
-    ((root-free _ pre _ word-gives if1-left _ word2-gives _ _ space-start-gives word3-gives, search (start-ask, needs)), search (root-good, needs))
+    ((root_free _ pre _ word-gives if1-left _ word2-gives _ _ space-start-gives word3-gives, search (start-ask, needs)), search (root_good, needs))
 
-pub starting-spec : {M : Type 1} → statement M
-starting-spec =
+pub starting_spec : {M : Type 1} → statement M
+starting_spec =
     tie.close
     (tie.spec
     (λ c κs. search needs)
     (λ c. search (start-empty, needs))
     (λ c κs. search needs)
-    (λ c κs. search (root-end, needs))
+    (λ c κs. search (root_end, needs))
     (λ c. search (start_under, needs))
     (λ c κs. search needs) (λ c κs. search needs) (λ c. search needs)
     last-starting-requires

@@ -3,11 +3,11 @@ use Rattle.model.proofs.Prelude.{ℕ, ◌<◌, needs}
 use borrow.Fn.Kinds.{In}
 use borrow.Fn.PlainCycle.{Measures, is, falls, and}
 use Rattle.tree_split.proofs.PartRoom.{ends-in, fits-eight, fits_one}
-use Rattle.tree_split.proofs.LeafPartCases.{upper-none, upper-kept}
+use Rattle.tree_split.proofs.LeafPartCases.{upper_none, upper_kept}
 use Rattle.tree_split.proofs.BelowCases.{node_in}
 use Rattle.tree_split.proofs.AboveCases.{last-in, input_last, last-gives, input-first, first-room, first-both, first_gives, second-in, input-second, second-room, second-both}
 use Rattle.tree_split.proofs.AboveCases.{second-gives, pair-room, pair-second, pair-last, pair-total, input-third, third-room, third-both, third-gives}
-use Rattle.tree_words.proofs.ChildLaws.{height-less, some-height}
+use Rattle.tree_words.proofs.ChildLaws.{height_less, some-height}
 use Rattle.tree_split.proofs.inner.+above.{statement}
 use Rattle.tree_split.proofs.inner.+above.Tie.{close}
 use Rattle.tree_split.proofs.inner.above.Reads as above
@@ -55,10 +55,10 @@ above-begun-requires : (t : ℕ) → above-lts.Need-begun-requires (above-claims
 above-begun-requires t c κs = (search (ends-in, needs), search needs)
 
 above-returns : (t : ℕ) → above-lts.Need-returns (above-claims t) (above_at t) above.Post
-above-returns t c = search (upper-none, needs)
+above-returns t c = search (upper_none, needs)
 
 above-returns-2 : (t : ℕ) → above-lts.Need-returns-2 (above-claims t) (above_at t) above.Post
-above-returns-2 t c = search (upper-kept, needs)
+above-returns-2 t c = search (upper_kept, needs)
 
 above-last-child-requires : (t : ℕ) → above-lts.Need-last-child-requires (above-claims t) (above_at t) above.Post
 above-last-child-requires t c κs = search (node_in, needs)
@@ -67,7 +67,7 @@ above-begun-requires-2 : (t : ℕ) → above-lts.Need-begun-requires-2 (above-cl
 above-begun-requires-2 t c κs = (search (last-in, needs), search needs)
 
 above-above-requires : (t : ℕ) → above-lts.Need-above-requires (above-claims t) (above_at t) above.Post
-above-above-requires t c κs = (search (height-less, needs), (search (input_last, needs), search needs))
+above-above-requires t c κs = (search (height_less, needs), (search (input_last, needs), search needs))
 
 above-returns-3 : (t : ℕ) → above-lts.Need-returns-3 (above-claims t) (above_at t) above.Post
 above-returns-3 t c = search (last-gives, needs)
@@ -84,7 +84,7 @@ above-above-requires-2 t c κs =
     let m4 = m1.before.before.before in
     let m7 = m4.before.before.before in
     let m11 = m7.before.before.before.before in (
-      search (height-less, needs),
+      search (height_less, needs),
       (
         input-first _ _ _ _ _ _ m11.before.before.requires.1.0 m11.if1.false _ m7.before.before.last-child.ensures _ m7.begun2.ensures
             m4.before.before.if3.false _ _ m4.first-child.ensures m1.before.third-child.ensures m1.if4.true,
@@ -138,7 +138,7 @@ above-above-requires-3 t c κs =
     let m11 = m7.before.before.before.before in
     let m14 = m11.before.before.before in
     let m16 = m14.before.before in (
-      search (height-less, needs),
+      search (height_less, needs),
       (
         input-second _ _ _ _ _ _ m16.before.before.requires.1.0 m16.if1.false _ m14.last-child.ensures _ m11.before.begun2.ensures m11.if3.false
             _ _ m7.before.before.first-child.ensures m7.third-child.ensures m4.before.before.if4.false _ m4.second-child.ensures,
@@ -195,8 +195,8 @@ above-put-two-requires t c κs =
       pair-total _ _ _ _ _ _ m16.before.before.requires.1.0 m16.if1.false _ m14.last-child.ensures _ m11.before.begun2.ensures m11.if3.false _ _ m7.before.before.first-child.ensures m7.third-child.ensures m4.before.before.if4.false _ m4.second-child.ensures _ m1.before.begun3.ensures m1.if5.false,
     )
 
-above-add-above : (t : ℕ) → above-lts.Need-overflow-add-above (above-claims t) (above_at t) above.Post
-above-add-above t c = search (fits-eight, needs)
+above-add_above : (t : ℕ) → above-lts.Need-overflow-add-above (above-claims t) (above_at t) above.Post
+above-add_above t c = search (fits-eight, needs)
 
 above-above-requires-4 : (t : ℕ) → above-lts.Need-above-requires-4 (above-claims t) (above_at t) above.Post
 above-above-requires-4 t c κs =
@@ -206,7 +206,7 @@ above-above-requires-4 t c κs =
     let m13 = m10.before.before.before in
     let m16 = m13.before.before.before in
     let m20 = m16.before.before.before.before in (
-      search (height-less, needs),
+      search (height_less, needs),
       (
         input-third _ _ _ _ _ _ m20.before.before.requires.1.0 m20.if1.false _ m16.before.before.last-child.ensures _ m16.begun2.ensures
             m13.before.before.if3.false _ _ m13.first-child.ensures m10.before.third-child.ensures m10.if4.false _ m6.before.before.second-child.ensures _
@@ -215,8 +215,8 @@ above-above-requires-4 t c κs =
       ),
     )
 
-above-add-join : (t : ℕ) → above-lts.Need-overflow-add-join (above-claims t) (above_at t) above.Post
-above-add-join t c =
+above-add_join : (t : ℕ) → above-lts.Need-overflow-add-join (above-claims t) (above_at t) above.Post
+above-add_join t c =
     let m12 = c.before.before.before.before.before.before.before.before.before.before.before.before in
     let whose = m12.before.before.before.before.before.before.before.before.before.before.before.before.before.before.requires.1.0 in
     fits_one _ _ _ _ _ 0 whose
@@ -252,8 +252,8 @@ above-returns-6 t c =
     m20.first-child.ensures m17.before.third-child.ensures m17.if4.false _ m13.before.before.second-child.ensures _ m13.begun3.ensures
     m10.before.before.if5.false _ m10.put_two.ensures _ _ m2.before.before.before.before.above4.ensures _ _ m2.join3.ensures
 
-pub +above-spec : {M : Type 1} → statement M
-+above-spec = close μ-above λ t. above-lts.spec (above-claims t)
+pub +above_spec : {M : Type 1} → statement M
++above_spec = close μ-above λ t. above-lts.spec (above-claims t)
     (above_at t)
     above.Post
     (above-begun-requires t)
@@ -282,10 +282,10 @@ pub +above-spec : {M : Type 1} → statement M
     (λ c. search needs)
     (above-returns-5 t)
     (above-put-two-requires t)
-    (above-add-above t)
+    (above-add_above t)
     (λ c. search (some-height, needs))
     (above-above-requires-4 t)
-    (above-add-join t)
+    (above-add_join t)
     (above-join-requires-3 t)
     (λ c. search needs)
     (above-returns-6 t)

@@ -6,7 +6,7 @@ use Rattle.tree_split.proofs.PartRoom.{ends-in, high_small, fits-eight, fits_one
 use Rattle.tree_split.proofs.LeafPartCases.{leaf-none, leaf-kept}
 use Rattle.tree_split.proofs.BelowCases.{node_in, first-in, first_small, input-first, first_gives, second-in, second-small, input-second, second-room, second-both, second-gives}
 use Rattle.tree_split.proofs.BelowCases.{pair-room, pair-first, pair-second, pair-total, input-third, third-room, third-both, third-gives}
-use Rattle.tree_words.proofs.ChildLaws.{height-less, some-height}
+use Rattle.tree_words.proofs.ChildLaws.{height_less, some-height}
 use Rattle.tree_split.proofs.inner.+below.{statement}
 use Rattle.tree_split.proofs.inner.+below.Tie.{close}
 use Rattle.tree_split.proofs.inner.below.Reads as below
@@ -71,11 +71,11 @@ below-first-child-requires t c κs = search (node_in, needs)
 below-reached-requires-2 : (t : ℕ) → below-lts.Need-reached-requires-2 (below-claims t) (below_at t) below.Post
 below-reached-requires-2 t c κs = (search (first-in, needs), search (first_small, needs))
 
-below-sub-below : (t : ℕ) → below-lts.Need-overflow-sub-below (below-claims t) (below_at t) below.Post
-below-sub-below t c = search (some-height, needs)
+below-sub_below : (t : ℕ) → below-lts.Need-overflow-sub-below (below-claims t) (below_at t) below.Post
+below-sub_below t c = search (some-height, needs)
 
 below-below-requires : (t : ℕ) → below-lts.Need-below-requires (below-claims t) (below_at t) below.Post
-below-below-requires t c κs = (search (height-less, needs), search (input-first, needs))
+below-below-requires t c κs = (search (height_less, needs), search (input-first, needs))
 
 below-same-length-3 : (t : ℕ) → below-lts.Need-same-length-3 (below-claims t) (below_at t) below.Post
 below-same-length-3 t c = search needs
@@ -103,8 +103,8 @@ below-in-second-requires t c κs =
           m8.first-child.ensures _ m6.reached2.ensures m5.if3.false _ _ m3.second-child.ensures m1.third-child.ensures,
     )
 
-below-sub-below-2 : (t : ℕ) → below-lts.Need-overflow-sub-below-2 (below-claims t) (below_at t) below.Post
-below-sub-below-2 t c = search (some-height, needs)
+below-sub_below-2 : (t : ℕ) → below-lts.Need-overflow-sub-below-2 (below-claims t) (below_at t) below.Post
+below-sub_below-2 t c = search (some-height, needs)
 
 below-below-requires-2 : (t : ℕ) → below-lts.Need-below-requires-2 (below-claims t) (below_at t) below.Post
 below-below-requires-2 t c κs =
@@ -114,7 +114,7 @@ below-below-requires-2 t c κs =
     let m9 = m8.before in
     let m11 = m9.before.before in
     let m13 = m11.before.before in (
-      search (height-less, needs),
+      search (height_less, needs),
       input-second _ _ _ _ _ _ m13.before.before.requires.1 m13.if1.false _ m11.first-child.ensures _
           m9.reached2.ensures m8.if3.false _ _ m6.second-child.ensures m4.third-child.ensures,
     )
@@ -179,11 +179,11 @@ below-put-two-requires t c κs =
       pair-total _ _ _ _ _ _ m13.before.before.requires.1 m13.if1.false _ m11.first-child.ensures _ m9.reached2.ensures m8.if3.false _ _ m6.second-child.ensures m4.third-child.ensures _ m2.in-second.ensures m1.if4.false,
     )
 
-below-add-below : (t : ℕ) → below-lts.Need-overflow-add-below (below-claims t) (below_at t) below.Post
-below-add-below t c = search (fits-eight, needs)
+below-add_below : (t : ℕ) → below-lts.Need-overflow-add-below (below-claims t) (below_at t) below.Post
+below-add_below t c = search (fits-eight, needs)
 
-below-sub-below-3 : (t : ℕ) → below-lts.Need-overflow-sub-below-3 (below-claims t) (below_at t) below.Post
-below-sub-below-3 t c = search (some-height, needs)
+below-sub_below-3 : (t : ℕ) → below-lts.Need-overflow-sub-below-3 (below-claims t) (below_at t) below.Post
+below-sub_below-3 t c = search (some-height, needs)
 
 below-below-requires-3 : (t : ℕ) → below-lts.Need-below-requires-3 (below-claims t) (below_at t) below.Post
 below-below-requires-3 t c κs =
@@ -196,14 +196,14 @@ below-below-requires-3 t c κs =
     let m13 = m12.before in
     let m15 = m13.before.before in
     let m17 = m15.before.before in (
-      search (height-less, needs),
+      search (height_less, needs),
       input-third _ _ _ _ _ _ m17.before.before.requires.1 m17.if1.false _ m15.first-child.ensures _
           m13.reached2.ensures m12.if3.false _ _ m10.second-child.ensures m8.third-child.ensures _ m6.in-second.ensures
           m5.if4.false _ m3.put_two.ensures,
     )
 
-below-add-join : (t : ℕ) → below-lts.Need-overflow-add-join (below-claims t) (below_at t) below.Post
-below-add-join t c = search (fits_one, needs)
+below-add_join : (t : ℕ) → below-lts.Need-overflow-add-join (below-claims t) (below_at t) below.Post
+below-add_join t c = search (fits_one, needs)
 
 below-join-requires-2 : (t : ℕ) → below-lts.Need-join-requires-2 (below-claims t) (below_at t) below.Post
 below-join-requires-2 t c κs =
@@ -245,8 +245,8 @@ below-returns-5 t c =
     _ _ m17.second-child.ensures m15.third-child.ensures _ m13.in-second.ensures m12.if4.false _ m10.put_two.ensures _ _
     m6.below3.ensures _ _ m2.join2.ensures
 
-pub +below-spec : {M : Type 1} → statement M
-+below-spec = close μ-below λ t. below-lts.spec (below-claims t)
+pub +below_spec : {M : Type 1} → statement M
++below_spec = close μ-below λ t. below-lts.spec (below-claims t)
     (below_at t)
     below.Post
     (below-reached-requires t)
@@ -256,23 +256,23 @@ pub +below-spec : {M : Type 1} → statement M
     (below-returns-2 t)
     (below-first-child-requires t)
     (below-reached-requires-2 t)
-    (below-sub-below t)
+    (below-sub_below t)
     (below-below-requires t)
     (below-same-length-3 t)
     (below-returns-3 t)
     (below-second-child-requires t)
     (below-third-child-requires t)
     (below-in-second-requires t)
-    (below-sub-below-2 t)
+    (below-sub_below-2 t)
     (below-below-requires-2 t)
     (below-join-requires t)
     (below-same-length-4 t)
     (below-returns-4 t)
     (below-put-two-requires t)
-    (below-add-below t)
-    (below-sub-below-3 t)
+    (below-add_below t)
+    (below-sub_below-3 t)
     (below-below-requires-3 t)
-    (below-add-join t)
+    (below-add_join t)
     (below-join-requires-2 t)
     (below-same-length-5 t)
     (below-returns-5 t)

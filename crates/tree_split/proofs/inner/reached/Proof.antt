@@ -6,6 +6,6 @@ use Rattle.tree_split.proofs.inner.reached.Tie as tie
 returns : tie.Need-returns
 returns c = search needs
 
-pub reached-spec : {M : Type 1} → statement M
-reached-spec =
+pub reached_spec : {M : Type 1} → statement M
+reached_spec =
     tie.close (tie.spec (λ c. search needs) (λ c. search needs) (λ c. search needs) (λ c. search needs) returns)

@@ -3,8 +3,8 @@ use Rattle.model.proofs.Prelude.{length-set, arith, needs}
 use Rattle.tree_words.proofs.inner.put_leaf.Statement.{statement}
 use Rattle.tree_words.proofs.inner.put_leaf.Tie as tie
 
-pub put-leaf-spec : {M : Type 1} → statement M
-put-leaf-spec =
+pub put_leaf_spec : {M : Type 1} → statement M
+put_leaf_spec =
     tie.close
     (tie.spec
     (λ c. search needs) (λ c. search needs) (λ c. search needs) (λ c. search needs)

@@ -6,8 +6,8 @@ use Rattle.tree_words.proofs.inner.put_two.Tie as tie
 returns : tie.Need-returns
 returns c = search needs
 
-pub put-two-spec : {M : Type 1} → statement M
-put-two-spec =
+pub put_two_spec : {M : Type 1} → statement M
+put_two_spec =
     tie.close
     (tie.spec
     (λ c. search needs) (λ c. search needs) (λ c. search needs) (λ c. search needs) (λ c. search needs)

@@ -7,8 +7,8 @@ use Rattle.viewer.proofs.answering.ask.Tie as tie
 returns-3 : tie.Need-returns-3
 returns-3 c = search ask-cases
 
-pub ask-spec : {M : Type 1} → statement M
-ask-spec =
+pub ask_spec : {M : Type 1} → statement M
+ask_spec =
     tie.close
     (tie.spec
     (λ c. search ask-cases)

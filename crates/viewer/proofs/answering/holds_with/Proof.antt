@@ -12,8 +12,8 @@ ask-requires c κs =
     let few = own-few _ _ _ _ start.requires.0 _ looks.look.ensures told.count.given.1 in
     ((search view-cases, omega (arith, few, looks.look.auto, start.requires), search view-cases), search view-cases)
 
-pub holds-with-spec : {M : Type 1} → statement M
-holds-with-spec =
+pub holds_with_spec : {M : Type 1} → statement M
+holds_with_spec =
     tie.close
     (tie.spec
     (λ c κs. search needs) (λ c. search needs) (λ c. search needs)

@@ -46,8 +46,8 @@ returns-4 c =
     made-rising.seen-runs.ensures.0 made-falling.seen-runs2.ensures.0 few-rising.if1.false few-falling.if2.false
     counted.tests-taken.ensures written.write_view.ensures
 
-pub runs-with-spec : {M : Type 1} → statement M
-runs-with-spec =
+pub runs_with_spec : {M : Type 1} → statement M
+runs_with_spec =
     tie.close
     (tie.spec
     (λ c κs. search needs) (λ c. search needs) (λ c. search needs)

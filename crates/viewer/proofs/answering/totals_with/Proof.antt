@@ -23,8 +23,8 @@ seen-size-requires-2 c κs =
 returns-2 : tie.Need-returns-2
 returns-2 c = search view-cases
 
-pub totals-with-spec : {M : Type 1} → statement M
-totals-with-spec =
+pub totals_with_spec : {M : Type 1} → statement M
+totals_with_spec =
     tie.close
     (tie.spec
     (λ c κs. search needs) (λ c. search needs) (λ c. search needs)

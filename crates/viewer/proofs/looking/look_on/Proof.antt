@@ -13,8 +13,8 @@ view-ranges-requires c κs = search look-cases
 returns-3 : tie.Need-returns-3
 returns-3 c = search look-cases
 
-pub look-on-spec : {M : Type 1} → statement M
-look-on-spec =
+pub look_on_spec : {M : Type 1} → statement M
+look_on_spec =
     tie.close
     (tie.spec
     (λ c κs. search look-cases)

@@ -10,8 +10,8 @@ invariant-loop line number₀ i₀ number i = NumberSoFar line number i
 abbrev decreases-loop : tie.decreases-loop
 decreases-loop line number₀ i₀ number i = length line - i
 
-pub place-in-spec : {M : Type 1} → statement M
-place-in-spec =
+pub place_in_spec : {M : Type 1} → statement M
+place_in_spec =
     tie.close
     (tie.spec
     invariant-loop

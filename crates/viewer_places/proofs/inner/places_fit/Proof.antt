@@ -13,8 +13,8 @@ decreases-loop places outputs i₀ least₀ i least = length places - i
 loop-again : tie.Need-loop-preserved invariant-loop decreases-loop
 loop-again c = search places-cases
 
-pub places-fit-spec : {M : Type 1} → statement M
-places-fit-spec =
+pub places_fit_spec : {M : Type 1} → statement M
+places_fit_spec =
     tie.close
     (tie.spec
     invariant-loop

@@ -10,8 +10,8 @@ append-requires c κs = search needs
 returns-2 : tie.Need-returns-2
 returns-2 c = search range-cases
 
-pub add-range-spec : {M : Type 1} → statement M
-add-range-spec =
+pub add_range_spec : {M : Type 1} → statement M
+add_range_spec =
     tie.close
     (tie.spec
     (λ c κs. search range-cases)

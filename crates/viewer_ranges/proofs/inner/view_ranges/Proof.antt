@@ -19,8 +19,8 @@ returns c = search view-cases
 loop-again : tie.Need-loop-preserved invariant-loop decreases-loop
 loop-again c = search view-cases
 
-pub view-ranges-spec : {M : Type 1} → statement M
-view-ranges-spec =
+pub view_ranges_spec : {M : Type 1} → statement M
+view_ranges_spec =
     tie.close
     (tie.spec
     invariant-loop

@@ -4,5 +4,5 @@ use Rattle.viewer_runs.proofs.SeenRunCases.{seen-cases}
 use Rattle.viewer_runs.proofs.inner.seen_runs.Statement.{statement}
 use Rattle.viewer_runs.proofs.inner.seen_runs.Tie as tie
 
-pub seen-runs-spec : {M : Type 1} → statement M
-seen-runs-spec = tie.close (tie.spec (λ c κs. search needs) (λ c κs. search seen-cases) (λ c. search needs) (λ c. search seen-cases))
+pub seen_runs_spec : {M : Type 1} → statement M
+seen_runs_spec = tie.close (tie.spec (λ c κs. search needs) (λ c κs. search seen-cases) (λ c. search needs) (λ c. search seen-cases))

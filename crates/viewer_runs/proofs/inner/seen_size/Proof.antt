@@ -4,5 +4,5 @@ use Rattle.viewer_runs.proofs.SeenRunCases.{seen-cases}
 use Rattle.viewer_runs.proofs.inner.seen_size.Statement.{statement}
 use Rattle.viewer_runs.proofs.inner.seen_size.Tie as tie
 
-pub seen-size-spec : {M : Type 1} → statement M
-seen-size-spec = tie.close (tie.spec (λ c κs. search needs) (λ c κs. search seen-cases) (λ c. search needs) (λ c. search seen-cases))
+pub seen_size_spec : {M : Type 1} → statement M
+seen_size_spec = tie.close (tie.spec (λ c κs. search needs) (λ c κs. search seen-cases) (λ c. search needs) (λ c. search seen-cases))

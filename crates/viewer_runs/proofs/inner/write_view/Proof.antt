@@ -1,6 +1,6 @@
 -- `viewer_runs::inner::write_view` meets its contract: zeros and the number of tests are a store without runs, then each edge's runs are written.
 use Rattle.model.proofs.Prelude.{ℕ, ◌∙◌, length-set, needs}
-use Rattle.model.specs.Store.{testsWord}
+use Rattle.model.specs.Store.{tests_word}
 use Rattle.viewer_runs.proofs.ViewWriteCases.{first-writable, second-writable, both-written}
 use Rattle.viewer_runs.proofs.inner.write_view.Statement.{statement}
 use Rattle.viewer_runs.proofs.inner.write_view.Tie as tie
@@ -24,7 +24,7 @@ same_length c =
     let first = second.before.before.before.before in
     let cleared = first.before.before.before.before in
     second.write-runs2.auto.1.1.1.0 ∙ first.write-runs.auto.1.1.1.0
-    ∙ length-set {A = ℕ} cleared.clear.new.0 testsWord _ ∙ cleared.clear.auto.0
+    ∙ length-set {A = ℕ} cleared.clear.new.0 tests_word _ ∙ cleared.clear.auto.0
 
 returns : tie.Need-returns
 returns c =
@@ -35,8 +35,8 @@ returns c =
     both-written start.args.view.now start.requires.1 cleared.clear.ensures _ _ _ start.requires.0.0 start.requires.0.1 first.write-runs.ensures _ _
     start.requires.0.2 start.requires.0.3 second.write-runs2.ensures
 
-pub write-view-spec : {M : Type 1} → statement M
-write-view-spec =
+pub write_view_spec : {M : Type 1} → statement M
+write_view_spec =
     tie.close
     (tie.spec
     (λ c κs. search needs) (λ c. search needs)

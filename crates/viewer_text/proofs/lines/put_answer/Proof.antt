@@ -1,6 +1,6 @@
 -- `viewer_text::lines::put_answer` meets its contract: nothing in a buffer that is too short, else the line of the refusal or those of the store.
 use Rattle.model.proofs.Prelude.{needs}
-use Rattle.viewer_text.specs.ViewText.{answerText}
+use Rattle.viewer_text.specs.ViewText.{answer_text}
 use Rattle.viewer_text.proofs.ShownViewCases.{none-shown, refusal-put, store-put}
 use Rattle.viewer_text.proofs.lines.put_answer.Statement.{statement}
 use Rattle.viewer_text.proofs.lines.put_answer.Tie as tie
@@ -8,7 +8,7 @@ use Rattle.viewer_text.proofs.lines.put_answer.Tie as tie
 returns : tie.Need-returns
 returns c =
     let a = c.before.before.before.args in
-    none-shown a.out.now (answerText a.answer a.second.now) c.if1.true
+    none-shown a.out.now (answer_text a.answer a.second.now) c.if1.true
 
 enum_told : tie.Need-enum-told
 enum_told c = search needs
@@ -35,8 +35,8 @@ returns-3 c =
     let a = room.before.before.before.args in
     store-put a.out.now p.new.0 a.second.now p.result a.answer room.if1.false told.enum_told.given.1 p.ensures
 
-pub put-answer-spec : {M : Type 1} → statement M
-put-answer-spec =
+pub put_answer_spec : {M : Type 1} → statement M
+put_answer_spec =
     tie.close
     (tie.spec
     returns

@@ -4,5 +4,5 @@ use Rattle.ask_text.proofs.AskedFaultCases.{fault-cases}
 use Rattle.ask_text.proofs.inner.answer_lines.is_fault.Statement.{statement}
 use Rattle.ask_text.proofs.inner.answer_lines.is_fault.Tie as tie
 
-pub is-fault-spec : {M : Type 1} → statement M
-is-fault-spec = tie.close (tie.spec (λ c. search fault-cases) (λ c. search needs) (λ c. search fault-cases))
+pub is_fault_spec : {M : Type 1} → statement M
+is_fault_spec = tie.close (tie.spec (λ c. search fault-cases) (λ c. search needs) (λ c. search fault-cases))

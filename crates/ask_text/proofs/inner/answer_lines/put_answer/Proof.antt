@@ -4,8 +4,8 @@ use Rattle.ask_text.proofs.AnswerLineCases.{line-cases}
 use Rattle.ask_text.proofs.inner.answer_lines.put_answer.Statement.{statement}
 use Rattle.ask_text.proofs.inner.answer_lines.put_answer.Tie as tie
 
-pub put-answer-spec : {M : Type 1} → statement M
-put-answer-spec =
+pub put_answer_spec : {M : Type 1} → statement M
+put_answer_spec =
     tie.close
     (tie.spec
     (λ c. search needs) (λ c κs. search needs) (λ c. search needs) (λ c κs. search needs) (λ c. search needs)

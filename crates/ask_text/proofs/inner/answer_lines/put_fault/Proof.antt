@@ -69,8 +69,8 @@ returns-3 c =
       omega (arith, at-most-20 a.fault, p2.ensures.1),
     )
 
-pub put-fault-spec : {M : Type 1} → statement M
-put-fault-spec =
+pub put_fault_spec : {M : Type 1} → statement M
+put_fault_spec =
     tie.close
     (tie.spec
     (λ c κs. search needs) (λ c κs. search needs) (λ c κs. search needs) (λ c. search needs) (λ c. search needs)

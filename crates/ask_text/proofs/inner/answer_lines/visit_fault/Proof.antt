@@ -7,8 +7,8 @@ use Rattle.ask_text.proofs.inner.answer_lines.visit_fault.Tie as tie
 returns-2 : tie.Need-returns-2
 returns-2 c = search fault-cases
 
-pub visit-fault-spec : {M : Type 1} → statement M
-visit-fault-spec =
+pub visit_fault_spec : {M : Type 1} → statement M
+visit_fault_spec =
     tie.close
     (tie.spec
     (λ c κs. search needs) (λ c κs. search needs) (λ c. search needs) (λ c κs. search needs) (λ c. search needs)

@@ -4,8 +4,8 @@ use Rattle.ask_text.proofs.LineNumberCases.{number-cases}
 use Rattle.ask_text.proofs.inner.numbers.byte_after.Statement.{statement}
 use Rattle.ask_text.proofs.inner.numbers.byte_after.Tie as tie
 
-pub byte-after-spec : {M : Type 1} → statement M
-byte-after-spec =
+pub byte_after_spec : {M : Type 1} → statement M
+byte_after_spec =
     tie.close
     (tie.spec
     (λ c. search number-cases)

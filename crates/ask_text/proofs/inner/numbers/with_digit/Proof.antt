@@ -4,5 +4,5 @@ use Rattle.ask_text.proofs.LineNumberCases.{number-cases}
 use Rattle.ask_text.proofs.inner.numbers.with_digit.Statement.{statement}
 use Rattle.ask_text.proofs.inner.numbers.with_digit.Tie as tie
 
-pub with-digit-spec : {M : Type 1} → statement M
-with-digit-spec = tie.close (tie.spec (λ c. search number-cases) (λ c. search needs) (λ c. search needs) (λ c. search number-cases) (λ c. search needs) (λ c. search number-cases))
+pub with_digit_spec : {M : Type 1} → statement M
+with_digit_spec = tie.close (tie.spec (λ c. search number-cases) (λ c. search needs) (λ c. search needs) (λ c. search number-cases) (λ c. search needs) (λ c. search number-cases))

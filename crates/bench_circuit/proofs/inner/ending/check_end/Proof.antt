@@ -4,8 +4,8 @@ use Rattle.bench_circuit.proofs.TextEndCases.{end-room, end-outs, end-unknown, e
 use Rattle.bench_circuit.proofs.inner.ending.check_end.Statement.{statement}
 use Rattle.bench_circuit.proofs.inner.ending.check_end.Tie as tie
 
-pub check-end-spec : {M : Type 1} → statement M
-check-end-spec =
+pub check_end_spec : {M : Type 1} → statement M
+check_end_spec =
     tie.close
     (tie.spec
     (λ c κs. search (end-room, end-outs, needs))

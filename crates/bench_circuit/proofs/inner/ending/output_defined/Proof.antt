@@ -4,8 +4,8 @@ use Rattle.bench_circuit.proofs.EndLaws.{told-blank, told-other, told-input, tol
 use Rattle.bench_circuit.proofs.inner.ending.output_defined.Statement.{statement}
 use Rattle.bench_circuit.proofs.inner.ending.output_defined.Tie as tie
 
-pub output-defined-spec : {M : Type 1} → statement M
-output-defined-spec =
+pub output_defined_spec : {M : Type 1} → statement M
+output_defined_spec =
     tie.close
     (tie.spec
     (λ c κs. search needs) (λ c. search needs) (λ c. search needs) (λ c. search needs) (λ c. search needs)

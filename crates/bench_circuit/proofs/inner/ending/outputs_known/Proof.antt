@@ -1,13 +1,13 @@
 -- `bench_circuit::inner::ending::outputs_known` meets its contract: the outputs that are left decide.
 use Rattle.model.proofs.Prelude.{◌≤◌, ◌+◌, ◌*◌, ◌≡◌, length, needs}
-use Rattle.bench_circuit.specs.Ending.{pairsKnown}
+use Rattle.bench_circuit.specs.Ending.{pairs_known}
 use Rattle.bench_circuit.proofs.EndLaws.{outs-again, outs-stop, outs-end}
 use Rattle.bench_circuit.proofs.inner.ending.outputs_known.Statement.{statement}
 use Rattle.bench_circuit.proofs.inner.ending.outputs_known.Tie as tie
 
 abbrev invariant-loop : tie.invariant-loop
 invariant-loop inputs input-count gates gate-count outputs output-count nets left₀ at₀ left at =
-    let known = pairsKnown inputs input-count gates gate-count outputs in
+    let known = pairs_known inputs input-count gates gate-count outputs in
     (at + 2 * left ≤ length outputs) × (known left at ≡ known output-count 0)
 
 abbrev decreases-loop : tie.decreases-loop
@@ -24,8 +24,8 @@ loop-again c =
       step l.left l.at net.result _ test.loop-test.true net.ensures l.invariant.1 c.if1.false,
     )
 
-pub outputs-known-spec : {M : Type 1} → statement M
-outputs-known-spec =
+pub outputs_known_spec : {M : Type 1} → statement M
+outputs_known_spec =
     tie.close
     (tie.spec
     invariant-loop

@@ -1,6 +1,6 @@
 -- `bench_circuit::inner::ending::undefined_line` meets its contract: the lines that are left give the first line.
 use Rattle.model.proofs.Prelude.{◌≤◌, ◌-◌, length, needs, not-true, not-false}
-use Rattle.bench_circuit.proofs.EndLaws.{UndefinedLeft, undefined-start, undefined-none, undefined-found, undefined-again}
+use Rattle.bench_circuit.proofs.EndLaws.{UndefinedLeft, undefined_start, undefined_none, undefined_found, undefined_again}
 use Rattle.bench_lines.proofs.TextLineLaws.{line_low, line-stop-in, line-less, line-counted}
 use Rattle.bench_circuit.proofs.inner.ending.undefined_line.Statement.{statement}
 use Rattle.bench_circuit.proofs.inner.ending.undefined_line.Tie as tie
@@ -12,20 +12,20 @@ invariant-loop text inputs input-count gates gate-count before₀ at₀ before a
 abbrev decreases-loop : tie.decreases-loop
 decreases-loop text inputs input-count gates gate-count before₀ at₀ before at = length text - at
 
-pub undefined-line-spec : {M : Type 1} → statement M
-undefined-line-spec =
+pub undefined_line_spec : {M : Type 1} → statement M
+undefined_line_spec =
     tie.close
     (tie.spec
     invariant-loop
     decreases-loop
-    (λ c. (search (undefined-start, needs), search needs))
+    (λ c. (search (undefined_start, needs), search needs))
     (λ c κs. search needs)
     (λ c. search (line_low, needs))
     (λ c. search (line_low, line-stop-in, needs))
     (λ c. search (line_low, line-stop-in, needs))
     (λ c κs. search needs) (λ c. search needs)
-    (λ c. search (undefined-found, not-true, needs))
+    (λ c. search (undefined_found, not-true, needs))
     (λ c. search needs)
     (λ c. search (line-less, needs))
-    (λ c. (search (undefined-again, not-false, needs), search (line-counted, needs)))
-    (λ c. search (undefined-none, needs)))
+    (λ c. (search (undefined_again, not-false, needs), search (line-counted, needs)))
+    (λ c. search (undefined_none, needs)))

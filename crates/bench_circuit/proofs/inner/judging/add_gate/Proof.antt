@@ -4,8 +4,8 @@ use Rattle.bench_circuit.proofs.JudgeCases.{gate-defined, gate-unknown, gate-man
 use Rattle.bench_circuit.proofs.inner.judging.add_gate.Statement.{statement}
 use Rattle.bench_circuit.proofs.inner.judging.add_gate.Tie as tie
 
-pub add-gate-spec : {M : Type 1} → statement M
-add-gate-spec =
+pub add_gate_spec : {M : Type 1} → statement M
+add_gate_spec =
     tie.close
     (tie.spec
     (λ c κs. search needs) (λ c. search needs) (λ c. search needs)

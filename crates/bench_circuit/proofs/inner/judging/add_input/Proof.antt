@@ -4,8 +4,8 @@ use Rattle.bench_circuit.proofs.JudgeCases.{input-known, input-many, input-nets,
 use Rattle.bench_circuit.proofs.inner.judging.add_input.Statement.{statement}
 use Rattle.bench_circuit.proofs.inner.judging.add_input.Tie as tie
 
-pub add-input-spec : {M : Type 1} → statement M
-add-input-spec =
+pub add_input_spec : {M : Type 1} → statement M
+add_input_spec =
     tie.close
     (tie.spec
     (λ c κs. search needs) (λ c. search needs) (λ c. search needs)

@@ -4,8 +4,8 @@ use Rattle.bench_circuit.proofs.JudgeCases.{output-known, output-many, output-ad
 use Rattle.bench_circuit.proofs.inner.judging.add_output.Statement.{statement}
 use Rattle.bench_circuit.proofs.inner.judging.add_output.Tie as tie
 
-pub add-output-spec : {M : Type 1} → statement M
-add-output-spec =
+pub add_output_spec : {M : Type 1} → statement M
+add_output_spec =
     tie.close
     (tie.spec
     (λ c κs. search needs) (λ c κs. search needs) (λ c. search needs)

@@ -6,8 +6,8 @@ use Rattle.bench_circuit.proofs.inner.judging.judge_line.Tie as tie
 
 ruleset line-cases = (line-blank, line_other, line-input, line-output, line-gate, needs)
 
-pub judge-line-spec : {M : Type 1} → statement M
-judge-line-spec =
+pub judge_line_spec : {M : Type 1} → statement M
+judge_line_spec =
     tie.close
     (tie.spec
     (λ c κs. search needs) (λ c. search needs) (λ c. search needs) (λ c. search needs)

@@ -12,8 +12,8 @@ invariant-loop text inputs₀ gates₀ outputs₀ counts₀ before₀ at₀ inpu
 abbrev decreases-loop : tie.decreases-loop
 decreases-loop text inputs₀ gates₀ outputs₀ counts₀ before₀ at₀ inputs gates outputs counts before at = length text - at
 
-pub judge-text-spec : {M : Type 1} → statement M
-judge-text-spec =
+pub judge_text_spec : {M : Type 1} → statement M
+judge_text_spec =
     tie.close
     (tie.spec
     invariant-loop

@@ -16,8 +16,8 @@ add-value c = search (value-plus, needs)
 loop-again : tie.Need-loop-preserved invariant-loop decreases-loop
 loop-again c = search (value-more, needs)
 
-pub bytes-value-spec : {M : Type 1} → statement M
-bytes-value-spec =
+pub bytes_value_spec : {M : Type 1} → statement M
+bytes_value_spec =
     tie.close
     (tie.spec
     invariant-loop

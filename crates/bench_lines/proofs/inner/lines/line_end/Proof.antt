@@ -16,8 +16,8 @@ returns c = search (line-ends, needs)
 loop-again : tie.Need-loop-preserved invariant-loop decreases-loop
 loop-again c = search (line-more, needs)
 
-pub line-end-spec : {M : Type 1} → statement M
-line-end-spec =
+pub line_end_spec : {M : Type 1} → statement M
+line_end_spec =
     tie.close
     (tie.spec
     invariant-loop

@@ -4,8 +4,8 @@ use Rattle.bench_lines.proofs.TextLineLaws.{line-to-end, line-empty, line-return
 use Rattle.bench_lines.proofs.inner.lines.next_line.Statement.{statement}
 use Rattle.bench_lines.proofs.inner.lines.next_line.Tie as tie
 
-pub next-line-spec : {M : Type 1} → statement M
-next-line-spec =
+pub next_line_spec : {M : Type 1} → statement M
+next_line_spec =
     tie.close
     (tie.spec
     (λ c κs. search needs)

@@ -5,8 +5,8 @@ use Rattle.bench_lines.proofs.StateCases.{gate-cut, gate-names, gate-bad, gate-n
 use Rattle.bench_lines.proofs.inner.statements.gate_kind.Statement.{statement}
 use Rattle.bench_lines.proofs.inner.statements.gate_kind.Tie as tie
 
-pub gate-kind-spec : {M : Type 1} → statement M
-gate-kind-spec =
+pub gate_kind_spec : {M : Type 1} → statement M
+gate_kind_spec =
     tie.close
     (tie.spec
     (λ c κs. search needs) (λ c. search needs) (λ c. search needs) (λ c. search needs)

@@ -4,5 +4,5 @@ use Rattle.bench_lines.proofs.StatementLaws.{kind-is}
 use Rattle.bench_lines.proofs.inner.statements.kind_place.Statement.{statement}
 use Rattle.bench_lines.proofs.inner.statements.kind_place.Tie as tie
 
-pub kind-place-spec : {M : Type 1} → statement M
-kind-place-spec = tie.close (tie.spec (λ c κs. search needs) (λ c. search needs) (λ c κs. search needs) (λ c. search (kind-is, needs)))
+pub kind_place_spec : {M : Type 1} → statement M
+kind_place_spec = tie.close (tie.spec (λ c κs. search needs) (λ c. search needs) (λ c κs. search needs) (λ c. search (kind-is, needs)))

@@ -4,8 +4,8 @@ use Rattle.bench_lines.proofs.StatementLaws.{pin-cut, pin-names, pin-comma, pin-
 use Rattle.bench_lines.proofs.inner.statements.pin_sign.Statement.{statement}
 use Rattle.bench_lines.proofs.inner.statements.pin_sign.Tie as tie
 
-pub pin-sign-spec : {M : Type 1} → statement M
-pin-sign-spec =
+pub pin_sign_spec : {M : Type 1} → statement M
+pin_sign_spec =
     tie.close
     (tie.spec
     (λ c κs. search needs) (λ c. search needs) (λ c. search needs) (λ c. search needs)

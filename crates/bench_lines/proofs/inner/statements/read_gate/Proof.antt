@@ -5,8 +5,8 @@ use Rattle.bench_lines.proofs.StateCases.{gate-end, gate-sign, gate-named}
 use Rattle.bench_lines.proofs.inner.statements.read_gate.Statement.{statement}
 use Rattle.bench_lines.proofs.inner.statements.read_gate.Tie as tie
 
-pub read-gate-spec : {M : Type 1} → statement M
-read-gate-spec =
+pub read_gate_spec : {M : Type 1} → statement M
+read_gate_spec =
     tie.close
     (tie.spec
     (λ c κs. search needs) (λ c. search needs) (λ c. search needs) (λ c. search needs)

@@ -5,8 +5,8 @@ use Rattle.bench_lines.proofs.StateCases.{named-cut, named-names, named-io, name
 use Rattle.bench_lines.proofs.inner.statements.read_named.Statement.{statement}
 use Rattle.bench_lines.proofs.inner.statements.read_named.Tie as tie
 
-pub read-named-spec : {M : Type 1} → statement M
-read-named-spec =
+pub read_named_spec : {M : Type 1} → statement M
+read_named_spec =
     tie.close
     (tie.spec
     (λ c κs. search needs) (λ c. search needs) (λ c. search needs) (λ c. search needs)

@@ -4,8 +4,8 @@ use Rattle.bench_lines.proofs.StatementLaws.{no-pin-end, no-pin-sign, pin-named,
 use Rattle.bench_lines.proofs.inner.statements.read_pin.Statement.{statement}
 use Rattle.bench_lines.proofs.inner.statements.read_pin.Tie as tie
 
-pub read-pin-spec : {M : Type 1} → statement M
-read-pin-spec =
+pub read_pin_spec : {M : Type 1} → statement M
+read_pin_spec =
     tie.close
     (tie.spec
     (λ c κs. search needs) (λ c. search needs) (λ c. search needs) (λ c. search needs)

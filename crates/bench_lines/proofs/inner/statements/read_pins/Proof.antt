@@ -10,8 +10,8 @@ invariant-loop line from to kind at place₀ pins₀ more₀ place pins more = P
 abbrev decreases-loop : tie.decreases-loop
 decreases-loop line from to kind at place₀ pins₀ more₀ place pins more = length line - place
 
-pub read-pins-spec : {M : Type 1} → statement M
-read-pins-spec =
+pub read_pins_spec : {M : Type 1} → statement M
+read_pins_spec =
     tie.close
     (tie.spec
     invariant-loop

@@ -5,8 +5,8 @@ use Rattle.bench_lines.proofs.StateCases.{line-blank, line-comment, line-sign, l
 use Rattle.bench_lines.proofs.inner.statements.read_statement.Statement.{statement}
 use Rattle.bench_lines.proofs.inner.statements.read_statement.Tie as tie
 
-pub read-statement-spec : {M : Type 1} → statement M
-read-statement-spec =
+pub read_statement_spec : {M : Type 1} → statement M
+read_statement_spec =
     tie.close
     (tie.spec
     (λ c κs. search needs) (λ c. search needs) (λ c. search needs)

@@ -10,8 +10,8 @@ invariant-loop line at i₀ i = WordSoFar line at i
 abbrev decreases-loop : tie.decreases-loop
 decreases-loop line at i₀ i = length line - i
 
-pub word-end-spec : {M : Type 1} → statement M
-word-end-spec =
+pub word_end_spec : {M : Type 1} → statement M
+word_end_spec =
     tie.close
     (tie.spec
     invariant-loop

@@ -9,8 +9,8 @@ returns-2 c =
     let begin = c.before.before in
     driven-word begin.args.words.now _ _ _ begin.requires.0 c.before.if1.false
 
-pub gate-word-spec : {M : Type 1} → statement M
-gate-word-spec =
+pub gate_word_spec : {M : Type 1} → statement M
+gate_word_spec =
     tie.close
     (tie.spec
     (λ c. input-word c.before.args.words.now _ _ _ c.if1.true)

@@ -41,8 +41,8 @@ returns c =
     let args = begin.args in
     outputs-end args.offsets.now _ _ (plane args.edge args.words.now) c.loop-test.false c.before.loop.invariant
 
-pub live-outputs-spec : {M : Type 1} → statement M
-live-outputs-spec =
+pub live_outputs_spec : {M : Type 1} → statement M
+live_outputs_spec =
     tie.close
     (tie.spec
     invariant-loop

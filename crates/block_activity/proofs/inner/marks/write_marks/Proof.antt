@@ -1,7 +1,7 @@
 -- `block_activity::inner::marks::write_marks` meets its contract. The loop's invariant: the marks of the records before t are written, and no other place is.
 use Rattle.model.proofs.Prelude.{◌≤◌, ◌-◌, arith, needs}
 use Rattle.block_activity.specs.EdgeMarks.{EdgeWritten}
-use Rattle.block_activity.proofs.MarkWriteCases.{write-start, write_step, write-end}
+use Rattle.block_activity.proofs.MarkWriteCases.{write_start, write_step, write_end}
 use Rattle.block_activity.proofs.inner.marks.write_marks.Statement.{statement}
 use Rattle.block_activity.proofs.inner.marks.write_marks.Tie as tie
 
@@ -25,13 +25,13 @@ loop-again c =
       write_step _ _ _ _ begin.args.records _ test.before.loop.invariant.1 begin.requires.2 begin.requires.1 begin.requires.0 test.loop-test.true,
     )
 
-pub write-marks-spec : {M : Type 1} → statement M
-write-marks-spec =
+pub write_marks_spec : {M : Type 1} → statement M
+write_marks_spec =
     tie.close
     (tie.spec
     invariant-loop
     decreases-loop
-    (λ c. (omega arith, write-start _ _ _ _ c.args.records _))
+    (λ c. (omega arith, write_start _ _ _ _ c.args.records _))
     (λ c. search needs) (λ c. search needs) (λ c. search needs) (λ c. search needs) (λ c. search needs)
     (λ c. search needs) (λ c. search needs) (λ c. search needs) (λ c. search needs) (λ c. search needs)
     (λ c. search needs) (λ c. search needs) (λ c. search needs) (λ c. search needs) (λ c. search needs)
@@ -40,4 +40,4 @@ write-marks-spec =
     (λ c. search needs) (λ c. search needs) (λ c. search needs) (λ c. search needs) (λ c. search needs)
     (λ c. omega (arith, c.before.before.before.before.loop-test.true))
     loop-again
-    (λ c. write-end c.before.loop.invariant.0 c.loop-test.false c.before.loop.invariant.1))
+    (λ c. write_end c.before.loop.invariant.0 c.loop-test.false c.before.loop.invariant.1))

@@ -10,7 +10,7 @@ invariant-loop counts table low high offsets₀ net₀ offsets net = GatesDone c
 abbrev decreases-loop : tie.decreases-loop
 decreases-loop counts table low high offsets₀ net₀ offsets net = high - net
 
-pub gate-offsets-spec : {M : Type 1} → statement M
-gate-offsets-spec =
+pub gate_offsets_spec : {M : Type 1} → statement M
+gate_offsets_spec =
     tie.close
     (tie.spec invariant-loop decreases-loop (λ c. search needs) (λ c κs. search gate-offsets-cases) (λ c. search needs) (λ c. search needs) (λ c. search gate-offsets-cases) (λ c. search gate-offsets-cases))

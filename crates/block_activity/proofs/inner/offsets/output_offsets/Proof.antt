@@ -11,8 +11,8 @@ invariant-loop part inputs outputs counts offsets₀ offset₀ o₀ offsets offs
 abbrev decreases-loop : tie.decreases-loop
 decreases-loop part inputs outputs counts offsets₀ offset₀ o₀ offsets offset o = outputs - o
 
-pub output-offsets-spec : {M : Type 1} → statement M
-output-offsets-spec =
+pub output_offsets_spec : {M : Type 1} → statement M
+output_offsets_spec =
     tie.close
     (tie.spec
     invariant-loop

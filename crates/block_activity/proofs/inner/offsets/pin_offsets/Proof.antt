@@ -10,8 +10,8 @@ invariant-loop counts table net offsets₀ pins offset₀ p₀ offsets offset p 
 abbrev decreases-loop : tie.decreases-loop
 decreases-loop counts table net offsets₀ pins offset₀ p₀ offsets offset p = pins - p
 
-pub pin-offsets-spec : {M : Type 1} → statement M
-pin-offsets-spec =
+pub pin_offsets_spec : {M : Type 1} → statement M
+pin_offsets_spec =
     tie.close
     (tie.spec
     invariant-loop

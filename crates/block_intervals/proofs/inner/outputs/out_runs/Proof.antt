@@ -12,8 +12,8 @@ decreases-loop offsets outs spans words₀ left₀ count₀ words left count = l
 append-shifted-requires : tie.Need-append-shifted-requires invariant-loop decreases-loop
 append-shifted-requires c κs = (search output-cases, ((search output-cases, search output-cases, search output-cases), search output-cases))
 
-pub out-runs-spec : {M : Type 1} → statement M
-out-runs-spec =
+pub out_runs_spec : {M : Type 1} → statement M
+out_runs_spec =
     tie.close
     (tie.spec
     invariant-loop

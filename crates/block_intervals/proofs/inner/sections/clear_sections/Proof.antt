@@ -10,8 +10,8 @@ invariant-loop spans₀ o₀ spans o = Cleared spans o
 abbrev decreases-loop : tie.decreases-loop
 decreases-loop spans₀ o₀ spans o = 132 - o
 
-pub clear-sections-spec : {M : Type 1} → statement M
-clear-sections-spec =
+pub clear_sections_spec : {M : Type 1} → statement M
+clear_sections_spec =
     tie.close
     (tie.spec
     invariant-loop

@@ -11,8 +11,8 @@ invariant-loop offsets outputs held spans₀ base at₀ output₀ spans at outpu
 abbrev decreases-loop : tie.decreases-loop
 decreases-loop offsets outputs held spans₀ base at₀ output₀ spans at output = 64 - output
 
-pub find-sections-spec : {M : Type 1} → statement M
-find-sections-spec =
+pub find_sections_spec : {M : Type 1} → statement M
+find_sections_spec =
     tie.close
     (tie.spec
     invariant-loop

@@ -12,8 +12,8 @@ span-inside-requires c κs =
     let room = start.requires.1.1 in
     ((ready.ordered, omega (arith, ready.before, room), ready.small, section.ordered, section.within), ready.sound)
 
-pub output-inside-spec : {M : Type 1} → statement M
-output-inside-spec =
+pub output_inside_spec : {M : Type 1} → statement M
+output_inside_spec =
     tie.close
     (tie.spec
     (λ c. search needs) (λ c. search needs) (λ c. search needs) (λ c. search needs) (λ c. search needs)

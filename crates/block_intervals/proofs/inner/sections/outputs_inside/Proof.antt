@@ -9,8 +9,8 @@ invariant-loop offsets outs spans base words held left₀ left = HeldSoFar offse
 abbrev decreases-loop : tie.decreases-loop
 decreases-loop offsets outs spans base words held left₀ left = left
 
-pub outputs-inside-spec : {M : Type 1} → statement M
-outputs-inside-spec =
+pub outputs_inside_spec : {M : Type 1} → statement M
+outputs_inside_spec =
     tie.close
     (tie.spec
     invariant-loop

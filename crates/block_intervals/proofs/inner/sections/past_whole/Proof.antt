@@ -16,8 +16,8 @@ returns-7 c =
     asked-rest start.args.whole (count_trailing_zeros 64 ((2 ^ 64 - 1) - start.args.whole)) start.well-formed.1.0.1 start.well-formed.1.1.0.1 at-whole.if2.false at-live.if3.false
     some-held from_one reached
 
-pub past-whole-spec : {M : Type 1} → statement M
-past-whole-spec =
+pub past_whole_spec : {M : Type 1} → statement M
+past_whole_spec =
     tie.close
     (tie.spec
     (λ c. search asked-cases)

@@ -6,8 +6,8 @@ use Rattle.block_intervals.proofs.inner.sections.run_inside.Tie as tie
 returns-3 : tie.Need-returns-3
 returns-3 c = search run-cases
 
-pub run-inside-spec : {M : Type 1} → statement M
-run-inside-spec =
+pub run_inside_spec : {M : Type 1} → statement M
+run_inside_spec =
     tie.close
     (tie.spec
     (λ c κs. search run-cases)

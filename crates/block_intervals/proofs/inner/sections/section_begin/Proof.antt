@@ -9,8 +9,8 @@ invariant-loop offsets outputs output held before count low at₀ at = (before �
 abbrev decreases-loop : tie.decreases-loop
 decreases-loop offsets outputs output held before count low at₀ at = count - at
 
-pub section-begin-spec : {M : Type 1} → statement M
-section-begin-spec =
+pub section_begin_spec : {M : Type 1} → statement M
+section_begin_spec =
     tie.close
     (tie.spec
     invariant-loop

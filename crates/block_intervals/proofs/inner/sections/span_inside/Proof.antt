@@ -10,8 +10,8 @@ invariant-loop words from to shift held begin end i₀ i = SpanWalk words from t
 abbrev decreases-loop : tie.decreases-loop
 decreases-loop words from to shift held begin end i₀ i = to - i
 
-pub span-inside-spec : {M : Type 1} → statement M
-span-inside-spec =
+pub span_inside_spec : {M : Type 1} → statement M
+span_inside_spec =
     tie.close
     (tie.spec
     invariant-loop

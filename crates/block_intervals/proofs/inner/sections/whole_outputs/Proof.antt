@@ -9,8 +9,8 @@ invariant-loop offsets outputs held high whole₀ output₀ whole output = (1 �
 abbrev decreases-loop : tie.decreases-loop
 decreases-loop offsets outputs held high whole₀ output₀ whole output = 64 - output
 
-pub whole-outputs-spec : {M : Type 1} → statement M
-whole-outputs-spec =
+pub whole_outputs_spec : {M : Type 1} → statement M
+whole_outputs_spec =
     tie.close
     (tie.spec
     invariant-loop

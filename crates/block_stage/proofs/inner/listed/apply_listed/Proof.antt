@@ -29,8 +29,8 @@ returns c =
       listed-written covers.auto.1.1.1.1.1.1.1.0 covers.ensures.1 at-writes.write-both.ensures,
     )
 
-pub apply-listed-spec : {M : Type 1} → statement M
-apply-listed-spec =
+pub apply_listed_spec : {M : Type 1} → statement M
+apply_listed_spec =
     tie.close
     (tie.spec
     (λ c κs. search needs)

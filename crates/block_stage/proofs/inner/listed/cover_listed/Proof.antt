@@ -29,8 +29,8 @@ returns c =
       both-listed held covers.auto.1.1.1.1.1.1.0 covers.ensures.1 at-held2.edge-runs2.ensures covers.ensures.0 covers2.1 c.join-answers.ensures,
     )
 
-pub cover-listed-spec : {M : Type 1} → statement M
-cover-listed-spec =
+pub cover_listed_spec : {M : Type 1} → statement M
+cover_listed_spec =
     tie.close
     (tie.spec
     (λ c κs. search (some-few, needs))

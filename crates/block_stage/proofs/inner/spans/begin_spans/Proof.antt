@@ -10,8 +10,8 @@ returns c =
     let few = inputs.before.before.before.requires.0 in
     c.find-sections2.ensures.1 _ few (rising.find-sections.ensures.1 _ few inputs.input-spans.ensures)
 
-pub begin-spans-spec : {M : Type 1} → statement M
-begin-spans-spec =
+pub begin_spans_spec : {M : Type 1} → statement M
+begin_spans_spec =
     tie.close
     (tie.spec
     (λ c κs. search needs) (λ c κs. search needs)

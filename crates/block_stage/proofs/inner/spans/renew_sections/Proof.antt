@@ -6,8 +6,8 @@ use Rattle.block_stage.proofs.inner.spans.renew_sections.Tie as tie
 returns : tie.Need-returns
 returns c = let rising = c.before.before.before in λ inputs few i. c.renew-edge2.ensures.1 inputs few (rising.renew-edge.ensures.1 inputs few i)
 
-pub renew-sections-spec : {M : Type 1} → statement M
-renew-sections-spec =
+pub renew_sections_spec : {M : Type 1} → statement M
+renew_sections_spec =
     tie.close
     (tie.spec
     (λ c. search needs) (λ c κs. search needs)

@@ -2,7 +2,7 @@
 use Rattle.model.proofs.Prelude.{◌∙◌, ap, ◌&&◌, ◌||◌}
 use lib.Bits.{bit_and, bit_xor}
 use Rattle.model.specs.Base.{bit}
-use Rattle.record_bytes.proofs.BitLaws.{and-bit, or-bit, xor-bit}
+use Rattle.record_bytes.proofs.BitLaws.{and_bit, or_bit, xor_bit}
 use Rattle.block_words.proofs.inner.gates.add_pin.Statement.{statement}
 use Rattle.block_words.proofs.inner.gates.add_pin.Tie as tie
 
@@ -15,11 +15,11 @@ returns c =
     let value = args.value in
     let controlling = bit_xor mask value in
     record {
-      ones = λ t. or-bit one controlling t ∙ ap (λ b. bit one t || b) (xor-bit mask value t);
-      twos = λ t. or-bit two (bit_and one controlling) t
-          ∙ ap (λ b. bit two t || b) (and-bit one controlling t ∙ ap (λ b. bit one t && b) (xor-bit mask value t));
-      parities = λ t. xor-bit args.tally.parity value t;
+      ones = λ t. or_bit one controlling t ∙ ap (λ b. bit one t || b) (xor_bit mask value t);
+      twos = λ t. or_bit two (bit_and one controlling) t
+          ∙ ap (λ b. bit two t || b) (and_bit one controlling t ∙ ap (λ b. bit one t && b) (xor_bit mask value t));
+      parities = λ t. xor_bit args.tally.parity value t;
     }
 
-pub add-pin-spec : {M : Type 1} → statement M
-add-pin-spec = tie.close (tie.spec returns)
+pub add_pin_spec : {M : Type 1} → statement M
+add_pin_spec = tie.close (tie.spec returns)

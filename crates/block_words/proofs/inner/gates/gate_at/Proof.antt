@@ -4,10 +4,10 @@ use Rattle.block_words.proofs.inner.gates.gate_at.Statement.{statement}
 use Rattle.block_words.proofs.inner.gates.gate_at.Tie as tie
 
 returns : tie.Need-returns
-returns c = record { kindIs = refl; pinsAre = c.before.wide_word.ensures.0; firstIs = refl; maskIs = c.mask-of-kind.ensures }
+returns c = record { kind_is = refl; pins_are = c.before.wide_word.ensures.0; first_is = refl; mask_is = c.mask-of-kind.ensures }
 
-pub gate-at-spec : {M : Type 1} → statement M
-gate-at-spec =
+pub gate_at_spec : {M : Type 1} → statement M
+gate_at_spec =
     tie.close
     (tie.spec
     (λ c. omega (arith, c.requires))

@@ -6,10 +6,10 @@ use Rattle.block_words.proofs.inner.gates.pin_place.Tie as tie
 returns : tie.Need-returns
 returns c =
     let start = c.before.before.before in
-    record { place = search needs; inside = omega (arith, start.requires.0.isNet start.args.pin start.requires.1, c.wide_word.ensures.0) }
+    record { place = search needs; inside = omega (arith, start.requires.0.is_net start.args.pin start.requires.1, c.wide_word.ensures.0) }
 
-pub pin-place-spec : {M : Type 1} → statement M
-pin-place-spec =
+pub pin_place_spec : {M : Type 1} → statement M
+pin_place_spec =
     tie.close
     (tie.spec
     (λ c. search needs) (λ c. search needs) (λ c. search needs) (λ c κs. search needs) (λ c. search needs)

@@ -1,6 +1,6 @@
 -- `block_words::inner::gates::scan_pins` meets its contract. The loop's invariant: the words say what the pins from k on show.
 use Rattle.model.proofs.Prelude.{needs}
-use Rattle.block_words.proofs.ScanPinsCases.{ScannedFrom, scan-pins-start, scan-pins-step, scan-pins-end}
+use Rattle.block_words.proofs.ScanPinsCases.{ScannedFrom, scan_pins-start, scan_pins-step, scan_pins-end}
 use Rattle.block_words.proofs.inner.gates.scan_pins.Statement.{statement}
 use Rattle.block_words.proofs.inner.gates.scan_pins.Tie as tie
 
@@ -10,15 +10,15 @@ invariant-loop table gate words first₀ last₀ unsteady₀ steady-controlling�
 abbrev decreases-loop : tie.decreases-loop
 decreases-loop table gate words first₀ last₀ unsteady₀ steady-controlling₀ mask k₀ first last unsteady steady-controlling k = k
 
-pub scan-pins-spec : {M : Type 1} → statement M
-scan-pins-spec =
+pub scan_pins_spec : {M : Type 1} → statement M
+scan_pins_spec =
     tie.close
     (tie.spec
     invariant-loop
     decreases-loop
-    (λ c. scan-pins-start)
+    (λ c. scan_pins-start)
     (λ c. search needs) (λ c κs. search needs) (λ c. search needs) (λ c. search needs) (λ c. search needs)
     (λ c. search needs) (λ c. search needs) (λ c. search needs) (λ c. search needs) (λ c. search needs)
     (λ c κs. search needs) (λ c κs. search needs) (λ c κs. search needs) (λ c. search needs)
-    (λ c. search (scan-pins-step, needs))
-    (λ c. scan-pins-end c.before.loop.invariant c.loop-test.false))
+    (λ c. search (scan_pins-step, needs))
+    (λ c. scan_pins-end c.before.loop.invariant c.loop-test.false))

@@ -8,8 +8,8 @@ returns-7 c =
     value-others _ _ _ c.before.requires.0 c.before.requires.1 c.before.well-formed.1.1.0.1 c.match.rest.0.1 c.match.rest.0.0.0.0.0.1
     c.match.rest.0.0.0.0.1 c.match.rest.0.0.0.1 c.match.rest.0.0.1 c.match.rest.1
 
-pub value-word-spec : {M : Type 1} → statement M
-value-word-spec =
+pub value_word_spec : {M : Type 1} → statement M
+value_word_spec =
     tie.close
     (tie.spec
     (λ c. value-and _ _ _ c.match.keys1 c.before.well-formed.1.0.1)

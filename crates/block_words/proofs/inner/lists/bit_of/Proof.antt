@@ -4,7 +4,7 @@ use Rattle.block_words.proofs.PackCases.{bit-number, bit-small}
 use Rattle.block_words.proofs.inner.lists.bit_of.Statement.{statement}
 use Rattle.block_words.proofs.inner.lists.bit_of.Tie as tie
 
-pub bit-of-spec : {M : Type 1} → statement M
-bit-of-spec =
+pub bit_of_spec : {M : Type 1} → statement M
+bit_of_spec =
     tie.close
     (tie.spec (λ c. search needs) (λ c. omega (arith, bit-small c.args.word c.args.place)) (λ c. bit-number c.args.word c.args.place))

@@ -1,6 +1,6 @@
 -- `block_words::inner::lists::byte_of` meets its contract. The loop's invariant: the pins from k on are packed, pin k in the lowest bit. Two pins want no loop.
 use Rattle.model.proofs.Prelude.{arith, needs}
-use Rattle.block_words.proofs.PackCases.{Packing, two-pin-cases, pack-start, pack-few, digit-few, pack-step, pack-end}
+use Rattle.block_words.proofs.PackCases.{Packing, two-pin-cases, pack_start, pack_few, digit-few, pack_step, pack_end}
 use Rattle.block_words.proofs.inner.lists.byte_of.Statement.{statement}
 use Rattle.block_words.proofs.inner.lists.byte_of.Tie as tie
 
@@ -11,14 +11,14 @@ abbrev decreases-loop : tie.decreases-loop
 decreases-loop rows pins place byte₀ k₀ byte k = k
 
 mul-byte : tie.Need-overflow-mul-byte invariant-loop decreases-loop
-mul-byte c = omega (arith, pack-few _ _ _ c.before.loop.invariant c.before.before.before.requires.0 c.loop-test.true)
+mul-byte c = omega (arith, pack_few _ _ _ c.before.loop.invariant c.before.before.before.requires.0 c.loop-test.true)
 
 add-byte : tie.Need-overflow-add-byte invariant-loop decreases-loop
 add-byte c =
     let t = c.before.before in
     omega (
       arith,
-      pack-few _ _ _ t.before.loop.invariant t.before.before.before.requires.0 t.loop-test.true,
+      pack_few _ _ _ t.before.loop.invariant t.before.before.before.requires.0 t.loop-test.true,
       digit-few _ _ _ t.before.loop.invariant _
           c.bit-of3.ensures,
     )
@@ -26,10 +26,10 @@ add-byte c =
 loop-again : tie.Need-loop-preserved invariant-loop decreases-loop
 loop-again c =
     let t = c.before.before in
-    pack-step _ _ _ t.before.loop.invariant t.loop-test.true _ c.bit-of3.ensures
+    pack_step _ _ _ t.before.loop.invariant t.loop-test.true _ c.bit-of3.ensures
 
-pub byte-of-spec : {M : Type 1} → statement M
-byte-of-spec =
+pub byte_of_spec : {M : Type 1} → statement M
+byte_of_spec =
     tie.close
     (tie.spec
     invariant-loop
@@ -38,7 +38,7 @@ byte-of-spec =
     (λ c. search two-pin-cases)
     (λ c. search two-pin-cases)
     (λ c. (search two-pin-cases, search two-pin-cases))
-    (λ c. pack-start _ _ _)
+    (λ c. pack_start _ _ _)
     (λ c. search needs)
     mul-byte
     (λ c. omega (arith, c.before.loop.invariant.within, c.before.before.before.requires.0))
@@ -47,4 +47,4 @@ byte-of-spec =
     add-byte
     (λ c. omega (arith, c.before.before.loop-test.true))
     loop-again
-    (λ c. pack-end _ _ _ c.before.loop.invariant c.before.before.before.requires.0 c.loop-test.false))
+    (λ c. pack_end _ _ _ c.before.loop.invariant c.before.before.before.requires.0 c.loop-test.false))

@@ -1,7 +1,7 @@
 -- `block_words::inner::lists::push` meets its contract. The loop's invariant: the records of the word that are not left have their entry.
 use Rattle.model.proofs.Prelude.{◌+◌, ◌*◌, ap, arith, needs}
 use Rattle.block_words.specs.Lists.{entry_of}
-use Rattle.block_words.proofs.PushCases.{Pushing, push-start, len-few, list-place, left_less, push_step, push-end}
+use Rattle.block_words.proofs.PushCases.{Pushing, push_start, len-few, list-place, left_less, push_step, push_end}
 use Rattle.block_words.proofs.inner.lists.push.Statement.{statement}
 use Rattle.block_words.proofs.inner.lists.push.Tie as tie
 
@@ -32,7 +32,7 @@ push_spec =
     (tie.spec
     invariant-loop
     decreases-loop
-    (λ c. push-start c.before.well-formed.1.1.0.1)
+    (λ c. push_start c.before.well-formed.1.1.0.1)
     (λ c κs. search needs) (λ c κs. search needs) (λ c. search needs) (λ c. search needs) (λ c κs. search needs)
     (λ c. search needs) (λ c. search needs) (λ c. search needs) (λ c. search needs) (λ c. search needs)
     (λ c. search needs)
@@ -42,5 +42,5 @@ push_spec =
     (λ c. search needs) (λ c. search needs) (λ c. search needs)
     (λ c. search (left_less, needs))
     loop-again
-    (λ c. c.before.loop.invariant.sameLength)
-    (λ c. push-end c.loop-test.false c.before.loop.invariant))
+    (λ c. c.before.loop.invariant.same_length_of)
+    (λ c. push_end c.loop-test.false c.before.loop.invariant))

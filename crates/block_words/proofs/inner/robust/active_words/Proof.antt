@@ -15,8 +15,8 @@ decreases-loop table class gate scan words rising-rows₀ falling-rows₀ up₀ 
 loop-again : tie.Need-loop-preserved invariant-loop decreases-loop
 loop-again c = search (active-step, needs)
 
-pub active-words-spec : {M : Type 1} → statement M
-active-words-spec =
+pub active_words_spec : {M : Type 1} → statement M
+active_words_spec =
     tie.close
     (tie.spec
     invariant-loop

@@ -7,5 +7,5 @@ use Rattle.block_words.proofs.inner.robust.pin_word.Tie as tie
 returns-2 : tie.Need-returns-2
 returns-2 c = class-plain c.before.if1.false c.open-word.ensures
 
-pub pin-word-spec : {M : Type 1} → statement M
-pin-word-spec = tie.close (tie.spec (λ c κs. search needs) (λ c. class-robust c.before.if1.true c.robust-word.ensures) (λ c κs. search needs) returns-2)
+pub pin_word_spec : {M : Type 1} → statement M
+pin_word_spec = tie.close (tie.spec (λ c κs. search needs) (λ c. class-robust c.before.if1.true c.robust-word.ensures) (λ c κs. search needs) returns-2)

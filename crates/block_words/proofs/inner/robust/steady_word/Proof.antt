@@ -6,8 +6,8 @@ use Rattle.block_words.proofs.inner.robust.steady_word.Tie as tie
 returns-5 : tie.Need-returns-5
 returns-5 c = steady-others _ _ _ c.before.well-formed.1.0.1 c.match.rest.0.0.0.1 c.match.rest.0.0.1 c.match.rest.0.1 c.match.rest.1
 
-pub steady-word-spec : {M : Type 1} → statement M
-steady-word-spec =
+pub steady_word_spec : {M : Type 1} → statement M
+steady_word_spec =
     tie.close
     (tie.spec
     (λ c. steady-and _ _ _ c.before.well-formed.1.0.1 c.match.keys1)

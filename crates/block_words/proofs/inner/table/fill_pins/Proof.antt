@@ -1,12 +1,12 @@
 -- `block_words::inner::table::fill_pins` meets its contract. The loop's invariant: the nets at the pins from k on stand in the table.
 use Rattle.model.proofs.Prelude.{◌-◌, ◌≡◌, arith, needs}
-use Rattle.netlist.specs.Tables.{pinIn}
+use Rattle.netlist.specs.Tables.{pin_in}
 use Rattle.block_words.proofs.WordLaws.{Filling, fill_start, fill_step, fill_end}
 use Rattle.block_words.proofs.inner.table.fill_pins.Statement.{statement}
 use Rattle.block_words.proofs.inner.table.fill_pins.Tie as tie
 
 abbrev invariant-loop : tie.invariant-loop
-invariant-loop part pins first table₀ k₀ table k = Filling first pins (λ p w. w ≡ pinIn part p) table₀ table k
+invariant-loop part pins first table₀ k₀ table k = Filling first pins (λ p w. w ≡ pin_in part p) table₀ table k
 
 abbrev decreases-loop : tie.decreases-loop
 decreases-loop part pins first table₀ k₀ table k = k
@@ -17,7 +17,7 @@ pin-net-requires c κs = omega (arith, c.before.loop.invariant.within, c.loop-te
 cast-table : tie.Need-overflow-cast-table invariant-loop decreases-loop
 cast-table c =
     let l = c.before.before in
-    omega (arith, c.pin-net.ensures, l.before.before.requires.0.isNet (l.loop.k - 1) (omega (arith, l.loop.invariant.within, c.before.loop-test.true)))
+    omega (arith, c.pin-net.ensures, l.before.before.requires.0.is_net (l.loop.k - 1) (omega (arith, l.loop.invariant.within, c.before.loop-test.true)))
 
 add-table : tie.Need-overflow-add-table invariant-loop decreases-loop
 add-table c =
@@ -43,8 +43,8 @@ loop-again c =
     let s = l.before.before in
     fill_step l.loop.invariant c.before.loop-test.true (omega (arith, s.requires.0.few, s.requires.1, s.requires.2)) _ c.pin-net.ensures
 
-pub fill-pins-spec : {M : Type 1} → statement M
-fill-pins-spec =
+pub fill_pins_spec : {M : Type 1} → statement M
+fill_pins_spec =
     tie.close
     (tie.spec
     invariant-loop

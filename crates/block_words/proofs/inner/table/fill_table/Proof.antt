@@ -10,8 +10,8 @@ invariant-loop netlist positions shape table₀ net₀ table net = Tabling netli
 abbrev decreases-loop : tie.decreases-loop
 decreases-loop netlist positions shape table₀ net₀ table net = shape.nets - net
 
-pub fill-table-spec : {M : Type 1} → statement M
-fill-table-spec =
+pub fill_table_spec : {M : Type 1} → statement M
+fill_table_spec =
     tie.close
     (tie.spec
     invariant-loop

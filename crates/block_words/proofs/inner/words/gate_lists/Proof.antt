@@ -20,42 +20,42 @@ scan-pins-requires c κs =
     let at = c.before in
     let l = at.before.before.before in
     let k = gate-known l.before.before.before.before.requires.0 l.loop.invariant.0 at.before.if1.true at.gate-at.ensures in
-    (k.pins, k.wordsRoom)
+    (k.pins, k.words_room)
 
 active-words-requires : tie.Need-active-words-requires invariant-loop decreases-loop
 active-words-requires c κs =
     let at = c.before.before.before.before.before in
     let l = at.before.before.before in
     let k = gate-known l.before.before.before.before.requires.0 l.loop.invariant.0 at.before.if1.true at.gate-at.ensures in
-    (k.pins, k.maskIs, k.highKind, k.wordsRoom, l.loop.invariant.1, l.loop.invariant.2)
+    (k.pins, k.mask_is, k.high_kind, k.words_room, l.loop.invariant.1, l.loop.invariant.2)
 
 push-requires : tie.Need-push-requires invariant-loop decreases-loop
 push-requires c κs =
     let at = c.before.before.before.before.before.before.before.before.before in
     let l = at.before.before.before in
     let k = gate-known l.before.before.before.before.requires.0 l.loop.invariant.0 at.before.if1.true at.gate-at.ensures in
-    (k.risingRoom, k.isNet, k.pins.few)
+    (k.rising_room, k.is_net, k.pins.few)
 
 push-requires-2 : tie.Need-push-requires-2 invariant-loop decreases-loop
 push-requires-2 c κs =
     let at = c.before.before.before.before.before.before.before.before.before.before.before.before.before.before.before in
     let l = at.before.before.before in
     let k = gate-known l.before.before.before.before.requires.0 l.loop.invariant.0 at.before.if1.true at.gate-at.ensures in
-    (k.fallingRoom, k.isNet, k.pins.few)
+    (k.falling_room, k.is_net, k.pins.few)
 
 net-state-requires : tie.Need-net-state-requires invariant-loop decreases-loop
 net-state-requires c κs =
     let at = c.before.before.before.before.before.before.before.before.before.before.before.before.before.before.before.before.before.before.before in
     let l = at.before.before.before in
     let k = gate-known l.before.before.before.before.requires.0 l.loop.invariant.0 at.before.if1.true at.gate-at.ensures in
-    (k.lowKind, k.highKind)
+    (k.low_kind, k.high_kind)
 
 put-net-requires : tie.Need-put-net-requires invariant-loop decreases-loop
 put-net-requires c κs =
     let at = c.before.before.before.before.before.before.before.before.before.before.before.before.before.before.before.before.before.before.before.before in
     let l = at.before.before.before in
     let k = gate-known l.before.before.before.before.requires.0 l.loop.invariant.0 at.before.if1.true at.gate-at.ensures in
-    (k.isNet, k.wordsRoom)
+    (k.is_net, k.words_room)
 
 add-net : tie.Need-overflow-add-net invariant-loop decreases-loop
 add-net c =
@@ -63,7 +63,7 @@ add-net c =
     let at = rises.before.before.before.before.before.before.before.before.before.before in
     let l = at.before.before.before in
     let k = gate-known l.before.before.before.before.requires.0 l.loop.invariant.0 at.before.if1.true at.gate-at.ensures in
-    omega (arith, k.isNet)
+    omega (arith, k.is_net)
 
 loop-less : tie.Need-loop-smaller invariant-loop decreases-loop
 loop-less c =
@@ -86,8 +86,8 @@ loop-again c =
       active.active-words.ensures.falls.room,
     )
 
-pub gate-lists-spec : {M : Type 1} → statement M
-gate-lists-spec =
+pub gate_lists_spec : {M : Type 1} → statement M
+gate_lists_spec =
     tie.close
     (tie.spec
     invariant-loop
@@ -103,7 +103,7 @@ gate-lists-spec =
     add-net
     loop-less
     loop-again
-    (λ c. c.before.before.loop.invariant.0.kept.sameLength)
+    (λ c. c.before.before.loop.invariant.0.kept.same_length_of)
     (λ c. c.before.before.loop.invariant.0.up.places)
     (λ c. c.before.before.loop.invariant.0.down.places)
     (λ c. let l = c.before.before in lists-end l.before.before.before.before.requires.0 l.loop.invariant.0 c.if1.false))

@@ -15,7 +15,7 @@ put-net-requires : tie.Need-put-net-requires invariant-loop decreases-loop
 put-net-requires c κs =
     let t = c.before.before.before in
     let s = t.before.before.before.before in
-    (omega (arith, t.loop-test.true, s.requires.0), omega (arith, t.before.loop.invariant.0.kept.sameLength, s.requires.2))
+    (omega (arith, t.loop-test.true, s.requires.0), omega (arith, t.before.loop.invariant.0.kept.same_length_of, s.requires.2))
 
 add-input : tie.Need-overflow-add-input invariant-loop decreases-loop
 add-input c =
@@ -39,8 +39,8 @@ loop-again c =
       omega (arith, t.loop-test.true),
     )
 
-pub input-words-spec : {M : Type 1} → statement M
-input-words-spec =
+pub input_words_spec : {M : Type 1} → statement M
+input_words_spec =
     tie.close
     (tie.spec
     invariant-loop
@@ -55,5 +55,5 @@ input-words-spec =
     add-input
     loop-less
     loop-again
-    (λ c. c.before.loop.invariant.0.kept.sameLength)
+    (λ c. c.before.loop.invariant.0.kept.same_length_of)
     (λ c. input-end c.before.loop.invariant.0 c.before.loop.invariant.1 c.loop-test.false))

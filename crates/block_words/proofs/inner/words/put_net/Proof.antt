@@ -4,8 +4,8 @@ use Rattle.block_words.proofs.NetPutLaws.{room2, room3, room4, room5, net-put}
 use Rattle.block_words.proofs.inner.words.put_net.Statement.{statement}
 use Rattle.block_words.proofs.inner.words.put_net.Tie as tie
 
-pub put-net-spec : {M : Type 1} → statement M
-put-net-spec =
+pub put_net_spec : {M : Type 1} → statement M
+put_net_spec =
     tie.close
     (tie.spec
     (λ c. search needs) (λ c. search needs) (λ c. search needs) (λ c. search needs) (λ c. search needs)

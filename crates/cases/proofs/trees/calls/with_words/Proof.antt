@@ -9,8 +9,8 @@ invariant-loop words answer₀ at₀ answer at = (at ≤ length words)
 abbrev decreases-loop : tie.decreases-loop
 decreases-loop words answer₀ at₀ answer at = length words - at
 
-pub with-words-spec : {M : Type 1} → statement M
-with-words-spec =
+pub with_words_spec : {M : Type 1} → statement M
+with_words_spec =
     tie.close
     (tie.spec
     invariant-loop

@@ -23,7 +23,7 @@ returns c =
     let start = high.before.before.requires in
     run-added start.0 start.2 high.rank-row.ensures low.rank-row2.ensures start.3 c.add-difference.ensures
 
-pub add-run-spec : {M : Type 1} → statement M
-add-run-spec =
+pub add_run_spec : {M : Type 1} → statement M
+add_run_spec =
     tie.close
     (tie.spec (λ c κs. search needs) (λ c. search needs) rank-row-requires-2 add-difference-requires returns)

@@ -10,8 +10,8 @@ invariant-loop netlist positions counts rows shape words sums₀ runs i₀ sums 
 abbrev decreases-loop : tie.decreases-loop
 decreases-loop netlist positions counts rows shape words sums₀ runs i₀ sums i = runs - i
 
-pub held-row-spec : {M : Type 1} → statement M
-held-row-spec =
+pub held_row_spec : {M : Type 1} → statement M
+held_row_spec =
     tie.close
     (tie.spec
     invariant-loop

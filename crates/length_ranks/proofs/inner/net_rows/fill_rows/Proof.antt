@@ -11,8 +11,8 @@ invariant-loop netlist positions shape rows₀ nets net₀ rows net = (nets ≡ 
 abbrev decreases-loop : tie.decreases-loop
 decreases-loop netlist positions shape rows₀ nets net₀ rows net = nets - net
 
-pub fill-rows-spec : {M : Type 1} → statement M
-fill-rows-spec =
+pub fill_rows_spec : {M : Type 1} → statement M
+fill_rows_spec =
     tie.close
     (tie.spec
     invariant-loop

@@ -11,8 +11,8 @@ add-pins-requires c κs = search net-row-cases
 returns-2 : tie.Need-returns-2
 returns-2 c = search net-row-cases
 
-pub net-row-spec : {M : Type 1} → statement M
-net-row-spec =
+pub net_row_spec : {M : Type 1} → statement M
+net_row_spec =
     tie.close
     (tie.spec
     (λ c. search needs)

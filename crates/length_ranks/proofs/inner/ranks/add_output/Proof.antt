@@ -17,6 +17,6 @@ returns-2 c =
     let gate = c.before.before.before in
     gate-added _ _ _ _ gate.before.requires.1 gate.if1.false _ c.add-longer.ensures
 
-pub add-output-spec : {M : Type 1} → statement M
-add-output-spec =
+pub add_output_spec : {M : Type 1} → statement M
+add_output_spec =
     tie.close (tie.spec returns (λ c. search needs) (λ c. search needs) add-longer-requires returns-2)

@@ -21,8 +21,8 @@ add-sums c = search down-cases
 returns-2 : tie.Need-returns-2 invariant-loop decreases-loop
 returns-2 c = let short = c.before in let end = short.before in down-end end.before.loop.invariant end.loop-test.false short.if1.false
 
-pub add-partials-spec : {M : Type 1} → statement M
-add-partials-spec =
+pub add_partials_spec : {M : Type 1} → statement M
+add_partials_spec =
     tie.close
     (tie.spec
     invariant-loop

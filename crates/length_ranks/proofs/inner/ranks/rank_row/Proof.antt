@@ -1,5 +1,5 @@
 -- `length_ranks::inner::ranks::rank_row` meets its contract: the rows of the outputs before, then the partial paths of the output that the number ends at.
-use Rattle.length_ranks.proofs.RankCases.{wanted, rank-none, rank-end, rank-cases}
+use Rattle.length_ranks.proofs.RankCases.{wanted, rank_none, rank_end, rank-cases}
 use Rattle.length_ranks.proofs.inner.ranks.rank_row.Statement.{statement}
 use Rattle.length_ranks.proofs.inner.ranks.rank_row.Tie as tie
 
@@ -21,14 +21,14 @@ returns-2 c =
     let picked = summed.before.before in
     let found = picked.before in
     let some = found.before in
-    rank-end some.before.before.requires some.if1.false _ found.outputs-part.ensures _ picked.pick-output.ensures _ summed.add-outputs.ensures
+    rank_end some.before.before.requires some.if1.false _ found.outputs-part.ensures _ picked.pick-output.ensures _ summed.add-outputs.ensures
     _ c.add-partials.ensures
 
-pub rank-row-spec : {M : Type 1} → statement M
-rank-row-spec =
+pub rank_row_spec : {M : Type 1} → statement M
+rank_row_spec =
     tie.close
     (tie.spec
-    (λ c. rank-none c.before.before.requires c.if1.true)
+    (λ c. rank_none c.before.before.requires c.if1.true)
     outputs-part-requires
     pick-output-requires
     (λ c κs. search rank-cases)

@@ -13,8 +13,8 @@ returns-3 c = search head-cases
 returns-4 : tie.Need-returns-4
 returns-4 c = search head-cases
 
-pub same-head-spec : {M : Type 1} → statement M
-same-head-spec =
+pub same_head_spec : {M : Type 1} → statement M
+same_head_spec =
     tie.close
     (tie.spec
     (λ c κs. search needs)

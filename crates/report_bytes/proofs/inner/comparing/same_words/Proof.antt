@@ -1,20 +1,20 @@
 -- `report_bytes::inner::comparing::same_words` meets its contract. The invariant: the words that are left, compared from here on, decide the whole.
 use Rattle.model.proofs.Prelude.{◌≤◌, ◌-◌, ◌*◌, ◌≡◌, length, drop, take, needs}
-use Rattle.model.specs.Report.{sameBytes}
+use Rattle.model.specs.Report.{same_bytes}
 use Rattle.report_bytes.specs.Layout.{word_bytes}
-use Rattle.report_bytes.proofs.WordSteps.{restSame, same_cases}
+use Rattle.report_bytes.proofs.WordSteps.{rest_same, same_cases}
 use Rattle.report_bytes.proofs.inner.comparing.same_words.Statement.{statement}
 use Rattle.report_bytes.proofs.inner.comparing.same_words.Tie as tie
 
 abbrev invariant-loop : tie.invariant-loop
 invariant-loop report at words i₀ i =
-    (i ≤ length words) × (restSame report at words i ≡ sameBytes (take (8 * length words) (drop at report)) (word_bytes words))
+    (i ≤ length words) × (rest_same report at words i ≡ same_bytes (take (8 * length words) (drop at report)) (word_bytes words))
 
 abbrev decreases-loop : tie.decreases-loop
 decreases-loop report at words i₀ i = length words - i
 
-pub same-words-spec : {M : Type 1} → statement M
-same-words-spec =
+pub same_words_spec : {M : Type 1} → statement M
+same_words_spec =
     tie.close
     (tie.spec
     invariant-loop

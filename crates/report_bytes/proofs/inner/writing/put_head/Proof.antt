@@ -17,8 +17,8 @@ returns c =
     c₁.before.before.put.ensures c₂.before.before.put2.ensures c₃.before.before.put3.ensures c₄.before.before.put4.ensures
     c₅.before.before.put5.ensures c₆.before.before.put6.ensures c.before.before.put7.ensures
 
-pub put-head-spec : {M : Type 1} → statement M
-put-head-spec =
+pub put_head_spec : {M : Type 1} → statement M
+put_head_spec =
     tie.close
     (tie.spec
     (λ c κs. search needs) (λ c κs. search needs) (λ c κs. search needs) (λ c κs. search needs) (λ c κs. search needs)

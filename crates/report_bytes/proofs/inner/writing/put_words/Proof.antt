@@ -27,8 +27,8 @@ loop-again c =
       put_next entry.words.now loop.i here.loop-test.true loop.report made.new.0 entry.at made.ensures _ loop.invariant.2,
     )
 
-pub put-words-spec : {M : Type 1} → statement M
-put-words-spec =
+pub put_words_spec : {M : Type 1} → statement M
+put_words_spec =
     tie.close
     (tie.spec
     invariant-loop

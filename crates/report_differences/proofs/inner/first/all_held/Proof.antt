@@ -9,8 +9,8 @@ each-held-requires : tie.Need-each-held-requires
 each-held-requires c κs =
     (ascends-of _ c.before.before.before.ascending.ensures c.before.before.if1.true, ascends-of _ c.before.ascending2.ensures c.if2.true)
 
-pub all-held-spec : {M : Type 1} → statement M
-all-held-spec =
+pub all_held_spec : {M : Type 1} → statement M
+all_held_spec =
     tie.close
     (tie.spec
     (λ c κs. search needs) (λ c κs. search needs)

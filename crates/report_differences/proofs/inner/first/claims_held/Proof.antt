@@ -24,8 +24,8 @@ returns-2 c =
     falling-tells a.report.now a.held.now _ _ at_first.rising-runs.ensures at_second.rising-runs2.ensures _ at_held.all_held.ensures
     at-third.before.if1.false _ _ at-third.falling-runs.ensures at-fourth.falling-runs2.ensures _ c.all-held2.ensures
 
-pub claims-held-spec : {M : Type 1} → statement M
-claims-held-spec =
+pub claims_held_spec : {M : Type 1} → statement M
+claims_held_spec =
     tie.close
     (tie.spec
     (λ c κs. search needs) (λ c κs. search needs) (λ c κs. search needs)

@@ -5,8 +5,8 @@ use Rattle.report_differences.proofs.FirstClaimLaws.{held-cases}
 use Rattle.report_differences.proofs.inner.first.each_held.Statement.{statement}
 use Rattle.report_differences.proofs.inner.first.each_held.Tie as tie
 
-pub each-held-spec : {M : Type 1} → statement M
-each-held-spec =
+pub each_held_spec : {M : Type 1} → statement M
+each_held_spec =
     tie.close
     (tie.spec
     (λ c κs. search (passed_none, needs))

@@ -9,8 +9,8 @@ first-number-requires : tie.Need-first-number-requires
 first-number-requires c κs =
     (ascends-of _ c.before.before.before.ascending.ensures c.before.before.if1.true, ascends-of _ c.before.ascending2.ensures c.if2.true)
 
-pub first-claim-spec : {M : Type 1} → statement M
-first-claim-spec =
+pub first_claim_spec : {M : Type 1} → statement M
+first_claim_spec =
     tie.close
     (tie.spec
     (λ c κs. search needs) (λ c κs. search needs)

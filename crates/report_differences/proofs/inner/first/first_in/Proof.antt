@@ -39,8 +39,8 @@ returns-3 c =
     at-claim.first-claim.ensures at-third.before.if1.false _ _ at-third.falling-runs.ensures at-fourth.falling-runs2.ensures _
     at-claim2.first-claim2.ensures c.if2.false
 
-pub first-in-spec : {M : Type 1} → statement M
-first-in-spec =
+pub first_in_spec : {M : Type 1} → statement M
+first_in_spec =
     tie.close
     (tie.spec
     (λ c κs. search needs) (λ c κs. search needs) (λ c κs. search needs)

@@ -5,8 +5,8 @@ use Rattle.report_differences.proofs.FirstClaimLaws.{number-cases}
 use Rattle.report_differences.proofs.inner.first.first_number.Statement.{statement}
 use Rattle.report_differences.proofs.inner.first.first_number.Tie as tie
 
-pub first-number-spec : {M : Type 1} → statement M
-first-number-spec =
+pub first_number_spec : {M : Type 1} → statement M
+first_number_spec =
     tie.close
     (tie.spec
     (λ c κs. search (passed_none, needs))

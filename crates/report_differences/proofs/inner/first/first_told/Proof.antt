@@ -4,8 +4,8 @@ use Rattle.report_differences.proofs.FirstClaimLaws.{told-cases}
 use Rattle.report_differences.proofs.inner.first.first_told.Statement.{statement}
 use Rattle.report_differences.proofs.inner.first.first_told.Tie as tie
 
-pub first-told-spec : {M : Type 1} → statement M
-first-told-spec =
+pub first_told_spec : {M : Type 1} → statement M
+first_told_spec =
     tie.close
     (tie.spec
     (λ c κs. search needs)

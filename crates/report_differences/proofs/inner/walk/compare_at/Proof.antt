@@ -89,8 +89,8 @@ returns-7 c =
     let y = at-standing-at2.standing-at2 in
     inside-b a.a.now a.b.now a.number x.result x.ensures _ inside y.result y.ensures _ at-there2.there2.given.1
 
-pub compare-at-spec : {M : Type 1} → statement M
-compare-at-spec =
+pub compare_at_spec : {M : Type 1} → statement M
+compare_at_spec =
     tie.close
     (tie.spec
     (λ c κs. search needs)

@@ -89,8 +89,8 @@ returns-2 c =
     let there = at-seek2.seek2 in
     first-none a.a.now a.b.now a.from l.number l.invariant.0 l.invariant.1 x.result x.ensures c.enum-told2.given.1
 
-pub first-only-spec : {M : Type 1} → statement M
-first-only-spec =
+pub first_only_spec : {M : Type 1} → statement M
+first_only_spec =
     tie.close
     (tie.spec
     invariant-loop

@@ -99,8 +99,8 @@ returns-3 c =
     let there = at-seek2.seek2 in
     (last_end a.a.now a.b.now a.low l.high l.invariant.0 l.invariant.1 x.result x.ensures c.enum-told2.given.1, here.ensures.0, there.ensures.0)
 
-pub last-only-spec : {M : Type 1} → statement M
-last-only-spec =
+pub last_only_spec : {M : Type 1} → statement M
+last_only_spec =
     tie.close
     (tie.spec
     invariant-loop

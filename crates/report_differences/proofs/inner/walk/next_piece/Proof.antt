@@ -39,7 +39,7 @@ returns-2 c =
     let l = c.last-only.ensures in
     ((t.0.0, t.0.1, l.0), l.1, l.2)
 
-pub next-piece-spec : {M : Type 1} → statement M
-next-piece-spec =
+pub next_piece_spec : {M : Type 1} → statement M
+next_piece_spec =
     tie.close
     (tie.spec (λ c κs. search needs) enum_told (λ c. search needs) last-only-requires returns returns-2)

@@ -31,8 +31,8 @@ returns-2 c =
     let l = c.before.loop in
     reached-end a.runs.now l.at a.number c.loop-test.false l.invariant
 
-pub seek-spec : {M : Type 1} → statement M
-seek-spec =
+pub seek_spec : {M : Type 1} → statement M
+seek_spec =
     tie.close
     (tie.spec
     invariant-loop

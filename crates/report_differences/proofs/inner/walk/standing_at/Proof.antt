@@ -23,8 +23,8 @@ returns-3 c =
     let reached = c.before.before.before.before.before.requires in
     inside-run a.runs.now a.at a.number reached c.before.before.before.if1.false low.result low.ensures high.result high.ensures c.before.if2.false
 
-pub standing-at-spec : {M : Type 1} → statement M
-standing-at-spec =
+pub standing_at_spec : {M : Type 1} → statement M
+standing_at_spec =
     tie.close
     (tie.spec
     returns

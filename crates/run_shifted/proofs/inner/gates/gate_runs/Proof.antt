@@ -1,14 +1,14 @@
 -- `run_shifted::inner::gates::gate_runs` meets its contract: the list holds the runs of the pins so far.
 use Rattle.model.proofs.Prelude.{◌-◌, ◌≡◌, refl, length, arith, needs}
-use Rattle.model.specs.Store.{maxRuns}
-use Rattle.run_shifted.specs.RunsOfPlaces.{gatePlaces}
+use Rattle.model.specs.Store.{max_runs}
+use Rattle.run_shifted.specs.RunsOfPlaces.{gate_places}
 use Rattle.run_shifted.proofs.PlaceRunSteps.{PlacesDone, place-cases, places-room, places-small, place-net, place-below, place-more}
 use Rattle.run_shifted.proofs.inner.gates.gate_runs.Statement.{statement}
 use Rattle.run_shifted.proofs.inner.gates.gate_runs.Tie as tie
 
 abbrev invariant-loop : tie.invariant-loop
 invariant-loop part mask counts starts words₀ start pins pin₀ count₀ offset₀ words pin count offset =
-    PlacesDone (gatePlaces part mask counts) pins starts words₀ start (maxRuns - start) words pin count offset × (length words ≡ length words₀)
+    PlacesDone (gate_places part mask counts) pins starts words₀ start (max_runs - start) words pin count offset × (length words ≡ length words₀)
 
 abbrev decreases-loop : tie.decreases-loop
 decreases-loop part mask counts starts words₀ start pins pin₀ count₀ offset₀ words pin count offset = pins - pin
@@ -36,8 +36,8 @@ loop-again c =
       search needs,
     )
 
-pub gate-runs-spec : {M : Type 1} → statement M
-gate-runs-spec =
+pub gate_runs_spec : {M : Type 1} → statement M
+gate_runs_spec =
     tie.close
     (tie.spec
     invariant-loop

@@ -1,15 +1,15 @@
 -- `run_shifted::inner::outputs::out_runs` meets its contract: the list holds the runs of the outputs so far.
 use Rattle.model.proofs.Prelude.{◌-◌, ◌≡◌, length, arith, needs}
-use Rattle.model.specs.Store.{maxRuns}
+use Rattle.model.specs.Store.{max_runs}
 use Rattle.netlist.proofs.OutputLaws.{output-here}
-use Rattle.run_shifted.specs.RunsOfPlaces.{outputPlaces}
+use Rattle.run_shifted.specs.RunsOfPlaces.{output_places}
 use Rattle.run_shifted.proofs.PlaceRunSteps.{PlacesDone, output-cases, places-room, places-small, place-net}
 use Rattle.run_shifted.proofs.inner.outputs.out_runs.Statement.{statement}
 use Rattle.run_shifted.proofs.inner.outputs.out_runs.Tie as tie
 
 abbrev invariant-loop : tie.invariant-loop
 invariant-loop part inputs outputs counts starts words₀ place₀ count₀ offset₀ words place count offset =
-    PlacesDone (outputPlaces part inputs counts) outputs starts words₀ maxRuns maxRuns words place count offset × (length words ≡ length words₀)
+    PlacesDone (output_places part inputs counts) outputs starts words₀ max_runs max_runs words place count offset × (length words ≡ length words₀)
 
 abbrev decreases-loop : tie.decreases-loop
 decreases-loop part inputs outputs counts starts words₀ place₀ count₀ offset₀ words place count offset = outputs - place
@@ -28,8 +28,8 @@ returns c = search output-cases
 loop-again : tie.Need-loop-preserved invariant-loop decreases-loop
 loop-again c = (search output-cases, search needs)
 
-pub out-runs-spec : {M : Type 1} → statement M
-out-runs-spec =
+pub out_runs_spec : {M : Type 1} → statement M
+out_runs_spec =
     tie.close
     (tie.spec
     invariant-loop

@@ -10,8 +10,8 @@ invariant-loop words from to high i₀ i = (from ≤ i) × (i ≤ to)
 abbrev decreases-loop : tie.decreases-loop
 decreases-loop words from to high i₀ i = to - i
 
-pub first-apart-spec : {M : Type 1} → statement M
-first-apart-spec =
+pub first_apart_spec : {M : Type 1} → statement M
+first_apart_spec =
     tie.close
     (tie.spec
     invariant-loop

@@ -4,8 +4,8 @@ use Rattle.run_union.proofs.MiddleLaws.{joined_at}
 use Rattle.run_union.proofs.inner.merging.first_joined.Statement.{statement}
 use Rattle.run_union.proofs.inner.merging.first_joined.Tie as tie
 
-pub first-joined-spec : {M : Type 1} → statement M
-first-joined-spec =
+pub first_joined_spec : {M : Type 1} → statement M
+first_joined_spec =
     tie.close
     (tie.spec
     (λ c. search needs) (λ c κs. search needs) (λ c. search needs) (λ c. search needs) (λ c. search needs)

@@ -1,6 +1,6 @@
 -- `run_union::inner::merging::union` meets its contract: the runs added so far and those left of both lists, by ascending low, make the runs of the union.
 use Rattle.model.proofs.Prelude.{◌+◌, ◌-◌, arith, needs}
-use Rattle.run_union.proofs.UnionSteps.{Merging, merging_start, merging-room, merging-end, left_below, left-run, left-full, left-more, right-below, right-run, right-full, right-more}
+use Rattle.run_union.proofs.UnionSteps.{Merging, merging_start, merging_room, merging_end, left_below, left-run, left-full, left-more, right-below, right-run, right-full, right-more}
 use Rattle.run_union.proofs.inner.merging.union.Statement.{statement}
 use Rattle.run_union.proofs.inner.merging.union.Tie as tie
 
@@ -15,7 +15,7 @@ append-run-requires c κs =
     let inv = c.before.before.before.before.before.loop.invariant in
     let says = c.before.before.left-first.ensures in
     let yes = c.before.if1.true in
-    (merging-room inv, (omega (arith, left_below inv says yes), left-run inv says yes))
+    (merging_room inv, (omega (arith, left_below inv says yes), left-run inv says yes))
 
 loop-again : tie.Need-loop-preserved invariant-loop decreases-loop
 loop-again c =
@@ -30,7 +30,7 @@ append-own-requires c κs =
     let more = c.before.before.before.before.loop-test.true in
     let says = c.before.before.left-first.ensures in
     let no = c.before.if1.false in
-    (merging-room inv, (right-below inv says no more, right-run inv says no more))
+    (merging_room inv, (right-below inv says no more, right-run inv says no more))
 
 loop-again-2 : tie.Need-loop-preserved-2 invariant-loop decreases-loop
 loop-again-2 c =
@@ -40,8 +40,8 @@ loop-again-2 c =
     let no = c.before.before.before.before.before.before.before.if1.false in
     right-more inv says no more c.before.before.before.before.before.append-own.ensures _ c.before.c2.given.1
 
-pub union-spec : {M : Type 1} → statement M
-union-spec =
+pub union_spec : {M : Type 1} → statement M
+union_spec =
     tie.close
     (tie.spec
     invariant-loop
@@ -59,4 +59,4 @@ union-spec =
     (λ c. search needs) (λ c. search needs)
     loop-again-2
     (λ c. search needs)
-    (λ c. search (merging-end, needs)))
+    (λ c. search (merging_end, needs)))

@@ -1,13 +1,13 @@
 -- `run_union::inner::moving::move_down` meets its contract: the words are those with the runs moved so far written.
 use Rattle.model.proofs.Prelude.{◌≤◌, ◌-◌, ◌≡◌, refl, length, length-set, arith, needs}
-use Rattle.run_lists.specs.RunLists.{runsInWords, writeRuns}
-use Rattle.run_union.proofs.CopySteps.{copy-end}
+use Rattle.run_lists.specs.RunLists.{runs_in_words, write_runs_of}
+use Rattle.run_union.proofs.CopySteps.{copy_end}
 use Rattle.run_union.proofs.MoveSteps.{down-more}
 use Rattle.run_union.proofs.inner.moving.move_down.Statement.{statement}
 use Rattle.run_union.proofs.inner.moving.move_down.Tie as tie
 
 abbrev invariant-loop : tie.invariant-loop
-invariant-loop words₀ from count to k₀ words k = (k ≤ count) × (length words ≡ length words₀) × (words ≡ writeRuns words₀ to (runsInWords words₀ from k))
+invariant-loop words₀ from count to k₀ words k = (k ≤ count) × (length words ≡ length words₀) × (words ≡ write_runs_of words₀ to (runs_in_words words₀ from k))
 
 abbrev decreases-loop : tie.decreases-loop
 decreases-loop words₀ from count to k₀ words k = count - k
@@ -26,4 +26,4 @@ move_down_spec =
     (λ c. search needs) (λ c. search needs)
     (λ c. (omega arith, simp length-set c.before.before.before.loop.invariant.1, search (down-more, needs)))
     (λ c. search needs)
-    (λ c. search (copy-end, needs)))
+    (λ c. search (copy_end, needs)))

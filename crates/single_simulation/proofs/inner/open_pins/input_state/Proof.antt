@@ -9,6 +9,6 @@ returns c =
     let a = c.before.before.before.args in
     c.state-word.ensures ∙ digit-state a.v1 a.v2 a.input _ _ c.before.before.input-value.ensures c.before.input-value2.ensures
 
-pub input-state-spec : {M : Type 1} → statement M
-input-state-spec =
+pub input_state_spec : {M : Type 1} → statement M
+input_state_spec =
     tie.close (tie.spec (λ c κs. search needs) (λ c κs. search needs) (λ c κs. search needs) returns)

@@ -14,8 +14,8 @@ loop-again : tie.Need-loop-preserved invariant-loop decreases-loop
 loop-again c =
     inputs-more _ _ _ _ _ _ c.before.before.before.requires c.before.loop-test.true c.before.before.loop.invariant c.input-state.ensures
 
-pub input-states-spec : {M : Type 1} → statement M
-input-states-spec =
+pub input_states_spec : {M : Type 1} → statement M
+input_states_spec =
     tie.close
     (tie.spec
     invariant-loop

@@ -4,5 +4,5 @@ use Rattle.record_bytes.proofs.BitLaws.{word-digit}
 use Rattle.single_simulation.proofs.inner.open_pins.input_value.Statement.{statement}
 use Rattle.single_simulation.proofs.inner.open_pins.input_value.Tie as tie
 
-pub input-value-spec : {M : Type 1} → statement M
-input-value-spec = tie.close (tie.spec (λ c. search needs) (λ c. omega (arith, (word-digit c.args.vector c.args.input).0)) (λ c. word-digit c.args.vector c.args.input))
+pub input_value_spec : {M : Type 1} → statement M
+input_value_spec = tie.close (tie.spec (λ c. search needs) (λ c. omega (arith, (word-digit c.args.vector c.args.input).0)) (λ c. word-digit c.args.vector c.args.input))

@@ -15,8 +15,8 @@ decreases-loop netlist positions shape v1 v2 class states₀ masks₀ net₀ sta
 loop-again : tie.Need-loop-preserved invariant-loop decreases-loop
 loop-again c = search open-cases
 
-pub open-masks-spec : {M : Type 1} → statement M
-open-masks-spec =
+pub open_masks_spec : {M : Type 1} → statement M
+open_masks_spec =
     tie.close
     (tie.spec
     invariant-loop

@@ -46,8 +46,8 @@ loop-again c =
     let t = c.before.before in
     states-step t.before.before.before.before.requires t.before.loop.invariant t.loop-test.true c.before.pin-net.ensures
 
-pub pack-states-spec : {M : Type 1} → statement M
-pack-states-spec =
+pub pack_states_spec : {M : Type 1} → statement M
+pack_states_spec =
     tie.close
     (tie.spec
     invariant-loop

@@ -26,8 +26,8 @@ returns c =
     let ready = c.before.before.before.before.before.requires in
     two-packed ready c.before.before.pin-net2.ensures c.before.before.before.pin-net.ensures
 
-pub pack-two-spec : {M : Type 1} → statement M
-pack-two-spec =
+pub pack_two_spec : {M : Type 1} → statement M
+pack_two_spec =
     tie.close
     (tie.spec
     (λ c κs. let ready = c.before.requires in omega (arith, ready.inside))

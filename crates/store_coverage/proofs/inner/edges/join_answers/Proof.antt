@@ -10,8 +10,8 @@ returns c = sym (ap₂ joined c.before.before.before.before.rising.given.1 c.bef
 returns-5 : tie.Need-returns-5
 returns-5 c = search needs
 
-pub join-answers-spec : {M : Type 1} → statement M
-join-answers-spec =
+pub join_answers_spec : {M : Type 1} → statement M
+join_answers_spec =
     tie.close
     (tie.spec
     (λ c. search needs) (λ c. search needs) (λ c. search needs) (λ c. search needs) (λ c. search needs)

@@ -10,8 +10,8 @@ inside-requires c κs = (omega arith, omega arith, omega arith, search join-case
 returns-2 : tie.Need-returns-2
 returns-2 c = search join-cases
 
-pub join-edge-spec : {M : Type 1} → statement M
-join-edge-spec =
+pub join_edge_spec : {M : Type 1} → statement M
+join_edge_spec =
     tie.close
     (tie.spec
     (λ c. search needs) (λ c. search needs)

@@ -1,13 +1,13 @@
 -- `store_coverage::inner::edges::join_new` meets its contract: the held runs before and after those that are united stay apart from the detected ones.
 use Rattle.model.proofs.Prelude.{refl, arith, needs}
-use Rattle.store_coverage.proofs.JoinNewCases.{first-low, final-high, union-found, union-held, join-new-cases}
+use Rattle.store_coverage.proofs.JoinNewCases.{first-low, final_high, union_found, union_held, join-new-cases}
 use Rattle.store_coverage.proofs.inner.edges.join_new.Statement.{statement}
 use Rattle.store_coverage.proofs.inner.edges.join_new.Tie as tie
 
 first-apart-requires : tie.Need-first-apart-requires
 first-apart-requires c κs =
     let start = c.before.before.before.before.before in
-    (c.before.first-joined.ensures.0, omega arith, final-high start.requires.0 start.requires.1)
+    (c.before.first-joined.ensures.0, omega arith, final_high start.requires.0 start.requires.1)
 
 union-requires : tie.Need-union-requires
 union-requires c κs =
@@ -17,12 +17,12 @@ union-requires c κs =
     let start = at_from.before.before.before.before in
     let ready = start.requires.0 in
     let some = start.requires.1 in (
-      (ended.0, omega (arith, ended.1), omega arith, omega (arith, ready.fewFound _ refl, ready.high)),
-      (record { fits = omega arith; inside = ready.room }, (union-held ready some begun ended, union-found ready some)),
+      (ended.0, omega (arith, ended.1), omega arith, omega (arith, ready.few_found _ refl, ready.high)),
+      (record { fits = omega arith; inside = ready.room }, (union_held ready some begun ended, union_found ready some)),
     )
 
-pub join-new-spec : {M : Type 1} → statement M
-join-new-spec =
+pub join_new_spec : {M : Type 1} → statement M
+join_new_spec =
     tie.close
     (tie.spec
     (λ c. search join-new-cases)

@@ -13,8 +13,8 @@ returns c = rising-words c.before.before.before.before.args.words.now _ c.before
 returns-2 : tie.Need-returns-2
 returns-2 c = falling-words c.before.before.before.before.args.words.now _ c.before.before.enum-told2.given.1 _ refl
 
-pub edge-runs-spec : {M : Type 1} → statement M
-edge-runs-spec =
+pub edge_runs_spec : {M : Type 1} → statement M
+edge_runs_spec =
     tie.close
     (tie.spec
     enum_told
