@@ -2,6 +2,8 @@
 // folder; a missing file counts as empty, a missing class file as class 1. The tested faults are put into a tree for each edge; then fault numbers are
 // read from standard input, one a line, and each is answered as soon as its line has come: held or not, and the nodes of the tree that were visited.
 // Where the netlist, the class, the file or a record is refused it answers nothing, and says why on standard error; so where a file can't be read whole.
+#![tactic(auto)]
+
 ghost use Rattle.std.specs.Prelude.{◌≡◌, length};
 ghost use Rattle.tree_words.specs.TreeLayout.{tree_words_count};
 ghost use Rattle.ask_walk.specs.InputWalk.{piece_bytes};

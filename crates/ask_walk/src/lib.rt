@@ -1,2 +1,4 @@
 // Questions read from standard input as they come, and answered piece by piece.
+#![tactic(auto)]
+
 pub mod inner;

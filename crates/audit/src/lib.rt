@@ -1,4 +1,6 @@
 // The audit of a report with its netlist and test file.
+#![tactic(auto)]
+
 ghost use Rattle.std.specs.Prelude.{◌≡◌};
 ghost use Rattle.model.specs.Store.{empty_store};
 ghost use Rattle.audit_records.specs.FileRecords.{Ready};

@@ -1,5 +1,5 @@
 -- The test calls with records in order: how many are taken, with the first of them and then the others.
-use Rattle.model.proofs.Prelude.{ℕ, ◌≤◌, ◌+◌, suc, ◌≡◌, ◌∙◌, ap, refl, sym, List, [], ◌∷◌, ◌++◌, length, zero_add, arith}
+use Rattle.model.proofs.Prelude.{ℕ, ◌≤◌, ◌+◌, suc, ◌≡◌, ◌∙◌, ap, refl, sym, List, [], ◌∷◌, ◌++◌, length, zero-add, arith}
 use Rattle.model.specs.Base.{Answer, refused, value, ◌into◌}
 use Rattle.model.specs.Netlist.{Netlist}
 use Rattle.model.specs.Detect.{Class}
@@ -30,7 +30,7 @@ taken-one N c qs (value d) f g h q =
 pub taken-append : (N : Netlist) (c : Class) (rs qs : List (List ℕ)) (ws : List ℕ)
     → taken_of N c (rs ++ qs) ws ≡ taken_then_of N c qs (test_all N c rs ws) (taken_of N c rs ws)
 unfolding taken_of test_all
-taken-append N c [] qs ws = sym (zero_add (taken_of N c qs ws))
+taken-append N c [] qs ws = sym (zero-add (taken_of N c qs ws))
 taken-append N c (r ∷ rs) qs ws =
     taken-one N c qs (test_stage N c r ws) (λ v. taken_of N c (rs ++ qs) v) (λ v. taken_of N c rs v) (λ v. test_all N c rs v) (λ v. taken-append N c rs qs v)
 

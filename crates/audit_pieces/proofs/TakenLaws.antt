@@ -1,5 +1,5 @@
 -- The number of records taken: piece after piece it is that of the whole file.
-use Rattle.model.proofs.Prelude.{ℕ, ◌+◌, ◌/◌, ◌%◌, ◌≡◌, ◌∙◌, ap, refl, sym, ap₂, List, [], ◌∷◌, ◌++◌, append-nil, length, zero_add, div-eq_of_lt}
+use Rattle.model.proofs.Prelude.{ℕ, ◌+◌, ◌/◌, ◌%◌, ◌≡◌, ◌∙◌, ap, refl, sym, ap₂, List, [], ◌∷◌, ◌++◌, append-nil, length, zero-add, div-eq_of_lt}
 use Rattle.model.proofs.Prelude.{arith}
 use Rattle.model.specs.Base.{Answer, refused, value}
 use Rattle.model.specs.Netlist.{Netlist}
@@ -55,7 +55,7 @@ taken-joined N c (p ∷ q ∷ ps) h x k = taken-joined N c (q ∷ ps) h.1 (with_
 -- from a store, and none taken before
 pub taken-whole : (N : Netlist) (c : Class) (ps : List (List ℕ)) → WholeButLast N ps → (ws : List ℕ) → taken_withs N c ps (value ws) 0 ≡ taken_of N c (file_records N (joined ps)) ws
 unfolding taken_with
-taken-whole N c ps h ws = taken-joined N c ps h (value ws) 0 ∙ zero_add (taken_of N c (file_records N (joined ps)) ws)
+taken-whole N c ps h ws = taken-joined N c ps h (value ws) 0 ∙ zero-add (taken_of N c (file_records N (joined ps)) ws)
 
 -- of the values that the pieces return
 pub last_taken : (netlist : List ℕ) (loaded : Loaded) (class : ℕ) (N : Netlist) → read_netlist netlist ≡ value N

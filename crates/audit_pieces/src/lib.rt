@@ -1,6 +1,8 @@
 // The audit with its test file in pieces, so that a file of any length is judged: a beginning, a call for each piece in file order, an end.
 // Each piece but the last is a whole number of records, and all are handed the class of the beginning. A caller keeps the number of bytes so far and the number of the first refusal; once a
 // piece is refused, no other is handed over.
+#![tactic(auto)]
+
 ghost use Rattle.std.specs.Prelude.{◌≡◌, length};
 ghost use Rattle.model.specs.Base.{passes};
 ghost use Rattle.model.specs.Store.{store_words_count};

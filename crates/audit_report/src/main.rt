@@ -2,6 +2,8 @@
 // the current folder; a missing file counts as empty, a missing class file as class 1. Prints the audit's answer, the class that it judged by, its
 // reason as a sentence, and what is false in a report that is refused for its length or its bytes. Where a file can't be read whole it gives no
 // verdict.
+#![tactic(auto)]
+
 mod claims;
 mod explaining;
 

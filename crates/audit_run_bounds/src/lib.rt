@@ -1,5 +1,7 @@
 // How many runs a store can come to have: at most as many as faults were tested, and at most as many as were not and one more. Document 02, ticket 11.
 // What is claimed stands in specs/Bounds, of the definitions and of the values that the calls return.
+#![tactic(auto)]
+
 ghost use Rattle.std.specs.Prelude.{◌≡◌, leb};
 ghost use Rattle.audit_run_bounds.specs.Bounds.{small_total};
 

@@ -1,4 +1,6 @@
 // The names of the nets of .bench text: a table of them, filled in one pass over the text, and the name of a net from the table.
+#![tactic(auto)]
+
 mod filling;
 mod words;
 

@@ -1,4 +1,6 @@
 // The converter from ISCAS .bench text to a netlist file.
+#![tactic(auto)]
+
 mod writing;
 
 ghost use Rattle.std.specs.Prelude.{◌≤◌, length};

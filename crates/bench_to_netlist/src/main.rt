@@ -1,5 +1,7 @@
 // Converts a circuit in .bench text to a netlist file on standard output: `bench_to_netlist [TEXT]`, without a name circuit.bench of the current
 // folder. Of a refused text it writes nothing there, and says on standard error the number, the line and the condition.
+#![tactic(auto)]
+
 ghost use Rattle.std.specs.Prelude.{◌≡◌, length};
 
 use bench_text::{BenchAnswer, NETLIST_BYTES};

@@ -1,6 +1,6 @@
 -- One edge of a block: what the pass over the gates tells of each record.
 use Rattle.model.proofs.Prelude.{ℕ, ◌≤◌, ◌<◌, ◌+◌, ◌*◌, suc, zero, ◌≡◌, ◌∙◌, ap, refl, sym, ap₂, ⊎_elim, ◌&&◌, List, ◌∷◌, length, get_or, drop, take}
-use Rattle.model.proofs.Prelude.{replicate, drop-cons, leb, ltb, zero_add, arith}
+use Rattle.model.proofs.Prelude.{replicate, drop-cons, leb, ltb, zero-add, arith}
 use Rattle.model.specs.Base.{bit, numbers_from}
 use Rattle.model.specs.Netlist.{Netlist, output_net}
 use Rattle.model.specs.Path.{Edge}
@@ -34,7 +34,7 @@ no-entries list h = record { places = h; records = refl; empty = λ t l. zeros-a
 pub input-bits : {N : Netlist} {tests : ℕ → Test} {n inputs : ℕ} {vectors firsts lasts : List ℕ} → inputs ≡ N.inputs → VectorsOf N tests n vectors
     → Transposed vectors 0 n inputs firsts → Transposed vectors 64 n inputs lasts → InputBits tests n inputs firsts lasts
 input-bits {N} {tests} {n} {inputs} {vectors} e v s₁ s₂ = record {
-  first = λ j t h l. s₁.bits j h t l ∙ ap (λ k. bit (get_or vectors k 0) j) (zero_add t) ∙ v.first t j l (omega arith);
+  first = λ j t h l. s₁.bits j h t l ∙ ap (λ k. bit (get_or vectors k 0) j) (zero-add t) ∙ v.first t j l (omega arith);
   last = λ j t h l. s₂.bits j h t l ∙ v.second t j l (omega arith);
 }
 

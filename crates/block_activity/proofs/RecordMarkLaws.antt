@@ -1,5 +1,5 @@
 -- The marks of a block's records, from what the steps promise.
-use Rattle.model.proofs.Prelude.{ℕ, ◌≤◌, ◌<◌, ◌+◌, ◌*◌, ◌≡◌, ◌∙◌, ap, sym, ap₂, false, ◌&&◌, not, and_comm, List, length, get_or, zero_add, arith}
+use Rattle.model.proofs.Prelude.{ℕ, ◌≤◌, ◌<◌, ◌+◌, ◌*◌, ◌≡◌, ◌∙◌, ap, sym, ap₂, false, ◌&&◌, not, and_comm, List, length, get_or, zero-add, arith}
 use Rattle.model.specs.Base.{bit}
 use Rattle.model.specs.Netlist.{Netlist}
 use Rattle.model.specs.Path.{rising, falling}
@@ -26,7 +26,7 @@ shape_of b = record { inputs = b.inputs; nets = b.nets; outputs = b.outputs }
 module _ {vectors upOuts risingLens downOuts fallingLens marks₀ marks₁ marks : List ℕ} {n : ℕ} (few : n ≤ 64) (w₁ : EdgeWritten vectors n 0 upOuts risingLens marks₀ marks₁)
     (w₂ : EdgeWritten vectors n 64 downOuts fallingLens marks₁ marks) (t : ℕ) (h : t < n) where
   edge_kept : get_or marks t 0 ≡ get_or marks₁ (0 + t) 0
-  edge_kept = w₂.others t (λ s l. (λ e. omega arith, λ e. omega arith, λ e. omega arith)) ∙ ap (λ k. get_or marks₁ k 0) (sym (zero_add t))
+  edge_kept = w₂.others t (λ s l. (λ e. omega arith, λ e. omega arith, λ e. omega arith)) ∙ ap (λ k. get_or marks₁ k 0) (sym (zero-add t))
 
   up-outs : get_or marks (up_outs_at + t) 0 ≡ get_or upOuts t 0
   up-outs = w₂.others (up_outs_at + t) (λ s l. (λ e. omega arith, λ e. omega arith, λ e. omega arith)) ∙ w₁.outs_at t h
@@ -36,7 +36,7 @@ module _ {vectors upOuts risingLens downOuts fallingLens marks₀ marks₁ marks
 
   module _ {N : Netlist} {tests : ℕ → Test} (v : VectorsOf N tests n vectors) where
     first-at : (j : ℕ) → j < N.inputs → bit (get_or vectors (0 + t) 0) j ≡ get_or (tests t).v1 j false
-    first-at j l = ap (λ k. bit (get_or vectors k 0) j) (zero_add t) ∙ v.first t j h l
+    first-at j l = ap (λ k. bit (get_or vectors k 0) j) (zero-add t) ∙ v.first t j h l
 
     rise-bits : (j : ℕ) → j < N.inputs → bit (get_or marks t 0) j ≡ has_edge (tests t) rising j
     unfolding has_edge

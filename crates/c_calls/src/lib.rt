@@ -1,5 +1,7 @@
 // The answers of the other calls for C: the code, 0 or the number of the refusal, and the answer words of a call that was taken. Of one that was
 // refused they stay as they were.
+#![tactic(auto)]
+
 ghost use Rattle.std.specs.Prelude.{◌≡◌};
 ghost use Rattle.path_faults.specs.Answers.{model_edge, fault_answer};
 ghost use Rattle.path_to_number.specs.PathNumbers.{number_answer};

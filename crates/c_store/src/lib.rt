@@ -1,5 +1,7 @@
 // The answers of the calls on a store for C: the code, 0 or the number of the refusal, and the answer words of a call that was taken. Of one that was
 // refused they stay as they were.
+#![tactic(auto)]
+
 ghost use Rattle.std.specs.Prelude.{◌≡◌};
 ghost use Rattle.store.specs.Answers.{empty_of, totals_among, held_of};
 ghost use Rattle.store_coverage.specs.TestCall.{tested_of};

@@ -1,5 +1,7 @@
 // The answers of the calls on a tree for C: the code, 0 or the number of the refusal, and the answer words of a call that was taken. Of one that was
 // refused they stay as they were.
+#![tactic(auto)]
+
 ghost use Rattle.std.specs.Prelude.{◌≡◌, [], ◌∷◌};
 ghost use Rattle.std.proofs.lemmas.List.Edits.{sets};
 ghost use Rattle.tree.specs.Answers.{emptied_of, changed_of, search_of, total_in, holds_of};

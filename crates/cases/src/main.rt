@@ -1,6 +1,8 @@
 // Makes the calls that the lines of cases.txt name and compares each answer with the one that its line states. Writes each line whose answer is
 // another, or that is not understood, with its number; the last line has the number of comparisons and of wrong lines. The head of cases.txt says
 // how its lines are written.
+#![tactic(auto)]
+
 mod buffers;
 mod lines;
 mod names;

@@ -2,6 +2,8 @@
 // [svg] [CIRCUIT [TESTS [CLASS]]]`, as a table, or with `svg` as a picture; without names the files of the current folder; a missing file counts as
 // empty, a missing class file as class 1. Where the netlist, the class, the file or a record is refused it prints nothing, and says why on standard
 // error; so where a file can't be read whole. A circuit with a path to an output of more than 63 gates is refused on standard output.
+#![tactic(auto)]
+
 ghost use Rattle.std.specs.Prelude.{◌≤◌};
 
 use length_chart::put_chart;

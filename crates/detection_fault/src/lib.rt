@@ -1,4 +1,6 @@
 // Whether one test detects one fault, by its open pins along the fault's path. There is no store, and no limit on runs.
+#![tactic(auto)]
+
 mod walking;
 
 ghost use Rattle.std.specs.Prelude.{◌≡◌};

@@ -1,4 +1,6 @@
 // Everything that tests of a small block can show: all pairs of vectors applied to an emptied store.
+#![tactic(auto)]
+
 mod pairs;
 
 ghost use Rattle.std.specs.Prelude.{◌≡◌, ◌≤◌};

@@ -2,6 +2,8 @@
 // them, then the number of the faults that no test detects and the first 20 of these in gates: `exhaust_block [CIRCUIT [CLASS]]`, without names the
 // files of the current folder; a missing circuit counts as empty, a missing class file as class 2. A refusal it prints, and says its condition on
 // standard error. Where a file can't be read whole it prints nothing.
+#![tactic(auto)]
+
 use exhaust::ExhaustAnswer;
 use exhaust_text::put_block;
 use exhaust_undetected_text::fault_line;

@@ -1,6 +1,6 @@
 -- Pairs of vectors in words: how they are written, one V2 more at a time, and the tests that they are.
 use Rattle.model.proofs.Prelude.{ℕ, ◌≤◌, ◌<◌, ◌+◌, suc, ◌^◌, zero, ◌≡◌, ◌∙◌, ap, refl, sym, subst, ap₂, List, [], ◌∷◌, ◌++◌, map, append-nil, length}
-use Rattle.model.proofs.Prelude.{set, zero_add, suc-add, arith, needs, ne_eqb, eq-eqb}
+use Rattle.model.proofs.Prelude.{set, zero-add, suc-add, arith, needs, ne_eqb, eq-eqb}
 use Rattle.model.specs.Base.{numbers_from, value, checks}
 use Rattle.model.specs.Netlist.{Netlist}
 use Rattle.model.specs.Read.{test_rules}
@@ -21,7 +21,7 @@ map-one f (suc n) k =
 module _ (first second pairs : ℕ) (vectors : List ℕ) (held : held_pairs vectors pairs ≡ pairs_with first 0 second) where
   next-is : (last : List (List ℕ)) → pairs_with first second 1 ≡ last → held_pairs vectors pairs ++ last ≡ pairs_with first 0 (second + 1)
   next-is last e =
-      ap₂ (λ (x y : List (List ℕ)). x ++ y) held (sym e) ∙ ap (λ (k : ℕ). pairs_with first 0 second ++ pairs_with first k 1) (sym (zero_add second))
+      ap₂ (λ (x y : List (List ℕ)). x ++ y) held (sym e) ∙ ap (λ (k : ℕ). pairs_with first 0 second ++ pairs_with first k 1) (sym (zero-add second))
       ∙ sym (with-one second first 0)
 
   held-equal : second ≡ first → held_pairs vectors pairs ≡ pairs_with first 0 (second + 1)
@@ -41,7 +41,7 @@ module _ (first second pairs : ℕ) (vectors : List ℕ) (held : held_pairs vect
     unfolding held_pairs pairs_with
     held-other d =
         let last : held_pair after (0 + pairs) ≡ pair_record first second =
-        ap (held_pair after) (zero_add pairs) ∙ ap₂ pair_record (new-first vectors pairs first second room few) (new-second vectors pairs first second room few) in
+        ap (held_pair after) (zero-add pairs) ∙ ap₂ pair_record (new-first vectors pairs first second room few) (new-second vectors pairs first second room few) in
         map-one (held_pair after) pairs 0
         ∙ ap₂ (λ (x : List (List ℕ)) (y : List ℕ). x ++ (y ∷ [])) (map_below (held_pair after) (held_pair vectors) pairs 0 before_same) last
         ∙ next-is (pair_record first second ∷ []) (with-other first second 0 (ne_eqb first second (λ e. d (sym e))))
@@ -91,4 +91,4 @@ module _ (N : Netlist) (low : 1 ≤ N.inputs) (high : N.inputs ≤ 6) (first : �
   held-legal vectors n e t h =
       let all = legal-with N low high (2 ^ N.inputs) first 0 below (omega arith) in
       let p = legal-at N (held_pair vectors) n 0 t (subst (AllLegal N) (sym e) all) h in
-      →checks (test_rules N (held_pair vectors t)) (subst (λ x. AllPass (test_rules N (held_pair vectors x))) (zero_add t) p)
+      →checks (test_rules N (held_pair vectors t)) (subst (λ x. AllPass (test_rules N (held_pair vectors x))) (zero-add t) p)

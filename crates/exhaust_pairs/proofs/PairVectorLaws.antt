@@ -1,7 +1,7 @@
 -- A vector of a few inputs as a number, input 0 as its low bit: a pair of vectors is the test of the record of its numbers, and two different
 -- numbers make a legal record.
 use Rattle.model.proofs.Prelude.{ℕ, ◌≤◌, ◌<◌, ◌+◌, ◌-◌, ◌*◌, suc, ◌^◌, zero, ◌/◌, ◌%◌, ◌≡◌, ◌∙◌, ap, refl, sym, subst, ap₂, ⊎_elim, true, Bool, false}
-use Rattle.model.proofs.Prelude.{◌||◌, List, [], ◌∷◌, map, length, get_or, drop, length-map, T, eqb, zero_add, arith}
+use Rattle.model.proofs.Prelude.{◌||◌, List, [], ◌∷◌, map, length, get_or, drop, length-map, T, eqb, zero-add, arith}
 use native.Mathlib.Nat.{pow-succ', div-one, div-div-eq-div-mul}
 use Rattle.model.specs.Base.{all_of, numbers_from, bit}
 use Rattle.model.specs.Netlist.{Netlist}
@@ -96,7 +96,7 @@ module _ (N : Netlist) (low : 1 ≤ N.inputs) (high : N.inputs ≤ 6) where
     bit_at : (x : ℕ) → get_or (map (bit x) (numbers_from 0 N.inputs)) j false ≡ bit x j
     bit_at x =
         get_d_map-in (bit x) (numbers_from 0 N.inputs) j 0 false (rw (length-numbers_from 0 N.inputs) h)
-        ∙ ap (bit x) (numbers_from-at N.inputs 0 j h ∙ zero_add j)
+        ∙ ap (bit x) (numbers_from-at N.inputs 0 j h ∙ zero-add j)
 
     pub first_bit : bit a j ≡ get_or (test_of N c (pair_record a b)).v1 j false
     unfolding test_of

@@ -1,5 +1,7 @@
 // What all pairs of a small block show: runs and totals in the listing's lines, the number of the faults that no test detects, and the first of these. Text
 // and list are promised by equations.
+#![tactic(auto)]
+
 mod lines;
 
 ghost use Rattle.io.specs.Counts.{IsPrefixLen};

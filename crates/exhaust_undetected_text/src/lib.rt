@@ -1,4 +1,6 @@
 // What is said of the faults that a store does not hold: their number, and each by its number, edge and path. Each line's text is promised by an equation.
+#![tactic(auto)]
+
 ghost use Rattle.std.specs.Prelude.{◌≡◌};
 ghost use Rattle.text_line.specs.Lines.{text_of};
 ghost use Rattle.exhaust_undetected_text.specs.UndetectedText.{count_text, fault_text};

@@ -1,4 +1,6 @@
 // The calls of the papers for C: each returns 0, or the number of the refusal; a refused call leaves the answer words as they were.
+#![tactic(auto)]
+
 pub mod number_calls;
 pub mod tree_calls;
 

@@ -1,5 +1,7 @@
 // Coverage by length as a picture in SVG: for each length that has a path two bars, the rising and the falling faults held, in an outline of all. The
 // text is promised by an equation.
+#![tactic(auto)]
+
 mod bars;
 mod frame;
 mod measures;

@@ -1,4 +1,6 @@
 // Coverage by length: for each edge and each length of 0 to 63 gates how many paths there are, and how many of their faults a store holds.
+#![tactic(auto)]
+
 mod counting;
 pub mod inner;
 

@@ -1,5 +1,7 @@
 // Coverage by length as a table: a line for each length that has a path, with the paths, the faults held of each edge and the percent of both, then
 // the sums. The text is promised by an equation.
+#![tactic(auto)]
+
 mod columns;
 mod rows;
 mod totals;

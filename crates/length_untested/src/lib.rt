@@ -1,4 +1,6 @@
 // The longest untested paths of an edge, one after the other.
+#![tactic(auto)]
+
 mod downward;
 
 ghost use Rattle.std.specs.Prelude.{◌≡◌};

@@ -2,6 +2,8 @@
 // [CIRCUIT [TESTS [CLASS]]]`, without names those of the current folder; a missing file counts as empty, a missing class file as class 2. What it
 // writes is made by `listing_head` and `listing_walk`, each part with a promise. Where the netlist or the class file can't be read whole it writes
 // nothing, and where the test file can't, neither runs nor totals.
+#![tactic(auto)]
+
 ghost use Rattle.std.specs.Prelude.{◌≡◌, ◌≤◌, length};
 ghost use Rattle.model.specs.Store.{store_words_count};
 ghost use Rattle.model.specs.Calls.{work_words_count};

@@ -1,4 +1,6 @@
 // A test load that anyone can repeat: vectors drawn by a generator of 32 bits, each with a rising and a falling test for every input.
+#![tactic(auto)]
+
 pub mod inner;
 
 ghost use Rattle.std.specs.Prelude.{◌≡◌};

@@ -1,2 +1,4 @@
 // A test record written, for our own crates.
+#![tactic(auto)]
+
 pub mod inner;

@@ -1,4 +1,6 @@
 // What load.bin asks for.
+#![tactic(auto)]
+
 ghost use Rattle.std.specs.Prelude.{◌≡◌, ◌+◌, ◌<◌, length};
 ghost use Rattle.model.specs.Base.{field};
 ghost use Rattle.load_request.specs.Requests.{request_of};

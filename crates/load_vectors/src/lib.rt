@@ -1,4 +1,6 @@
 // Vectors drawn by a generator of 32 bits; inner: one vector drawn.
+#![tactic(auto)]
+
 pub mod inner;
 
 ghost use Rattle.std.specs.Prelude.{◌≡◌};

@@ -1,4 +1,6 @@
 // The walk over a load, for the program make_load: what load.bin starts, and the records piece by piece.
+#![tactic(auto)]
+
 pub mod inner;
 
 ghost use Rattle.std.specs.Prelude.{◌≡◌};

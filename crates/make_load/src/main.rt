@@ -1,5 +1,7 @@
 // Writes the test records of a load to standard output: `make_load [REQUEST]`, without a name load.bin of the current folder. A request of another
 // length than ten bytes, or with a number of inputs outside 1 to 64, writes nothing, and standard error says why; so where it can't be read whole.
+#![tactic(auto)]
+
 ghost use Rattle.std.specs.Prelude.{◌≤◌, length};
 ghost use Rattle.load_walk.specs.LoadWalk.{Walked};
 

@@ -1,6 +1,6 @@
 -- Lists: tests of all and of some of their elements, elements by place, parts, and consecutive numbers.
 use Rattle.model.proofs.Prelude.{ℕ, ◌≤◌, ◌<◌, ◌+◌, suc, zero, ◌≡◌, ◌∙◌, ap, refl, sym, subst, ⊎_elim, true, Bool, ◌||◌, List, [], ◌∷◌, ◌++◌}
-use Rattle.model.proofs.Prelude.{map, length, get_or, drop, take, replicate, T, not-suc-le-zero, le_of_suc-le-suc, zero_add, suc-add, arith}
+use Rattle.model.proofs.Prelude.{map, length, get_or, drop, take, replicate, T, not-suc-le-zero, le_of_suc-le-suc, zero-add, suc-add, arith}
 use lib.Seq.{take-nil}
 use Rattle.model.specs.Base.{all_of, any_of, numbers_from}
 use Rattle.model.proofs.BoolLaws.{and_left, and_right, both, or_cases, or_left, or_right}
@@ -31,7 +31,7 @@ any_map f g [] = refl
 any_map f g (x ∷ xs) = ap (λ b. f (g x) || b) (any_map f g xs)
 
 pub drop-take : (n m : ℕ) (l : List ℕ) → drop n (take (n + m) l) ≡ take m (drop n l)
-drop-take zero m l = ap (λ (k : ℕ). take k l) (zero_add m)
+drop-take zero m l = ap (λ (k : ℕ). take k l) (zero-add m)
 drop-take (suc n) m [] = ap (drop (suc n)) (take-nil {A = ℕ} (suc n + m)) ∙ sym (take-nil {A = ℕ} m)
 drop-take (suc n) m (x ∷ xs) = ap (λ (k : ℕ). drop (suc n) (take k (x ∷ xs))) (suc-add n m) ∙ drop-take n m xs
 

@@ -1,7 +1,7 @@
 -- A list built net by net: what it holds at each net.
 use Rattle.model.proofs.Prelude.{ℕ, ◌≤◌, ◌<◌, ◌+◌, ◌-◌, suc, zero, ◌≡◌, ◌∙◌, ap, refl, sym, subst, ap₂, true, Bool, false, List, [], ◌∷◌, ◌++◌}
 use Rattle.model.proofs.Prelude.{map, length, get_or, length-append, replicate, length-map, length-replicate, get_or-replicate, List·getD-append}
-use Rattle.model.proofs.Prelude.{T, ltb, ltb→lt, lt→ltb, not-suc-le-zero, le_of_suc-le-suc, zero_add, add-zero, suc-add, arith, lt-leb}
+use Rattle.model.proofs.Prelude.{T, ltb, ltb→lt, lt→ltb, not-suc-le-zero, le_of_suc-le-suc, zero-add, add-zero, suc-add, arith, lt-leb}
 use native.Mathlib.Nat.{add-suc}
 use lib.Seq.{get_or-append_seam}
 use Rattle.model.specs.Base.{all_of, sum_of, numbers_from}
@@ -98,7 +98,7 @@ module _ (N : Netlist) (v1 v2 : List Bool) where
   evaluate-input net i =
       kept (λ g ns. gate_evaluation g.kind ns) no_evaluation N.gates input_nets net (omega (arith, length-inputs))
       ∙ get_d_map-in (input_evaluation v1 v2) (numbers_from 0 N.inputs) net 0 no_evaluation (omega (arith, length-numbers_from 0 N.inputs))
-      ∙ ap (input_evaluation v1 v2) (numbers_from-at N.inputs 0 net i ∙ zero_add net)
+      ∙ ap (input_evaluation v1 v2) (numbers_from-at N.inputs 0 net i ∙ zero-add net)
 
   pub evaluate-gate : T (lower N.inputs N.gates) → (net : ℕ) → N.inputs ≤ net → net < nets N
       → get_or (evaluate N v1 v2) net no_evaluation ≡ gate_evaluation (gate_of N net).kind (pin_evaluations N v1 v2 net)

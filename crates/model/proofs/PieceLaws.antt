@@ -1,6 +1,6 @@
 -- A test file in pieces of whole records: the test calls with one piece after the other are those with the records of the whole file.
 use Rattle.model.proofs.Prelude.{ℕ, ◌≤◌, ◌<◌, ◌+◌, ◌*◌, suc, zero, ◌/◌, ◌%◌, ◌≡◌, ◌∙◌, ap, refl, ap₂, List, [], ◌∷◌, ◌++◌, length, drop, take}
-use Rattle.model.proofs.Prelude.{length-append, length-drop, zero_add, suc-mul, suc-add, arith}
+use Rattle.model.proofs.Prelude.{length-append, length-drop, zero-add, suc-mul, suc-add, arith}
 use native.Mathlib.Nat.{mul-add-div_right, mod-add-div, mul_comm}
 use lib.Seq.{take-append-le, drop-append-le}
 use Rattle.model.specs.Base.{Answer, refused, value, ◌into◌}
@@ -12,7 +12,7 @@ use Rattle.model.specs.Report.{records, file_records, test_all}
 
 -- the records of a part of a file, then those of the rest
 records-append : (len m n : ℕ) (a b : List ℕ) → length a ≡ m * len → records len (m + n) (a ++ b) ≡ records len m a ++ records len n b
-records-append len zero n [] b q = ap (λ (k : ℕ). records len k b) (zero_add n)
+records-append len zero n [] b q = ap (λ (k : ℕ). records len k b) (zero-add n)
 records-append len zero n (x ∷ a) b q = absurd (omega (arith, q))
 records-append len (suc m) n a b q =
     let l : length a ≡ m * len + len = q ∙ suc-mul m len in

@@ -15,7 +15,7 @@ pub use lib.ListN.{get_or-replicate, take-append-drop, get_or-append as List·ge
 pub use lib.Seq.{sets, length-take-le, get_or-set_same, drop-drop, get_or-set_other, drop-cons, take_all, get_or-drop, length-sets, take_at, sets-eq}
 pub use lib.Seq.{ext_get_or, drop_at, set_at, drop-set-lt}
 pub use lib.Dec.{leb, T, eqb, leb→le, ltb, ltb→lt, eqb→eq, le→leb, lt→ltb, T_not, eqb_refl}
-pub use native.Mathlib.Nat.{not-suc-le-zero, le_of_suc-le-suc, zero_add, add-zero, div-eq_of_lt, mod-lt, suc-mul, pow-suc, le_trans, le_refl}
+pub use native.Mathlib.Nat.{not-suc-le-zero, le_of_suc-le-suc, zero-add, add-zero, div-eq_of_lt, mod-lt, suc-mul, pow-suc, le_trans, le_refl}
 pub use native.Mathlib.Nat.{mul-le-mul_right, suc-add, lt_of_lt_of_le, mod-eq_of_lt, min-eq_left, min-eq_right}
 pub use native.Mathlib.Numerals.{add-one, sub-one}
 pub use native.Mathlib.Omega.{arith}

@@ -40,6 +40,7 @@ unfolding in_runs
 
 -- the members of two lists in a row
 pub in_left : (xs ys : List Run) (j : ℕ) → In xs j → In (xs ++ ys) j
+in_left [] ys j x' = elim x' [ ]
 in_left (x ∷ xs) ys j (inl t) = inl t
 in_left (x ∷ xs) ys j (inr t) = inr (in_left xs ys j t)
 
@@ -54,10 +55,12 @@ in_append (x ∷ xs) ys j (inr t) = ⊎_elim (λ u. inl (inr u)) (λ u. inr u) (
 
 -- members lie between the ends
 pub in_low : (top least : ℕ) (rs : List Run) (j : ℕ) → Separated top least rs → In rs j → least ≤ j
+in_low top least [] j a x'' = elim x'' [ ]
 in_low top least (r ∷ rs) j a (inl t) = omega arith
 in_low top least (r ∷ rs) j a (inr t) = omega (arith, in_low top (r.high + 2) rs j a.3 t)
 
 pub in_high : (top least : ℕ) (rs : List Run) (j : ℕ) → Separated top least rs → In rs j → j ≤ top
+in_high top least [] j a x'' = elim x'' [ ]
 in_high top least (r ∷ rs) j a (inl t) = omega arith
 in_high top least (r ∷ rs) j a (inr t) = in_high top (r.high + 2) rs j a.3 t
 

@@ -1,4 +1,6 @@
 // What the crates share: the papers' refusals, and the sizes that they name. What the calls mean stands in specs/.
+#![tactic(auto)]
+
 ghost use Rattle.std.specs.Prelude.{◌≡◌};
 ghost use Rattle.model.specs.Read.{within};
 

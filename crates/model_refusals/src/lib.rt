@@ -1,4 +1,6 @@
 // The papers' number of each refusal: one table, in two functions.
+#![tactic(auto)]
+
 ghost use Rattle.std.specs.Prelude.{◌≡◌, T, leb};
 ghost use Rattle.model.specs.Refusals.{refusal_number_of};
 

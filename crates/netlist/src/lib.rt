@@ -1,4 +1,6 @@
 // The netlist reader: a survey of a netlist file, or the reason for refusing it.
+#![tactic(auto)]
+
 mod header;
 pub mod inner;
 

@@ -1,4 +1,6 @@
 // How many pins a gate of a kind may have: asked by the readers of netlist files and of .bench text.
+#![tactic(auto)]
+
 ghost use Rattle.std.specs.Prelude.{◌≡◌};
 ghost use Rattle.model.specs.Read.{pins_fit};
 

@@ -1,4 +1,6 @@
 // Numbers of paths and of faults: they count unlike things, and only these functions lead from one to the other.
+#![tactic(auto)]
+
 ghost use Rattle.std.specs.Prelude.{◌≡◌};
 ghost use Rattle.model.specs.Path.{path_of_fault, edge_of_fault};
 ghost use Rattle.path_faults.specs.Answers.{model_edge, fault_call_of, fault_answer};

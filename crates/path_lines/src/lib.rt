@@ -1,4 +1,6 @@
 // The text of a path: its output, then each gate on the way back to its input, with the names of the nets. It is promised by an equation.
+#![tactic(auto)]
+
 mod nets;
 mod walk;
 

@@ -1,4 +1,6 @@
 // The path of a number.
+#![tactic(auto)]
+
 mod writing;
 
 ghost use Rattle.path_of_number.specs.Answers.{PathWritten};

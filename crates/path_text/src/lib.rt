@@ -1,4 +1,6 @@
 // A path in gates, as the programs print it: its output, then each gate on the way back to its input. The text is that of path_lines.
+#![tactic(auto)]
+
 ghost use Rattle.std.specs.Prelude.{◌≡◌, length};
 
 use path_faults::PathNo;

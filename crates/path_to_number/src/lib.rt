@@ -1,4 +1,6 @@
 // The number of a path.
+#![tactic(auto)]
+
 mod reading;
 
 ghost use Rattle.std.specs.Prelude.{◌≡◌};

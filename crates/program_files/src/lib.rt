@@ -1,4 +1,6 @@
 // What the programs share on the command line: arguments, files by name, the class of the tests, and what they say on standard error.
+#![tactic(auto)]
+
 mod arguments;
 mod class_file;
 mod files;

@@ -1,5 +1,7 @@
 // What the programs share: plain lines on a descriptor, the sentence of a refusal, and the version. What is written is made by functions that promise it by an
 // equation; a function that writes returns nothing, and no contract can say what the system takes.
+#![tactic(auto)]
+
 mod conditions;
 mod version;
 

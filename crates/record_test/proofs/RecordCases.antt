@@ -1,6 +1,6 @@
 -- A test record: its checks, its vectors as words, and the edges of its inputs.
 use Rattle.model.proofs.Prelude.{ℕ, ◌≤◌, ◌<◌, ◌+◌, ◌-◌, ◌*◌, suc, ◌^◌, ◌/◌, ◌%◌, ◌≡◌, ◌∙◌, ap, refl, sym, ap₂, true, Bool, false, ◌&&◌, not, List, []}
-use Rattle.model.proofs.Prelude.{◌∷◌, length, get_or, drop, take, length-drop, length-take-le, drop-cons, get_or-drop, leb, T, eqb, zero_add, arith}
+use Rattle.model.proofs.Prelude.{◌∷◌, length, get_or, drop, take, length-drop, length-take-le, drop-cons, get_or-drop, leb, T, eqb, zero-add, arith}
 use Rattle.model.proofs.Prelude.{needs, ne_eqb, eq-eqb, not-true, not-false, le-leb}
 use lib.Seq.{get_or-take}
 use Rattle.model.specs.Base.{Answer, refused, value, checks, bit, from_little_endian, numbers_from}
@@ -169,7 +169,7 @@ module _ (inputs : ℕ) (test : List ℕ) (bytes : ℕ) (eb : bytes ≡ vector_b
 vector-at : (i : ℕ) (bs : List ℕ) (j : ℕ) → j < i → get_or (vector i bs) j false ≡ input_bit bs j
 vector-at i bs j h =
     get_d_map-in (input_bit bs) (numbers_from 0 i) j 0 false (omega (arith, length-numbers_from 0 i))
-    ∙ ap (input_bit bs) (numbers_from-at i 0 j h ∙ zero_add j)
+    ∙ ap (input_bit bs) (numbers_from-at i 0 j h ∙ zero-add j)
 
 -- a vector that is read as a word from the part that begins at `at`
 part-bits : (test : List ℕ) (at inputs bytes w : ℕ) → ((i : ℕ) → get_or test i 0 < 256) → bytes ≡ vector_bytes_of inputs → at + bytes ≤ length test

@@ -1,4 +1,6 @@
 // Reports of the tested faults: the writer; inner: a report compared with the one that the writer gives.
+#![tactic(auto)]
+
 pub mod inner;
 mod writing;
 

@@ -1,5 +1,7 @@
 // What is said of a refused report, a line each: a field that is false, a run that is out of order, numbers that are claimed and not detected or
 // detected and not claimed, and how many lines are left out. Each line's text is promised by an equation.
+#![tactic(auto)]
+
 ghost use Rattle.std.specs.Prelude.{◌≡◌};
 ghost use Rattle.text_line.specs.Lines.{text_of};
 ghost use Rattle.report_claim_text.specs.Claims.{claim_text, field_text, faults_text, order_text, more_text, room_beside_of, shown_of};

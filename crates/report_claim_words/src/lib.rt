@@ -1,4 +1,6 @@
 // The words of the lines on a refused report: each puts its text at the end of a line, promised by an equation.
+#![tactic(auto)]
+
 ghost use Rattle.std.specs.Prelude.{◌≡◌};
 ghost use Rattle.path_faults.specs.Answers.{model_edge};
 ghost use Rattle.text_line.specs.Lines.{text_of, on_line};

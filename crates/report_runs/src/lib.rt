@@ -1,4 +1,6 @@
 // The fields and the runs of a report's bytes, and whether the runs ascend. Runs stand in bytes, 16 each, low and high.
+#![tactic(auto)]
+
 pub mod inner;
 
 ghost use Rattle.std.specs.Prelude.{◌≡◌, ◌&&◌, leb};

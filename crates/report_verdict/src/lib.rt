@@ -1,4 +1,6 @@
 // The verdict of an audit as a line of text: the first line that `audit_report` prints.
+#![tactic(auto)]
+
 ghost use Rattle.std.specs.Prelude.{◌≡◌};
 ghost use Rattle.model.specs.Refusals.{refusal_number_of};
 ghost use Rattle.audit_judging.specs.FileJudging.{audited_of};

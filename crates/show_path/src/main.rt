@@ -1,5 +1,7 @@
 // Prints the path of a number, its output and each gate on the way back to the input: `show_path NUMBER [CIRCUIT]`, the netlist circuit.nl of the
 // current folder if none is named. A circuit whose name ends in .bench is .bench text, and its nets are printed with their names. What is wrong with the number it says on standard error, too.
+#![tactic(auto)]
+
 ghost use Rattle.std.specs.Prelude.{◌≡◌, length};
 
 use libc::{STDERR_FILENO, STDOUT_FILENO};

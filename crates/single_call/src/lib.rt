@@ -1,4 +1,6 @@
 // The test call: one record on a store.
+#![tactic(auto)]
+
 ghost use Rattle.std.specs.Prelude.{◌≡◌, ◌∷◌, ◌≤◌, length};
 ghost use Rattle.model.specs.Base.{checks};
 ghost use Rattle.model.specs.Netlist.{Netlist, path_total};

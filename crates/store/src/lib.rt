@@ -1,4 +1,6 @@
 // The calls on a store: emptying it, its totals, and whether it holds a fault.
+#![tactic(auto)]
+
 mod asking;
 
 ghost use Rattle.std.specs.Prelude.{◌≡◌};

@@ -1,4 +1,6 @@
 // What a test adds to a store: the detected runs of each edge joined to the store's, both edges written, the faults counted.
+#![tactic(auto)]
+
 pub mod inner;
 
 use model::Refusal;

@@ -48,10 +48,10 @@ unfolding zero_runs
 zero_words zero = refl
 zero_words (suc k) = let e : 2 * suc k ≡ suc (suc (2 * k)) = omega arith in rw e (ap (λ (x : List ℕ). 0 ∷ 0 ∷ x) (zero_words k))
 
-zero_add : (k n : ℕ) → zero_runs k ++ zero_runs n ≡ zero_runs (k + n)
+zero-add : (k n : ℕ) → zero_runs k ++ zero_runs n ≡ zero_runs (k + n)
 unfolding zero_runs
-zero_add zero n = let e : zero + n ≡ n = omega arith in rw e refl
-zero_add (suc k) n = let e : suc k + n ≡ suc (k + n) = omega arith in rw e (ap (λ (x : List Run). run 0 0 ∷ x) (zero_add k n))
+zero-add zero n = let e : zero + n ≡ n = omega arith in rw e refl
+zero-add (suc k) n = let e : suc k + n ≡ suc (k + n) = omega arith in rw e (ap (λ (x : List Run). run 0 0 ∷ x) (zero-add k n))
 
 zero_runs_lem : (ws : List ℕ) (k i : ℕ) → ZeroWords ws (2 * i) (2 * (i + k)) → runs_in_words ws i k ≡ zero_runs k
 unfolding zero_runs
@@ -111,7 +111,7 @@ module _ (ws : List ℕ) (first held : ℕ) (z : ZeroWords ws (2 * (first + held
       ∙ ap (λ (x : List ℕ). write_runs_of x (first + (length rs + k)) (zero_runs n)) w
       ∙ write_append ws first (first + (length rs + k)) (rs ++ zero_runs k) (zero_runs n) (omega (arith, l))
       ∙ ap (λ (x : List Run). write_runs_of ws first x)
-      (append_assoc rs (zero_runs k) (zero_runs n) ∙ ap (λ (x : List Run). rs ++ x) (zero_add k n ∙ ap zero_runs (omega arith)))
+      (append_assoc rs (zero_runs k) (zero_runs n) ∙ ap (λ (x : List Run). rs ++ x) (zero-add k n ∙ ap zero_runs (omega arith)))
 
 pub length-replaced : (from to : ℕ) (new old : List Run) → from ≤ length old → length (replaced from to new old) ≡ from + length new + (length old - to)
 length-replaced from to new old h =

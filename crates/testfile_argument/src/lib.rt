@@ -1,5 +1,7 @@
 // The tests of the file that an argument names: their report, and the store that they leave. Where there is no report, standard error says why: the file
 // can't be read whole, or the netlist, the class, the file or a record is refused.
+#![tactic(auto)]
+
 mod refusing;
 
 ghost use Rattle.std.specs.Prelude.{◌≡◌, length};

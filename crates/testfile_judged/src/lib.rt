@@ -1,4 +1,6 @@
 // A test file of any length, read from a descriptor, and audited or reported.
+#![tactic(auto)]
+
 mod writing;
 
 ghost use Rattle.io.specs.Counts.{IsPrefixLen};

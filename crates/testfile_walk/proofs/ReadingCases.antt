@@ -1,6 +1,6 @@
 -- The walk over a file that is read piece by piece: its start, one piece more, its ends.
 use Rattle.model.proofs.Prelude.{ℕ, ◌≤◌, ◌<◌, ◌+◌, ◌*◌, ◌%◌, ◌≡◌, ◌∙◌, ap, refl, sym, ap₂, Bool, List, [], ◌++◌, length, drop, take, length-take-le}
-use Rattle.model.proofs.Prelude.{zero_add, arith, needs}
+use Rattle.model.proofs.Prelude.{zero-add, arith, needs}
 use Rattle.model.specs.Base.{Answer, value}
 use Rattle.model.specs.Netlist.{Netlist}
 use Rattle.model.specs.Detect.{Class}
@@ -32,7 +32,7 @@ store-with N c (stage.Refused w) piece ws e = e
 -- the number of records taken from an empty store, and none before
 taken-from : (N : Netlist) (c : Class) (test_file : List ℕ) → taken_with N c test_file (value empty_store) 0 ≡ taken_of N c (file_records N test_file) empty_store
 unfolding taken_with
-taken-from N c test_file = zero_add (taken_of N c (file_records N test_file) empty_store)
+taken-from N c test_file = zero-add (taken_of N c (file_records N test_file) empty_store)
 
 records-are : (N : Netlist) (c : Class) (test_file : List ℕ) → with_piece N c test_file (value empty_store) ≡ records_taken N c test_file
 unfolding with_piece records_taken

@@ -1,4 +1,6 @@
 // Lines of text and decimal numbers: what a program prints is put together here, each step with a promise, before it is written.
+#![tactic(auto)]
+
 pub mod inner;
 
 ghost use Rattle.std.specs.Prelude.{◌≡◌, [], ◌≤◌, min};

@@ -1,4 +1,6 @@
 // The share of the paths that a number is, as text, with one decimal: each puts its text at the end of a line, promised by an equation.
+#![tactic(auto)]
+
 pub mod inner;
 
 ghost use Rattle.std.specs.Prelude.{◌≡◌, ◌&&◌, ltb, leb};

@@ -1,4 +1,6 @@
 // The interval 2-3 tree of path numbers of one edge, over lent words.
+#![tactic(auto)]
+
 mod asking;
 mod each;
 pub mod inner;

@@ -1,4 +1,6 @@
 // The runs of a store as trees, one for each edge.
+#![tactic(auto)]
+
 mod filling;
 
 ghost use Rattle.tree_filling.specs.TreesOfStore.{FillTrue};

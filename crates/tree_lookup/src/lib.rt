@@ -1,2 +1,4 @@
 // Runs found in the words of an interval 2-3 tree, for our own crates only.
+#![tactic(auto)]
+
 pub mod inner;

@@ -2,6 +2,8 @@
 // `view_outputs [CIRCUIT [TESTS [CLASS [PLACES]]]]`, without names the files of the current folder; a missing file counts as empty, a missing class file
 // as class 1. The places of the outputs are decimal, one a line. Where a line is none, or the netlist, the class, the file or a record is refused, it
 // prints nothing, and says why on standard error; so where a file can't be read whole. A list of places that is none is refused on standard output.
+#![tactic(auto)]
+
 use libc::{STDERR_FILENO, STDOUT_FILENO};
 use listing_text::inner::OUT_BYTES;
 use model::{Refusal, STORE_WORDS};

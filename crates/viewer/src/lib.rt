@@ -1,4 +1,6 @@
 // What a viewer, a list of output places, is answered of a store: totals, runs and single questions for the paths that end at his outputs.
+#![tactic(auto)]
+
 mod answering;
 mod looking;
 

@@ -1,4 +1,6 @@
 // Output places from text, one a line: the list of places of a viewer.
+#![tactic(auto)]
+
 mod reading;
 
 ghost use Rattle.std.specs.Prelude.{◌≡◌};

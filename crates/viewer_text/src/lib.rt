@@ -1,4 +1,6 @@
 // What a viewer is shown of a store: the runs and the totals for his outputs, in the listing's lines. The text is promised by an equation.
+#![tactic(auto)]
+
 mod lines;
 
 ghost use Rattle.std.specs.Prelude.{◌≡◌};

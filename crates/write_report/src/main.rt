@@ -2,6 +2,8 @@
 // those of the current folder; a missing file counts as empty, a missing class file as class 1. Where the netlist, the class, the file or a record is
 // refused it writes no report, and says why on standard error;
 // so where a file can't be read whole.
+#![tactic(auto)]
+
 use libc::{STDERR_FILENO, STDOUT_FILENO};
 use model::{REPORT_BYTES, STORE_WORDS};
 use program_files::{is_argument, load_argument, read_class};
