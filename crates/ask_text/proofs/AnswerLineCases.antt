@@ -1,5 +1,5 @@
 -- The cases of an answer's line, as it is put into a buffer part after part.
-use Rattle.model.proofs.Prelude.{ℕ, ◌≤◌, ◌+◌, ◌*◌, ◌≡◌, ◌∙◌, ap, sym, true, Bool, false, not, List, [], ◌++◌, length, sets, arith, needs}
+use Rattle.model.proofs.Prelude.{ℕ, ◌≤◌, ◌+◌, ◌*◌, ◌≡◌, ◌∙◌, ap, sym, true, Bool, false, not, List, [], ◌++◌, length, sets, arith, rules}
 use Rattle.model.specs.Base.{Answer, refused}
 use Rattle.model.specs.Read.{within}
 use Rattle.text_line.specs.Decimal.{decimal_text}
@@ -57,4 +57,4 @@ module _ (ask : ℕ → Answer Asked) (out out' : List ℕ) (at r place : ℕ) (
   unfolding answer_line
   line-number n e p = written_as (ap (answer_line ask place) (sym e)) p
 
-pub ruleset line-cases = (line-nothing, line-wrong, line-number, needs)
+pub ruleset line-cases = (line-nothing, line-wrong, line-number, rules)

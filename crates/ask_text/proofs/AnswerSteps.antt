@@ -1,6 +1,6 @@
 -- The steps of the answers to a piece: one byte, and the bytes so far.
 use Rattle.model.proofs.Prelude.{ℕ, ◌≤◌, ◌<◌, ◌+◌, ◌*◌, ◌≡◌, ◌∙◌, ap, refl, sym, List, [], ◌∷◌, ◌++◌, append_assoc, append-nil, length, get_or, drop}
-use Rattle.model.proofs.Prelude.{drop_of_length-le, drop-cons, add-one, arith, needs, ne_eqb, eq-eqb}
+use Rattle.model.proofs.Prelude.{drop_of_length-le, drop-cons, add-one, arith, rules, ne_eqb, eq-eqb}
 use Rattle.model.specs.Base.{Answer}
 use Rattle.text_buffer.specs.Written.{Written}
 use Rattle.text_buffer.proofs.WrittenLaws.{none_written, then-written, written_as, written-length}
@@ -155,4 +155,4 @@ module _ (ask : ℕ → Answer Asked) (out out' : List ℕ) (at r place : ℕ) (
   unfolding last_text
   last-wrong e p = written_as (ap (last_text ask place) (sym e)) p.0
 
-pub ruleset last-cases = (last-nothing, last-number, last-wrong, needs)
+pub ruleset last-cases = (last-nothing, last-number, last-wrong, rules)

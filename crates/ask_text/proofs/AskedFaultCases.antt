@@ -1,5 +1,5 @@
 -- The cases of asking for a fault: whether its number is one, and what the tree of its edge answers.
-use Rattle.model.proofs.Prelude.{ℕ, ◌≤◌, ◌<◌, ◌*◌, ◌≡◌, ◌∙◌, ap, refl, sym, true, Bool, false, not, List, length, leb, T, leb→le, arith, needs}
+use Rattle.model.proofs.Prelude.{ℕ, ◌≤◌, ◌<◌, ◌*◌, ◌≡◌, ◌∙◌, ap, refl, sym, true, Bool, false, not, List, length, leb, T, leb→le, arith, rules}
 use Rattle.model.proofs.Prelude.{le-leb, lt-leb, not-true, not-false}
 use Rattle.model.specs.Base.{refused, value}
 use Rattle.model.specs.Path.{Edge, rising, falling, edge_of_fault, path_of_fault}
@@ -86,4 +86,4 @@ module _ (paths : ℕ) (up down : List ℕ) (fault : ℕ) (b : Bool) (eb : b ≡
     unfolding fault_asked
     asked-visited held e = let w = sym eb ∙ not-false b n in rw w (sym (answer held e))
 
-pub ruleset fault-cases = (no-fault-zero, fault-within, visited-rising, visited-falling, needs)
+pub ruleset fault-cases = (no-fault-zero, fault-within, visited-rising, visited-falling, rules)

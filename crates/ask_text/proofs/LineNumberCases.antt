@@ -1,5 +1,5 @@
 -- The cases of a line's number: one more digit, and one more byte.
-use Rattle.model.proofs.Prelude.{ℕ, ◌≤◌, ◌<◌, ◌+◌, ◌-◌, ◌*◌, ◌≡◌, ◌∙◌, ap, refl, sym, arith, needs, le-leb, lt-leb}
+use Rattle.model.proofs.Prelude.{ℕ, ◌≤◌, ◌<◌, ◌+◌, ◌-◌, ◌*◌, ◌≡◌, ◌∙◌, ap, refl, sym, arith, rules, le-leb, lt-leb}
 use Rattle.ask_text.specs.Questions.{with_digit_of, digit_after, byte_after_of}
 use Rattle.ask_text.specs.declared.inner.Stated.{Stated}
 use Rattle.ask_text.specs.declared.inner.Stated.TheVariants as stated
@@ -47,4 +47,4 @@ module _ (line : Stated) (b : ℕ) where
       pub byte-wrong : line ≡ stated.Wrong → stated.Wrong ≡ byte_after_of line b
       byte-wrong e = ap (λ (s : Stated). digit_after s (b - 48)) (sym e) ∙ is_digit
 
-pub ruleset number-cases = (digit-over, digit-past, digit-fits, byte-below, byte_above, byte-first, byte_more, byte-wrong, needs)
+pub ruleset number-cases = (digit-over, digit-past, digit-fits, byte-below, byte_above, byte-first, byte_more, byte-wrong, rules)

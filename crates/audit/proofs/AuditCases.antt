@@ -1,6 +1,6 @@
 -- The audit, case by case as the code meets them: on a legal netlist from an empty store, then the call.
 use Rattle.model.proofs.Prelude.{ℕ, ◌≤◌, ◌<◌, ◌+◌, ◌*◌, ◌^◌, ◌/◌, ◌≡◌, ◌∙◌, ap, refl, sym, subst, true, Bool, false, not, List, [], ◌∷◌, length, drop}
-use Rattle.model.proofs.Prelude.{replicate, needs, le-leb, lt-leb, ne_eqb, eq-eqb, not-true, not-false}
+use Rattle.model.proofs.Prelude.{replicate, rules, le-leb, lt-leb, ne_eqb, eq-eqb, not-true, not-false}
 use Rattle.model.specs.Base.{Answer, refused, value, ◌into◌, checks, passes}
 use Rattle.model.specs.Netlist.{Netlist}
 use Rattle.model.specs.Read.{within, class_of, vector_bytes_of, record_length}
@@ -98,7 +98,7 @@ module _ (netlist : List ℕ) (loaded : Loaded) (ws work : List ℕ) (ready : Re
               let e : call C ≡ reported (length test_file / each) loaded.total report ws' = call-is ∙ rw left refl in
               audited a ws'' work' (j.answer ∙ rw e refl) (j.store ∙ rw e refl) t.same_length_of t.past_work
 
-pub ruleset audit-file-cases = (ready-inputs, ready-records, file-cut, file-record, file-sound, file-judged, needs)
+pub ruleset audit-file-cases = (ready-inputs, ready-records, file-cut, file-record, file-sound, file-judged, rules)
 
 -- the store that an audit leaves once its lent memory has passed
 pub audit_left : (netlist : List ℕ) (class : ℕ) (test_file report ws work : List ℕ) → checks (store_rule ws ∷ work_rule work ∷ []) ≡ value tt
@@ -189,4 +189,4 @@ module _ (netlist : List ℕ) (class : ℕ) (test_file report ws work : List ℕ
                 };
               }
 
-pub ruleset audit-cases = (audit_words, audit_short, audit_netlist, audit_class, audit_empty, audit_ready, audit_done, needs)
+pub ruleset audit-cases = (audit_words, audit_short, audit_netlist, audit_class, audit_empty, audit_ready, audit_done, rules)

@@ -1,5 +1,5 @@
 -- One block: what its records are handed, and its three ends: a record that the place Work refuses, one that the place Test refuses, all taken.
-use Rattle.model.proofs.Prelude.{ℕ, ◌≤◌, ◌<◌, ◌+◌, ◌*◌, ◌≡◌, ◌∙◌, ap, refl, sym, ⊎_elim, ◌⊎◌, List, length, drop, le_trans, arith, needs}
+use Rattle.model.proofs.Prelude.{ℕ, ◌≤◌, ◌<◌, ◌+◌, ◌*◌, ◌≡◌, ◌∙◌, ap, refl, sym, ⊎_elim, ◌⊎◌, List, length, drop, le_trans, arith, rules}
 use native.Mathlib.Nat.{mul-le-mul_left, mul-one}
 use Rattle.model.specs.Base.{refused, value, ◌into◌, ◌then◌}
 use Rattle.model.specs.Netlist.{Netlist}
@@ -178,4 +178,4 @@ module _ {table offsets : List ℕ} {file : FileNumbers} {risingLists fallingLis
           → BlockDone (record { taken = n; answer = stage.Taken }) table offsets file part risingLists risingLists' fallingLists fallingLists' ws ws' work work'
       block-onward e o = ends (omega arith) (λ N t m. true_onward N t m e o)
 
-pub ruleset take_cases = (block-some, block-few, read-ready, block_refused, block-next, block-onward, needs)
+pub ruleset take_cases = (block-some, block-few, read-ready, block_refused, block-next, block-onward, rules)

@@ -1,6 +1,6 @@
 -- The length of a test file, the place Report, and the end of an audit in pieces on a legal netlist, case by case as the code meets them.
 use Rattle.model.proofs.Prelude.{ℕ, ◌+◌, ◌*◌, ◌^◌, ◌/◌, ◌%◌, ◌≡◌, ◌∙◌, ap, refl, sym, true, Bool, false, not, List, length, replicate, leb, eqb}
-use Rattle.model.proofs.Prelude.{needs, ne_eqb, eq-eqb, not-true, not-false}
+use Rattle.model.proofs.Prelude.{rules, ne_eqb, eq-eqb, not-true, not-false}
 use Rattle.model.specs.Base.{Answer, refused, value, ◌into◌, checks, passes}
 use Rattle.model.specs.Read.{vector_bytes_of}
 use Rattle.model.specs.Refusals.{refusal_number_of}
@@ -29,7 +29,7 @@ module _ (total each : ℕ) where
   pub length_whole : total % each ≡ 0 → leb (total / each) max_tests ≡ whole_length_of each total
   length_whole e = rw (eq-eqb (total % each) 0 e) refl
 
-pub ruleset length-cases = (length_cut, length_whole, needs)
+pub ruleset length-cases = (length_cut, length_whole, rules)
 
 -- The place Report
 module _ (tests paths : ℕ) (report ws : List ℕ) (sound : SoundWords (2 ^ 62) ws) (k : Comparison)
@@ -45,7 +45,7 @@ module _ (tests paths : ℕ) (report ws : List ℕ) (sound : SoundWords (2 ^ 62)
       let g = sym e ∙ ap compared_of f in
       record { answer = rw g refl; store = emptied ws' (length ws) z sound.few.long ∙ rw g refl }
 
-pub ruleset judge-cases = (judge_equal, judge_refused, needs)
+pub ruleset judge-cases = (judge_equal, judge_refused, rules)
 
 -- The end, from the length of a record, the number of paths and the state
 module _ (each paths total : ℕ) (report : List ℕ) (x : Answer (List ℕ)) (b : Bool) (eb : b ≡ whole_length_of each total) where
@@ -109,4 +109,4 @@ module _ (inputs paths total first : ℕ) (report ws : List ℕ) (each : ℕ) (e
         pub legal-accepted : c ≡ comparison.Equal → value tt ≡ passes (end_legal_of (2 + 2 * vector_bytes_of inputs) paths total first report ws)
         legal-accepted e = ends (value ws) (end-same-report each paths total report state b eb n ws sound-state c ec e)
 
-pub ruleset legal-cases = (legal-length, legal-first, legal-store, legal-report, legal-accepted, checked_sound, needs)
+pub ruleset legal-cases = (legal-length, legal-first, legal-store, legal-report, legal-accepted, checked_sound, rules)

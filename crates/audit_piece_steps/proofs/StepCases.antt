@@ -1,6 +1,6 @@
 -- The steps of an audit in pieces, case by case as the code meets them.
 use Rattle.model.proofs.Prelude.{ℕ, ◌≤◌, ◌<◌, ◌+◌, ◌*◌, ◌/◌, ◌≡◌, ◌∙◌, ap, refl, sym, subst, ap₂, true, Bool, false, not, List, length, replicate}
-use Rattle.model.proofs.Prelude.{arith, needs, le-leb, lt-leb, ne_eqb, eq-eqb, not-true, not-false}
+use Rattle.model.proofs.Prelude.{arith, rules, le-leb, lt-leb, ne_eqb, eq-eqb, not-true, not-false}
 use Rattle.model.specs.Base.{Answer, refused, value, passes}
 use Rattle.model.specs.Netlist.{Netlist}
 use Rattle.model.specs.Read.{within, vector_bytes_of, read_netlist, class_of}
@@ -81,7 +81,7 @@ module _ (netlist : List ℕ) (class : ℕ) (ws work : List ℕ) (loaded : Loade
           tables = t;
         }
 
-pub ruleset begin-cases = (begin_words, begin_short, begin_netlist, begin_class, begin_ready, needs)
+pub ruleset begin-cases = (begin_words, begin_short, begin_netlist, begin_class, begin_ready, rules)
 
 module _ (netlist : List ℕ) (loaded : Loaded) (ws work : List ℕ) (ready : Ready netlist loaded ws work) where
   -- A piece
@@ -125,7 +125,7 @@ module _ (netlist : List ℕ) (loaded : Loaded) (ws work : List ℕ) (ready : Re
             past_work = t.past_work;
           }
 
-pub ruleset piece-cases = (ready-records, piece-refused, piece-taken, needs)
+pub ruleset piece-cases = (ready-records, piece-refused, piece-taken, rules)
 
 -- The end
 module _ (netlist : List ℕ) (loaded : Loaded) (ws work : List ℕ) (ready : Ready netlist loaded ws work) (taken : StageAnswer) (total : ℕ) (report : List ℕ)
@@ -166,4 +166,4 @@ module _ (netlist : List ℕ) (loaded : Loaded) (ws work : List ℕ) (ready : Re
             store = λ N q. j.store ∙ sym (ap left_store (ended_is N q ∙ x));
           }
 
-pub ruleset end-cases = (ready-inputs, ready-sound, end-length, end-record, end-judged, needs)
+pub ruleset end-cases = (ready-inputs, ready-sound, end-length, end-record, end-judged, rules)

@@ -1,6 +1,6 @@
 -- The public end of an audit in pieces, case by case as the code meets them.
 use Rattle.model.proofs.Prelude.{ℕ, ◌≤◌, ◌+◌, ◌*◌, ◌^◌, ◌/◌, ◌≡◌, ◌∙◌, ap, refl, sym, ap₂, true, Bool, false, List, [], ◌∷◌, length, replicate, eqb}
-use Rattle.model.proofs.Prelude.{arith, needs, ne_eqb, eq-eqb}
+use Rattle.model.proofs.Prelude.{arith, rules, ne_eqb, eq-eqb}
 use Rattle.model.specs.Base.{Answer, refused, value, ◌into◌, ◌then◌, checks, passes}
 use Rattle.model.specs.Netlist.{Netlist, path_total}
 use Rattle.model.specs.Read.{vector_bytes_of, record_length, read_netlist}
@@ -49,7 +49,7 @@ module _ (netlist : List ℕ) (total first : ℕ) (report ws : List ℕ) (r : Su
         ∙ ap₂ (λ i p. passes (end_legal_of (2 + 2 * vector_bytes_of i) p total first report ws)) s.inputs_are s.total_is
         ∙ rw s.is_read refl
 
-pub ruleset Stage-cases = (stage-netlist, stage-inputs, stage-paths, stage-legal, needs)
+pub ruleset Stage-cases = (stage-netlist, stage-inputs, stage-paths, stage-legal, rules)
 
 -- an accepted report leaves the store as it is
 end-left : (each paths total : ℕ) (report : List ℕ) (x : Answer (List ℕ)) (left : List ℕ) → end_by each paths total report x ≡ value left → x ≡ value left
@@ -102,4 +102,4 @@ module _ (netlist : List ℕ) (total first : ℕ) (report ws : List ℕ) where
         let y = end-left (record_length N) (path_total N) total report (so_far first ws into λ l. store_checked (path_total N) l) x.got s.second in
         yes_by x.got x.is (state-left (path_total N) first ws x.got y)
 
-pub ruleset call-end-cases = (end-words, end-no, end-yes, needs)
+pub ruleset call-end-cases = (end-words, end-no, end-yes, rules)

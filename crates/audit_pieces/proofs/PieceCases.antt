@@ -1,5 +1,5 @@
 -- The public calls of an audit in pieces, beginning and piece, case by case as the code meets them.
-use Rattle.model.proofs.Prelude.{ℕ, ◌≤◌, ◌<◌, ◌^◌, ◌≡◌, ◌∙◌, ap, refl, sym, true, Bool, false, not, List, length, replicate, arith, needs, not-true}
+use Rattle.model.proofs.Prelude.{ℕ, ◌≤◌, ◌<◌, ◌^◌, ◌≡◌, ◌∙◌, ap, refl, sym, true, Bool, false, not, List, length, replicate, arith, rules, not-true}
 use Rattle.model.proofs.Prelude.{not-false}
 use Rattle.model.specs.Base.{Answer, refused, value, checks, passes}
 use Rattle.model.specs.Netlist.{Netlist, path_total}
@@ -96,7 +96,7 @@ module _ (netlist : List ℕ) (loaded : Loaded) (class : ℕ) (bytes ws work : L
         pub on-record : (w : Refusal) → r.answer ≡ stage.Refused w → PieceStaged (piece.RecordRefused r.taken w) netlist class bytes ws ws' work work'
         on-record w e = staged (piece.RecordRefused r.taken w) (rw e refl)
 
-pub ruleset on-cases = (on-paths, on-refused, on-ready, on-taken, on-record, needs)
+pub ruleset on-cases = (on-paths, on-refused, on-ready, on-taken, on-record, rules)
 
 -- A piece
 module _ (netlist : List ℕ) (class : ℕ) (bytes ws work : List ℕ) where
@@ -164,4 +164,4 @@ module _ (netlist : List ℕ) (class : ℕ) (bytes ws work : List ℕ) where
               };
             }
 
-pub ruleset call-piece-cases = (piece-words, piece-short, piece-netlist, piece-class, piece-legal, piece-done, needs)
+pub ruleset call-piece-cases = (piece-words, piece-short, piece-netlist, piece-class, piece-legal, piece-done, rules)

@@ -1,6 +1,6 @@
 -- The test stage with the records of a file block by block: a block that is taken, one that is refused, the end.
 use Rattle.model.proofs.Prelude.{ℕ, ◌≤◌, ◌<◌, ◌+◌, ◌-◌, ◌*◌, ◌^◌, ◌≡◌, ◌∙◌, ap, refl, sym, subst, List, [], length, drop, take, replicate}
-use Rattle.model.proofs.Prelude.{length-drop, drop-drop, le_trans, mul-le-mul_right, arith, needs}
+use Rattle.model.proofs.Prelude.{length-drop, drop-drop, le_trans, mul-le-mul_right, arith, rules}
 use native.Mathlib.Nat.{le_of_eq, one-mul}
 use Rattle.model.specs.Base.{refused, value}
 use Rattle.model.specs.Netlist.{Netlist}
@@ -182,4 +182,4 @@ module _ (table offsets : List ℕ) (file : FileNumbers) (test_file risingLists�
                 later : (a b : ℕ) {x y u v : ℕ} → x ≡ y → b + x ≡ u → a + u ≡ v → (a + b) + y ≡ v
                 later a b e f h = omega arith
 
-pub ruleset blocks-cases = (taking_start, file-inputs, taking_ready, taking_end, block-fits, end_fits, count_fits, taking_refused, taking_less, taking_next, needs)
+pub ruleset blocks-cases = (taking_start, file-inputs, taking_ready, taking_end, block-fits, end_fits, count_fits, taking_refused, taking_less, taking_next, rules)

@@ -1,5 +1,5 @@
 -- What is wrong with claimed numbers, case by case as the code meets them.
-use Rattle.model.proofs.Prelude.{ℕ, ◌≤◌, ◌<◌, ◌+◌, ◌-◌, ◌^◌, ◌≡◌, List, arith, needs}
+use Rattle.model.proofs.Prelude.{ℕ, ◌≤◌, ◌<◌, ◌+◌, ◌-◌, ◌^◌, ◌≡◌, List, arith, rules}
 use mir.Syntax.{w64}
 use mir.Val.{Fits}
 use Rattle.report_claim_words.specs.declared.Kind.TheVariants as kind
@@ -59,6 +59,6 @@ module _ (i j : ℕ) (a b : List ℕ) (from : ℕ) (x : Piece) (s : PieceFrom x 
     pub within-passed : (k : ℕ) (l : List ℕ) → Passed l k from → Passed l k (r.high + 1)
     within-passed k l p = passed_later l k from (r.high + 1) (omega (arith, u.0.0, split.some)) p
 
-pub ruleset claim-cases = (claim_nothing, claim_before, claim_until, claim_whole, claim_part, needs)
+pub ruleset claim-cases = (claim_nothing, claim_before, claim_until, claim_whole, claim_part, rules)
 
-pub ruleset walk-cases = (passed_none, range-some, range-less, first-passed, last-passed, split-less, within-passed, needs)
+pub ruleset walk-cases = (passed_none, range-some, range-less, first-passed, last-passed, split-less, within-passed, rules)

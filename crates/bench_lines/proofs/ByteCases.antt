@@ -1,5 +1,5 @@
 -- The bytes that may stand in a name, by ranges.
-use Rattle.model.proofs.Prelude.{ℕ, ◌≤◌, ◌<◌, ◌≡◌, true, false, leb, arith, needs, le-leb, lt-leb, ne_eqb}
+use Rattle.model.proofs.Prelude.{ℕ, ◌≤◌, ◌<◌, ◌≡◌, true, false, leb, arith, rules, le-leb, lt-leb, ne_eqb}
 use Rattle.bench_lines.specs.Text.{name_byte}
 
 module _ (b : ℕ) where
@@ -36,4 +36,4 @@ module _ (b : ℕ) where
       simp (le-leb 0x30 b (omega arith), lt-leb b 0x39 (omega arith), le-leb 0x41 b (omega arith), lt-leb b 0x5A (omega arith), ne_eqb b 0x5F d, le-leb 0x61 b l)
 
 pub ruleset byte-cases =
-    (below-digits, a-digit, below-capitals, a-capital, an_underscore, below-small, small-or_above, needs)
+    (below-digits, a-digit, below-capitals, a-capital, an_underscore, below-small, small-or_above, rules)

@@ -1,6 +1,6 @@
 -- The table is filled: nothing where the text is refused, or the keys of its inputs and, after them, of its gates.
 use Rattle.model.proofs.Prelude.{ℕ, ◌≤◌, ◌+◌, ◌*◌, ◌≡◌, ◌∙◌, ap, sym, subst, List, [], ◌∷◌, ◌++◌, length, get_or, drop, take, length-append, sets}
-use Rattle.model.proofs.Prelude.{get_or-drop, length-sets, take_at, sets-eq, arith, needs}
+use Rattle.model.proofs.Prelude.{get_or-drop, length-sets, take_at, sets-eq, arith, rules}
 use mir.Val.{Fits}
 use mir.Syntax.{w64}
 use Rattle.model.specs.Base.{Answer, refused, value, ◌into◌, ◌then◌, checks}
@@ -134,4 +134,4 @@ module _ (text is gs os : List ℕ) (n : NameCounts) (t : TextHeld text is gs os
             }
 
 pub ruleset fill-cases =
-    (fill_line, fill_end, held-text, fill_inputs-fit, fill_gates-fit, fill_inputs-there, fill_gates-there, fill_inputs-room, fill_gates-room, fill_told, needs)
+    (fill_line, fill_end, held-text, fill_inputs-fit, fill_gates-fit, fill_inputs-there, fill_gates-there, fill_inputs-room, fill_gates-room, fill_told, rules)

@@ -1,6 +1,6 @@
 -- The records of a block read one after the other: the first of them, one more, one that is refused, the end.
 use Rattle.model.proofs.Prelude.{ℕ, ◌≤◌, ◌<◌, ◌+◌, ◌-◌, ◌*◌, ◌≡◌, ◌∙◌, ap, sym, ap₂, inl, inr, false, List, length, get_or, drop, take, set, arith}
-use Rattle.model.proofs.Prelude.{needs}
+use Rattle.model.proofs.Prelude.{rules}
 use native.Mathlib.Nat.{mul-add, mul-zero, mul-one}
 use Rattle.model.specs.Base.{value, checks, bit}
 use Rattle.model.specs.Netlist.{Netlist}
@@ -124,4 +124,4 @@ module _ {inputs : ℕ} {tests vectors : List ℕ} {at n : ℕ} (s : ReadSoFar i
           all : List ℕ
           all = set (set vectors n v.v1) (64 + n) v.v2
 
-pub ruleset read-cases = (read_none, read_all, read_short, read-refused, needs)
+pub ruleset read-cases = (read_none, read_all, read_short, read-refused, rules)

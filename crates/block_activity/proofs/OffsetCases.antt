@@ -1,6 +1,6 @@
 -- The path offsets of pins and outputs, one after the other.
 use Rattle.model.proofs.Prelude.{ℕ, ◌≤◌, ◌<◌, ◌+◌, ◌-◌, ◌*◌, ◌^◌, ◌≡◌, ◌∙◌, ap, sym, subst, ap₂, inl, List, length, get_or, drop, take, set, length-set}
-use Rattle.model.proofs.Prelude.{get_or-set_same, get_or-set_other, add-one, arith, needs}
+use Rattle.model.proofs.Prelude.{get_or-set_same, get_or-set_other, add-one, arith, rules}
 use Rattle.model.specs.Netlist.{output_count}
 use Rattle.netlist.specs.Tables.{output_in, output_at}
 use Rattle.netlist.proofs.OutputLaws.{output-here, output-long}
@@ -142,8 +142,8 @@ module _ {part : List ℕ} {inputs outputs : ℕ} {counts : List ℕ} (f : Outpu
           old : (i : ℕ) → (i ≡ output_offsets_at + o → ⊥) → (i ≡ output_nets_at + o → ⊥) → get_or next i 0 ≡ get_or after i 0
           old i a b = get_or-set_other (set after (output_offsets_at + o) offset) (output_nets_at + o) i net 0 b ∙ get_or-set_other after (output_offsets_at + o) i offset 0 a
 
-pub ruleset pin-cases = (pin-net, pin-fits, pins-more, pins-all, needs)
+pub ruleset pin-cases = (pin-net, pin-fits, pins-more, pins-all, rules)
 
-pub ruleset gate-offsets-cases = (gate-fits, gates-more, gates-all, needs)
+pub ruleset gate-offsets-cases = (gate-fits, gates-more, gates-all, rules)
 
-pub ruleset output-offsets-cases = (output-inside, output-net, output-fits, outputs-more, outputs-all, needs)
+pub ruleset output-offsets-cases = (output-inside, output-net, output-fits, outputs-more, outputs-all, rules)

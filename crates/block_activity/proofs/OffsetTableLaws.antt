@@ -1,6 +1,6 @@
 -- The path offsets of a legal netlist's pins and outputs, from its tables.
 use Rattle.model.proofs.Prelude.{ℕ, ◌≤◌, ◌<◌, ◌+◌, ◌-◌, ◌*◌, suc, zero, ◌≡◌, ◌∙◌, ap, refl, sym, subst, List, length, get_or, drop, length-drop, arith}
-use Rattle.model.proofs.Prelude.{needs}
+use Rattle.model.proofs.Prelude.{rules}
 use Rattle.model.specs.Base.{sum_of}
 use Rattle.model.specs.Netlist.{Netlist, nets, counts, pin_net, pin_counts, output_count, output_counts, path_total}
 use Rattle.model.specs.Path.{counts_before}
@@ -131,4 +131,4 @@ module _ {file cs : List ℕ} {shape : Shape} {table : List ℕ} (s : SomeOffset
       offsets-true (record { positions = positions; tables = t; gates = c }) g
       (subst (λ (x : List ℕ). OutputsPlaced x shape.inputs shape.outputs cs gated offsets) e o)
 
-pub ruleset offsets-cases = (some-gates, few-outputs, outputs-inside, some-outputs, placed-length, placed-table, needs)
+pub ruleset offsets-cases = (some-gates, few-outputs, outputs-inside, some-outputs, placed-length, placed-table, rules)

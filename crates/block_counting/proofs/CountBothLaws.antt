@@ -1,5 +1,5 @@
 -- One record counted from what was made of both edges: a store that keeps its runs, one that is counted again, and the totals afterwards.
-use Rattle.model.proofs.Prelude.{ℕ, ◌≤◌, ◌-◌, ◌^◌, ◌≡◌, ◌∙◌, ap, refl, sym, subst, ap₂, true, true≢false, List, needs}
+use Rattle.model.proofs.Prelude.{ℕ, ◌≤◌, ◌-◌, ◌^◌, ◌≡◌, ◌∙◌, ap, refl, sym, subst, ap₂, true, true≢false, List, rules}
 use native.Mathlib.Nat.{sub_self}
 use Rattle.model.specs.Base.{Answer, refused, value, passes, after}
 use Rattle.model.specs.Netlist.{Netlist, path_total}
@@ -44,7 +44,7 @@ module _ (before : StoreTotals) (a : StageAnswer) where
   pub kept-taken : a ≡ stage.Taken → test.Taken 0 0 before.rising before.falling ≡ counts_kept before a
   kept-taken e = sym (ap (counts_kept before) e)
 
-pub ruleset kept-cases = (kept-refused, kept-taken, needs)
+pub ruleset kept-cases = (kept-refused, kept-taken, rules)
 
 -- what is handed over, and what the stage then answers
 pub some-made : {before : StoreTotals} {b : BothAnswer} {ws work : List ℕ} → SomeBothCounted before b ws work → SomeBothMade b ws work

@@ -1,5 +1,5 @@
 -- The active word of a pin, from what the gate's pins show in a block.
-use Rattle.model.proofs.Prelude.{ℕ, ◌≤◌, ◌<◌, ◌+◌, ◌*◌, ◌≡◌, ◌∙◌, ap, sym, subst, ap₂, Bool, ◌&&◌, List, get_or, arith, needs}
+use Rattle.model.proofs.Prelude.{ℕ, ◌≤◌, ◌<◌, ◌+◌, ◌*◌, ◌≡◌, ◌∙◌, ap, sym, subst, ap₂, Bool, ◌&&◌, List, get_or, arith, rules}
 use mir.Val.{Fits}
 use mir.Syntax.{w64}
 use Rattle.model.specs.Base.{bit}
@@ -87,7 +87,7 @@ module _ (table words : List ℕ) (shape : Shape) (net pin : ℕ) (t : PinThere 
       there-falls edge e =
           subst (λ (d : Code.Edge). ActiveWord table words shape class (model_edge d) net pin (get_or falling_rows pin 0)) (sym e) (pins-active falling falling_rows live.down a.falls)
 
-pub ruleset there-cases = (there-few, there-pins, there-mask, there-kind, there-pin, there-fits, there-rises, there-falls, needs)
+pub ruleset there-cases = (there-few, there-pins, there-mask, there-kind, there-pin, there-fits, there-rises, there-falls, rules)
 
 -- the live word of a net
 pub live-rises : (words : List ℕ) (net : ℕ) (edge : Code.Edge) → edge ≡ at.Rising → get_or words (8 * net + 3) 0 ≡ get_or words (8 * net + live_at (model_edge edge)) 0
@@ -96,4 +96,4 @@ live-rises words net edge e = ap (λ (d : Code.Edge). get_or words (8 * net + li
 pub live-falls : (words : List ℕ) (net : ℕ) (edge : Code.Edge) → edge ≡ at.Falling → get_or words (8 * net + 4) 0 ≡ get_or words (8 * net + live_at (model_edge edge)) 0
 live-falls words net edge e = ap (λ (d : Code.Edge). get_or words (8 * net + live_at (model_edge d)) 0) (sym e)
 
-pub ruleset live-cases = (live-rises, live-falls, needs)
+pub ruleset live-cases = (live-rises, live-falls, rules)

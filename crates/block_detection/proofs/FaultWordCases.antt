@@ -1,5 +1,5 @@
 -- The word of a path number, by its output.
-use Rattle.model.proofs.Prelude.{ℕ, ◌≤◌, ◌-◌, ◌*◌, ◌≡◌, ◌∙◌, ap, sym, subst, ap₂, List, length, drop, needs}
+use Rattle.model.proofs.Prelude.{ℕ, ◌≤◌, ◌-◌, ◌*◌, ◌≡◌, ◌∙◌, ap, sym, subst, ap₂, List, length, drop, rules}
 use Rattle.model.specs.Netlist.{Netlist, output_net, output_counts, path_total}
 use Rattle.model.specs.Path.{Edge, split, path_at, path_of}
 use Rattle.model.specs.Detect.{Test, all_open, open_pin, has_edge, in_net_set, detects, detects_number}
@@ -51,5 +51,5 @@ pub ruleset fault-cases = (
   fault-wanted,
   fault-walk,
   fault-word,
-  needs,
+  rules,
 )

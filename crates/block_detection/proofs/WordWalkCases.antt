@@ -1,5 +1,5 @@
 -- The cases of the walk: the word so far together with what is open from the net at hand on is what is open from the first net on.
-use Rattle.model.proofs.Prelude.{ℕ, ◌≤◌, ◌<◌, ◌+◌, ◌*◌, ◌≡◌, ◌∙◌, ap, refl, sym, subst, true, Bool, false, ◌&&◌, List, length, get_or, T, arith, needs}
+use Rattle.model.proofs.Prelude.{ℕ, ◌≤◌, ◌<◌, ◌+◌, ◌*◌, ◌≡◌, ◌∙◌, ap, refl, sym, subst, true, Bool, false, ◌&&◌, List, length, get_or, T, arith, rules}
 use lib.Bits.{bit_and}
 use Rattle.model.specs.Base.{bit, sum_of}
 use Rattle.model.specs.Netlist.{Netlist, nets, counts, pins_of, pin_net}
@@ -185,4 +185,4 @@ module _ {file ps cs : List ℕ} {shape : Shape} {table words : List ℕ} {class
             ∙ ap (λ (K : Netlist). in_net_set K (tests v) (model_edge edge) net number) (sym same);
       }
 
-pub ruleset walk-cases = (walk_start, walk-few, walk-room, walk_inside, walk-pins, walk-number, walk-there, walk-less, walk-next, walk_end, needs)
+pub ruleset walk-cases = (walk_start, walk-few, walk-room, walk_inside, walk-pins, walk-number, walk-there, walk-less, walk-next, walk_end, rules)

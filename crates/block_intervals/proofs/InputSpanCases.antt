@@ -1,5 +1,5 @@
 -- The loop over the inputs: the spans of the inputs so far are written.
-use Rattle.model.proofs.Prelude.{ℕ, ◌≤◌, ◌<◌, ◌+◌, ◌≡◌, ◌∙◌, subst, List, length, arith, needs}
+use Rattle.model.proofs.Prelude.{ℕ, ◌≤◌, ◌<◌, ◌+◌, ◌≡◌, ◌∙◌, subst, List, length, arith, rules}
 use Rattle.block_activity.proofs.OneMoreLaws.{one_more}
 use Rattle.block_intervals.specs.Spans.{first_of, end_of, shift_of, Ascending, InputSpans}
 use Rattle.block_intervals.specs.PinSpans.{with_span, SameSpan}
@@ -59,4 +59,4 @@ module _ {inputs : ℕ} {spans : List ℕ} {input : ℕ} (x : InputsSpanned inpu
           };
         }
 
-pub ruleset input-span-cases = (spans-start, spans-end, input-place, input-end-place, input-shift-place, spans-more, needs)
+pub ruleset input-span-cases = (spans-start, spans-end, input-place, input-end-place, input-shift-place, spans-more, rules)

@@ -1,6 +1,6 @@
 -- One record and edge: the runs of the listed nets, Full exactly where the working runs are over 1,024; and those of the detected path numbers after them.
 use Rattle.model.proofs.Prelude.{ℕ, ◌≤◌, ◌<◌, ◌+◌, suc, zero, ◌≡◌, ◌∙◌, ap, refl, sym, true, Bool, false, not, cond, List, [], ◌∷◌, length, set}
-use Rattle.model.proofs.Prelude.{length-set, get_or-set_same, get_or-set_other, drop-set-lt, leb, arith, needs, le-leb, lt-leb, leb-true, leb-false}
+use Rattle.model.proofs.Prelude.{length-set, get_or-set_same, get_or-set_other, drop-set-lt, leb, arith, rules, le-leb, lt-leb, leb-true, leb-false}
 use Rattle.model.specs.Base.{bit}
 use Rattle.model.specs.Runs.{Run, run}
 use Rattle.model.specs.Store.{max_runs}
@@ -158,4 +158,4 @@ module _ {table offsets entries : List ℕ} {edges inputs : ℕ} {spans ws : Lis
           kept = λ k h. adds-kept k (omega arith) y ∙ s.kept.above k (omega arith);
         }
 
-pub ruleset listed-cases = (begun-same, listed-inputs, listed-nets, listed-spans, listed-full, listed-over, listed-fits, needs)
+pub ruleset listed-cases = (begun-same, listed-inputs, listed-nets, listed-spans, listed-full, listed-over, listed-fits, rules)

@@ -1,5 +1,5 @@
 -- The loop over the live outputs: the runs so far, with those of the outputs left, make the whole.
-use Rattle.model.proofs.Prelude.{ℕ, ◌≤◌, ◌<◌, ◌+◌, ◌-◌, ◌*◌, ◌^◌, ◌≡◌, ◌∙◌, ap, refl, subst⁻¹, true, List, ◌++◌, length, arith, needs}
+use Rattle.model.proofs.Prelude.{ℕ, ◌≤◌, ◌<◌, ◌+◌, ◌-◌, ◌*◌, ◌^◌, ◌≡◌, ◌∙◌, ap, refl, subst⁻¹, true, List, ◌++◌, length, arith, rules}
 use lib.Bits.{bit_and}
 use lib.Count.{count_trailing_zeros}
 use mir.Val.{Fits}
@@ -152,4 +152,4 @@ module _ {offsets : List ℕ} {outs : ℕ} {spans ws₀ : List ℕ} where
 pub ruleset read-cases = (net-place, offset-place, first-place, end-place, shift-place, place-fits, place-bytes, span_fits, span-bytes, sum_fits, output-fits)
 
 pub ruleset output-cases =
-    (outputs-start, outputs-same, outputs-kept, outputs-room, outputs-done, output-ordered, output-before, output-small, output-sound, output-less, output-full, output-more, read-cases, needs)
+    (outputs-start, outputs-same, outputs-kept, outputs-room, outputs-done, output-ordered, output-before, output-small, output-sound, output-less, output-full, output-more, read-cases, rules)

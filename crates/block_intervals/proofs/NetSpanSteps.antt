@@ -1,6 +1,6 @@
 -- The loop over a record's list: the live nets before the next one listed have their spans.
 use Rattle.model.proofs.Prelude.{ℕ, ◌≤◌, ◌<◌, ◌+◌, ◌-◌, ◌*◌, suc, ◌/◌, ◌≡◌, ◌∙◌, ap, sym, subst, ap₂, ⊎_elim, true, List, map, length, get_or, drop}
-use Rattle.model.proofs.Prelude.{drop_of_length-le, drop-cons, add-one, arith, needs}
+use Rattle.model.proofs.Prelude.{drop_of_length-le, drop-cons, add-one, arith, rules}
 use mir.Val.{Fits}
 use mir.Syntax.{w64}
 use Rattle.model.specs.Base.{numbers_from}
@@ -235,4 +235,4 @@ module _ {table offsets entries spans₀ ws₀ : List ℕ} where
             done = λ K inputs a. more K inputs a e;
           }
 
-pub ruleset spans-cases = (spans-start, spans-kept, spans-end, spans-ready, spans-full, spans-sum, spans-more, needs)
+pub ruleset spans-cases = (spans-start, spans-kept, spans-end, spans-ready, spans-full, spans-sum, spans-more, rules)

@@ -1,5 +1,5 @@
 -- The loop over a gate's active pins: the list holds what the pins that are no longer left add.
-use Rattle.model.proofs.Prelude.{ℕ, ◌≤◌, ◌<◌, ◌+◌, ◌-◌, ◌^◌, ◌≡◌, ◌∙◌, ap, refl, subst⁻¹, true, List, ◌++◌, length, arith, needs}
+use Rattle.model.proofs.Prelude.{ℕ, ◌≤◌, ◌<◌, ◌+◌, ◌-◌, ◌^◌, ◌≡◌, ◌∙◌, ap, refl, subst⁻¹, true, List, ◌++◌, length, arith, rules}
 use lib.Bits.{bit_and}
 use lib.Count.{count_trailing_zeros}
 use mir.Val.{Fits}
@@ -122,4 +122,4 @@ module _ {table offsets : List ℕ} {first byte : ℕ} {spans ws₀ : List ℕ} 
         }
 
 pub ruleset pin-cases =
-    (pins-start, pins-same, pins-kept, pins-used, pins-room, pins-done, pin-in, pin-place, pin-fits, pin-sum, left_less, pin-ready, pin-full, pin-more, needs)
+    (pins-start, pins-same, pins-kept, pins-used, pins-room, pins-done, pin-in, pin-place, pin-fits, pin-sum, left_less, pin-ready, pin-full, pin-more, rules)

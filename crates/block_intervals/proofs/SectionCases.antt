@@ -1,6 +1,6 @@
 -- Runs of outputs that lie in held runs: one run, those of a net, those of the live outputs one after the other.
 use Rattle.model.proofs.Prelude.{ℕ, ◌≤◌, ◌<◌, ◌+◌, ◌-◌, ◌*◌, ◌^◌, ◌/◌, ◌≡◌, ◌∙◌, ap, sym, subst⁻¹, ⊎_elim, true, Bool, false, not, Bool·not-not, List}
-use Rattle.model.proofs.Prelude.{length, get_or, leb, arith, needs, leb-true}
+use Rattle.model.proofs.Prelude.{length, get_or, leb, arith, rules, leb-true}
 use lib.Bits.{bit_and}
 use lib.Count.{count_trailing_zeros}
 use mir.Val.{Fits}
@@ -30,7 +30,7 @@ module _ {held : List ℕ} {low high : ℕ} where
   pub run-there : (at : ℕ) → at < length held / 2 → get_or held (2 * at) 0 ≤ low → leb high (get_or held (2 * at + 1) 0) ≡ true → RunInside held 0 (length held / 2) (run low high)
   run-there at h l e = record { place = at; begun = omega arith; ended = h; not_below = l; not_above = leb-true high (get_or held (2 * at + 1) 0) e }
 
-pub ruleset run-cases = (run-not, run-there, needs)
+pub ruleset run-cases = (run-not, run-there, rules)
 
 -- ---- the runs of a net
 
@@ -81,7 +81,7 @@ module _ {ws : List ℕ} {from to shift : ℕ} {held : List ℕ} where
             (equal_or_not j i);
       }
 
-pub ruleset span-held-cases = (span-begin, span-not, span-done, span-in, span-low, span-high, span_more, needs)
+pub ruleset span-held-cases = (span-begin, span-not, span-done, span-in, span-low, span-high, span_more, rules)
 
 -- ---- the live outputs
 
@@ -156,4 +156,4 @@ module _ {offsets : List ℕ} {outs : ℕ} {spans : List ℕ} {base : ℕ} {ws h
             (equal_or_not o (count_trailing_zeros 64 left));
       }
 
-pub ruleset held-cases = (held-begin, held-not, held-done, held_in, held_fits, held-few, held-room, held-ready, held-section, held-less, held_more, needs)
+pub ruleset held-cases = (held-begin, held-not, held-done, held_in, held_fits, held-few, held-room, held-ready, held-section, held-less, held_more, rules)

@@ -1,6 +1,6 @@
 -- Sections: those that stay, and those that are cleared or found one after the other.
 use Rattle.model.proofs.Prelude.{ℕ, ◌≤◌, ◌<◌, ◌+◌, ◌-◌, ◌*◌, ◌≡◌, ◌∙◌, ap, refl, sym, subst, ⊎_elim, ◌⊎◌, List, length, get_or, set, length-set}
-use Rattle.model.proofs.Prelude.{get_or-set_same, get_or-set_other, arith, needs}
+use Rattle.model.proofs.Prelude.{get_or-set_same, get_or-set_other, arith, rules}
 use Rattle.model.proofs.BoolLaws.{equal_or_not}
 use mir.Val.{Fits}
 use mir.Syntax.{w64}
@@ -64,7 +64,7 @@ module _ {spans : List ℕ} {o : ℕ} (x : Cleared spans o) where
   pub cleared_room : length spans ≡ spans_size
   cleared_room = x.room
 
-pub ruleset clear-cases = (cleared_none, cleared_more, cleared_rising, cleared_falling, cleared_room, needs)
+pub ruleset clear-cases = (cleared_none, cleared_more, cleared_rising, cleared_falling, cleared_room, rules)
 
 -- ---- sections found one after the other
 
@@ -230,4 +230,4 @@ pub finding_all : (spans₁ : List ℕ) (new : ℕ) {base count : ℕ} {spans : 
 finding_all spans₁ new {base = base} x h inputs few i = finding_done x h inputs few (first-written spans₁ base new x.found.base_is inputs few i)
 
 pub ruleset find_cases =
-    (finding_none, finding_most, finding_base, finding_place, finding_fits, finding_bytes, finding_more, finding_room, finding_all, first-room, first-place, first_fits, first-bytes, needs)
+    (finding_none, finding_most, finding_base, finding_place, finding_fits, finding_bytes, finding_more, finding_room, finding_all, first-room, first-place, first_fits, first-bytes, rules)

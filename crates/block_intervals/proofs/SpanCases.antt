@@ -1,6 +1,6 @@
 -- The span of one listed net: that of its one active pin's net, shifted, or of the runs that its active pins make at the end of those that stand.
 use Rattle.model.proofs.Prelude.{ℕ, ◌≤◌, ◌<◌, ◌+◌, ◌-◌, ◌*◌, ◌^◌, ◌/◌, ◌%◌, ◌≡◌, ◌∙◌, ap, refl, sym, subst, ap₂, List, [], ◌++◌, append-nil, length}
-use Rattle.model.proofs.Prelude.{get_or, take, set, length-set, get_or-set_same, get_or-set_other, arith, needs}
+use Rattle.model.proofs.Prelude.{get_or, take, set, length-set, get_or-set_same, get_or-set_other, arith, rules}
 use mathlib.Core.Path.{subst₂}
 use lib.Bits.{bit_and}
 use lib.Count.{count_trailing_zeros}
@@ -262,4 +262,4 @@ module _ {table offsets : List ℕ} {entry : ℕ} {spans ws : List ℕ} {made : 
               let n : end_of spans' net - first_of spans' net ≡ c = omega (arith, firsts, ends) in
               ap₂ (runs_in_words ws') firsts n ∙ added.2
 
-pub ruleset span-cases = (low_fits, low_sum, low-place, low-ready, low-before, one_span, more-over, more-fits, more-span, needs)
+pub ruleset span-cases = (low_fits, low_sum, low-place, low-ready, low-before, one_span, more-over, more-fits, more-span, rules)

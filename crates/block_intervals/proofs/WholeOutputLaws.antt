@@ -1,6 +1,6 @@
 -- The first outputs that the first held run holds wholly: which outputs are left to ask, and that the runs of the others lie in it.
 use Rattle.model.proofs.Prelude.{ℕ, ◌≤◌, ◌<◌, ◌+◌, ◌-◌, ◌^◌, ◌/◌, ◌≡◌, ◌∙◌, ap, refl, sym, true, Bool, false, ◌&&◌, not, List, length, get_or, arith}
-use Rattle.model.proofs.Prelude.{needs}
+use Rattle.model.proofs.Prelude.{rules}
 use native.Mathlib.Nat.{lt_of_le_of_lt}
 use lib.Bits.{bit_and, and_le_l}
 use lib.Count.{count_trailing_zeros}
@@ -62,7 +62,7 @@ asked-rest {outs = outs} whole first s u below ne some low high = record {
       };
 }
 
-pub ruleset asked-cases = (asked-all, asked-rest, needs)
+pub ruleset asked-cases = (asked-all, asked-rest, rules)
 
 -- the runs of an output that is not asked
 pub whole-held : {offsets : List ℕ} {outs : ℕ} {spans ws held : List ℕ} → OutputsReady offsets outs spans ws → {o : ℕ} → o < 64 → bit outs o ≡ true

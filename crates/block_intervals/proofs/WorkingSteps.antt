@@ -1,6 +1,6 @@
 -- The working runs: those of the inputs, one for each that makes the edge, are at most 64 and are counted only where that decides.
 use Rattle.model.proofs.Prelude.{ℕ, ◌≤◌, ◌<◌, ◌+◌, ◌-◌, suc, ◌^◌, zero, ◌/◌, ◌≡◌, ◌∙◌, ap, refl, sym, true, Bool, false, not, [], ◌∷◌, length, leb}
-use Rattle.model.proofs.Prelude.{ltb, add-zero, arith, needs, le-leb, lt-leb, lt-ltb, le-ltb}
+use Rattle.model.proofs.Prelude.{ltb, add-zero, arith, rules, le-leb, lt-leb, lt-ltb, le-ltb}
 use lib.Bits.{bit_and}
 use mir.Val.{Fits}
 use mir.Syntax.{w64}
@@ -67,4 +67,4 @@ module _ {total edges inputs input sum : ℕ} (x : InputsSummed total edges inpu
       (λ l. le-ltb 1024 sum (omega arith) ∙ sym (ap not (le-leb (runs_before (input_runs_of edges) inputs + total) max_runs l)))
       (λ l. lt-ltb 1024 sum (omega arith) ∙ sym (ap not (lt-leb (runs_before (input_runs_of edges) inputs + total) max_runs l)))
 
-pub ruleset working-cases = (few-working, many-working, sum-start, sum-place, sum_fits, sum_more, sum-end, needs)
+pub ruleset working-cases = (few-working, many-working, sum-start, sum-place, sum_fits, sum_more, sum-end, rules)

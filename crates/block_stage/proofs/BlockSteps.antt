@@ -1,6 +1,6 @@
 -- The records of a block in order: one record more, a refused one, the end.
 use Rattle.model.proofs.Prelude.{ℕ, ◌≤◌, ◌<◌, ◌+◌, ◌-◌, ◌*◌, suc, ◌≡◌, ◌∙◌, ap, refl, sym, subst, List, length, get_or, drop, take, add-one, arith}
-use Rattle.model.proofs.Prelude.{needs}
+use Rattle.model.proofs.Prelude.{rules}
 use Rattle.model.specs.Base.{Answer, refused, ◌into◌, after}
 use Rattle.model.specs.Netlist.{Netlist, nets}
 use Rattle.model.specs.Detect.{Test}
@@ -239,4 +239,4 @@ module _ {table offsets risingLists fallingLists marks : List ℕ} {batch : Batc
     past_work = refl;
   }
 
-pub ruleset block-cases = (block_start, needs)
+pub ruleset block-cases = (block_start, rules)

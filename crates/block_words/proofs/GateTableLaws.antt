@@ -1,6 +1,6 @@
 -- The table of a legal netlist: filled from the gates' records, and what evaluating a block needs of it. Only the first part speaks of the file.
 use Rattle.model.proofs.Prelude.{ℕ, ◌≤◌, ◌<◌, ◌+◌, ◌*◌, ◌≡◌, ◌∙◌, ap, sym, subst, ⊎_elim, inl, inr, List, length, get_or, set, length-set}
-use Rattle.model.proofs.Prelude.{get_or-set_same, get_or-set_other, ext_get_or, leb, T, leb→le, arith, needs}
+use Rattle.model.proofs.Prelude.{get_or-set_same, get_or-set_other, ext_get_or, leb, T, leb→le, arith, rules}
 use Rattle.model.specs.Base.{numbers_from}
 use Rattle.model.specs.Netlist.{Netlist, nets, gate_of, pins_of, pin_net}
 use Rattle.model.specs.Read.{kind_of, pins_fit}
@@ -224,4 +224,4 @@ module _ {table : List ℕ} {inputs netCount : ℕ} (s : SomeTable table inputs 
   pub high-kind : g.kind ≤ 8
   high-kind = rw i.kind_is row.high_kind
 
-pub ruleset table-cases = (table-start, part-starts, part-kind, part_count, part-nets, table-room, table_step, needs)
+pub ruleset table-cases = (table-start, part-starts, part-kind, part_count, part-nets, table-room, table_step, rules)

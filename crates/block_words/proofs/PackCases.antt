@@ -1,6 +1,6 @@
 -- The active pins of a record as a byte, the last pin first.
 use Rattle.model.proofs.Prelude.{ℕ, ◌≤◌, ◌<◌, ◌+◌, ◌-◌, ◌*◌, suc, ◌^◌, zero, ◌/◌, ◌%◌, ◌≡◌, ◌∙◌, ap, refl, sym, ap₂, true, Bool, false, List, [], ◌∷◌}
-use Rattle.model.proofs.Prelude.{get_or, eqb, add-zero, mod-lt, pow-suc, lt_of_lt_of_le, arith, needs}
+use Rattle.model.proofs.Prelude.{get_or, eqb, add-zero, mod-lt, pow-suc, lt_of_lt_of_le, arith, rules}
 use lib.Bits.{bit_and, and_mask}
 use lib.Pow.{pow_mono}
 use mir.Val.{Fits}
@@ -48,7 +48,7 @@ module _ (rows : List ℕ) (place : ℕ) {pins d e : ℕ} (two : pins ≡ 2) (a 
   pub two-small : d + 2 * e < 256
   two-small = omega (arith, digit-small (get_or rows 0 0) place d a, digit-small (get_or rows 1 0) place e b)
 
-pub ruleset two-pin-cases = (second_fits, two-packed, two-sum, two-small, needs)
+pub ruleset two-pin-cases = (second_fits, two-packed, two-sum, two-small, rules)
 
 pub record Packing (rows : List ℕ) (pins place byte k : ℕ) : Type 0 where
   pub within : k ≤ pins

@@ -1,6 +1,6 @@
 -- Numbers stored one after another from an answer word on: the counts of the nets behind the first four words, the rows of coverage by length.
 use Rattle.model.proofs.Prelude.{ℕ, ◌≤◌, ◌<◌, ◌+◌, suc, zero, ◌≡◌, ◌∙◌, ap, List, [], ◌∷◌, ◌++◌, length, get_or, take, set, sets, length-take-le}
-use Rattle.model.proofs.Prelude.{take_all, add-one, arith, needs}
+use Rattle.model.proofs.Prelude.{take_all, add-one, arith, rules}
 use mir.Val.{Val}
 use denote.Shadow.{shadow}
 use denote.Array.{Array, each}
@@ -31,4 +31,4 @@ pub stored-both : (found xs ys : List ℕ) (place : ℕ) (first left : List ℕ)
     → first ≡ sets found place xs → left ≡ sets first (place + 64) ys → left ≡ sets found place (xs ++ ys)
 stored-both found xs ys place first left long e f = rw (f, e) (sets_append xs ys found place (place + 64) (omega arith))
 
-pub ruleset stored-cases = (stored_next, stored-end, needs)
+pub ruleset stored-cases = (stored_next, stored-end, rules)

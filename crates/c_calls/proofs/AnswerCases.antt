@@ -1,5 +1,5 @@
 -- The code and the answer words of each other call, by the cases of its answer.
-use Rattle.model.proofs.Prelude.{ℕ, ◌≡◌, ap, List, [], ◌∷◌, sets, needs}
+use Rattle.model.proofs.Prelude.{ℕ, ◌≡◌, ap, List, [], ◌∷◌, sets, rules}
 use Rattle.model.specs.Refusals.{refusal_number_of}
 use Rattle.model.specs.declared.Refusal.{Refusal}
 use Rattle.netlist.specs.declared.Surveyed.{Surveyed}
@@ -58,7 +58,7 @@ audit_done r p = rw p code_zero
 pub begin_done : (r : BeginAnswer) → r ≡ beginning.Ready → code_answer 0 ≡ begun_of r
 begin_done r p = rw p code_zero
 
-pub ruleset code-cases = (path-refused, audit_refused, begin_refused, path-done, audit_done, begin_done, needs)
+pub ruleset code-cases = (path-refused, audit_refused, begin_refused, path-done, audit_done, begin_done, rules)
 
 -- ---- Answers with words: a call that was refused leaves them as they were
 
@@ -116,16 +116,16 @@ module _ (code : ℕ) (q : code ≡ 0) (found left : List ℕ) where
     pub bench_taken : (r : BenchAnswer) → r ≡ bench.Written n → Answered (bench_of r) number_word code found left
     bench_taken r p = rw (q, l) (answered-value (bench_of r) number_word found n (ap bench_of p))
 
-pub ruleset survey-cases = (survey-refused, survey-taken, needs)
+pub ruleset survey-cases = (survey-refused, survey-taken, rules)
 
-pub ruleset number-cases = (number-refused, number-taken, needs)
+pub ruleset number-cases = (number-refused, number-taken, rules)
 
-pub ruleset fault-cases = (fault-refused, fault-taken, needs)
+pub ruleset fault-cases = (fault-refused, fault-taken, rules)
 
-pub ruleset report-cases = (report-refused, report-taken, needs)
+pub ruleset report-cases = (report-refused, report-taken, rules)
 
-pub ruleset piece-cases = (piece-refused, record_refused, piece-taken, needs)
+pub ruleset piece-cases = (piece-refused, record_refused, piece-taken, rules)
 
-pub ruleset bench-cases = (bench_refused, bench_taken, needs)
+pub ruleset bench-cases = (bench_refused, bench_taken, rules)
 
-pub ruleset load-cases = (load-refused, load-taken, needs)
+pub ruleset load-cases = (load-refused, load-taken, rules)

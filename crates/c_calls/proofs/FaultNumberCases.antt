@@ -1,5 +1,5 @@
 -- The conversions of path numbers and fault numbers, by the cases of what they are handed.
-use Rattle.model.proofs.Prelude.{ℕ, ◌≤◌, ◌<◌, ◌≡◌, ◌∙◌, refl, List, set, sets, needs, le-leb, lt-leb, ne_eqb}
+use Rattle.model.proofs.Prelude.{ℕ, ◌≤◌, ◌<◌, ◌≡◌, ◌∙◌, refl, List, set, sets, rules, le-leb, lt-leb, ne_eqb}
 use Rattle.model.specs.Base.{refused, value}
 use Rattle.model.specs.Path.{rising, falling, edge_of_fault, path_of_fault}
 use Rattle.model.specs.Refusals.{refusal_number_of}
@@ -63,6 +63,6 @@ module _ (f : ℕ) (h : 1 ≤ f) where
       → set found 0 n ≡ answer_after (path_of_call f) side_word found
   side_found found n d q e = rw (side_of f h, q, e) refl
 
-pub ruleset fault-of-cases = (rising-found, falling-found, no_edge, needs)
+pub ruleset fault-of-cases = (rising-found, falling-found, no_edge, rules)
 
-pub ruleset path-of-cases = (no-path, no-side, path-found, side_found, needs)
+pub ruleset path-of-cases = (no-path, no-side, path-found, side_found, rules)

@@ -1,5 +1,5 @@
 -- The code and the answer words of the calls on a store, by the cases of their answers.
-use Rattle.model.proofs.Prelude.{ℕ, ◌+◌, ◌≡◌, ap, true, false, List, [], ◌∷◌, ◌++◌, length, get_or, sets, arith, needs}
+use Rattle.model.proofs.Prelude.{ℕ, ◌+◌, ◌≡◌, ap, true, false, List, [], ◌∷◌, ◌++◌, length, get_or, sets, arith, rules}
 use Rattle.model.specs.Base.{value}
 use Rattle.model.specs.Refusals.{refusal_number_of}
 use Rattle.model.specs.declared.Refusal.{Refusal}
@@ -42,9 +42,9 @@ empty-done r p = rw p code_zero
 pub view-done : (r : ViewAnswer) → r ≡ view.Written → code_answer 0 ≡ view_of r
 view-done r p = rw p code_zero
 
-pub ruleset empty-cases = (empty-refused, empty-done, needs)
+pub ruleset empty-cases = (empty-refused, empty-done, rules)
 
-pub ruleset view-cases = (view-refused, view-done, needs)
+pub ruleset view-cases = (view-refused, view-done, rules)
 
 -- ---- Answers with words: a call that was refused leaves them as they were
 
@@ -94,12 +94,12 @@ module _ (code : ℕ) (q : code ≡ 0) (found left : List ℕ) where
   pub held-no : (r : HeldAnswer) → r ≡ held.NotHeld → left ≡ sets found 0 (number_word 0) → Answered (held_of r) bool_word code found left
   held-no r p l = rw (q, l) (answered-value (held_of r) bool_word found false (ap held_of p))
 
-pub ruleset test-cases = (test-refused, test-taken, needs)
+pub ruleset test-cases = (test-refused, test-taken, rules)
 
-pub ruleset totals-cases = (totals-refused, totals-taken, needs)
+pub ruleset totals-cases = (totals-refused, totals-taken, rules)
 
-pub ruleset exhaust-cases = (exhaust_refused, exhaust_taken, needs)
+pub ruleset exhaust-cases = (exhaust_refused, exhaust_taken, rules)
 
-pub ruleset held-cases = (held-refused, held-yes, held-no, needs)
+pub ruleset held-cases = (held-refused, held-yes, held-no, rules)
 
-pub ruleset lengths-cases = (lengths-refused, lengths-taken, needs)
+pub ruleset lengths-cases = (lengths-refused, lengths-taken, rules)

@@ -1,5 +1,5 @@
 -- The code and the answer words of the calls on a tree, by the cases of their answers.
-use Rattle.model.proofs.Prelude.{ℕ, ◌≡◌, ap, true, false, List, [], ◌∷◌, sets, needs}
+use Rattle.model.proofs.Prelude.{ℕ, ◌≡◌, ap, true, false, List, [], ◌∷◌, sets, rules}
 use Rattle.model.specs.Refusals.{refusal_number_of}
 use Rattle.model.specs.declared.Refusal.{Refusal}
 use Rattle.tree_words.specs.Calls.{run_of, none, found}
@@ -36,7 +36,7 @@ emptied-done r p = rw p code_zero
 pub changed-done : (r : TreeChanged) → r ≡ changed.Changed → code_answer 0 ≡ changed_of r
 changed-done r p = rw p code_zero
 
-pub ruleset code-cases = (emptied-refused, emptied-done, changed-refused, changed-done, needs)
+pub ruleset code-cases = (emptied-refused, emptied-done, changed-refused, changed-done, rules)
 
 -- ---- Answers with words: a call that was refused leaves them as they were
 
@@ -74,10 +74,10 @@ module _ (code : ℕ) (q : code ≡ 0) (before left : List ℕ) where
   pub each-taken : (r : TreeAsked) (n : ℕ) → r ≡ each.Levels n → left ≡ sets before 0 (number_word n) → Answered (each_of r) number_word code before left
   each-taken r n p e = rw (q, e) (answered-value (each_of r) number_word before n (ap each_of p))
 
-pub ruleset found-cases = (found-refused, found-run, found_none, needs)
+pub ruleset found-cases = (found-refused, found-run, found_none, rules)
 
-pub ruleset total-cases = (total-refused, total-taken, needs)
+pub ruleset total-cases = (total-refused, total-taken, rules)
 
-pub ruleset holds-cases = (holds-refused, holds-yes, holds-no, needs)
+pub ruleset holds-cases = (holds-refused, holds-yes, holds-no, rules)
 
-pub ruleset each-cases = (each-refused, each-taken, needs)
+pub ruleset each-cases = (each-refused, each-taken, rules)

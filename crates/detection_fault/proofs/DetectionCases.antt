@@ -1,5 +1,5 @@
 -- The cases of the call: the class, the record, the fault's number, then the answer.
-use Rattle.model.proofs.Prelude.{ℕ, ◌≤◌, ◌<◌, ◌*◌, ◌≡◌, ◌∙◌, ap, refl, sym, ap₂, true, Bool, false, not, and-false, List, [], ◌∷◌, leb, arith, needs}
+use Rattle.model.proofs.Prelude.{ℕ, ◌≤◌, ◌<◌, ◌*◌, ◌≡◌, ◌∙◌, ap, refl, sym, ap₂, true, Bool, false, not, and-false, List, [], ◌∷◌, leb, arith, rules}
 use Rattle.model.proofs.Prelude.{le-leb, lt-leb, not-true, not-false}
 use Rattle.model.specs.Base.{Answer, refused, value, ◌then◌, checks}
 use Rattle.model.specs.Netlist.{Netlist, path_total}
@@ -106,7 +106,7 @@ module _ (file ps cs : List ℕ) (shape : Shape) (total : ℕ) (a : Asked file p
             pub on-not : b ≡ false → (M : Netlist) → CircuitTables M file ps cs shape → detection_of detection.NotDetected ≡ detection_on M class rec fault
             on-not t = every (value false) class fault rec (answered false t)
 
-pub ruleset on-cases = (on-some-input, on-few-inputs, on-unknown, on-record, on-low, on-high, on-legal, on-detected, on-not, needs)
+pub ruleset on-cases = (on-some-input, on-few-inputs, on-unknown, on-record, on-low, on-high, on-legal, on-detected, on-not, rules)
 
 -- ---- the netlist
 
@@ -127,4 +127,4 @@ module _ (file cs ps : List ℕ) (l : LoadAnswer) (t : LoadTrue l file cs ps) (c
     unfolding detection_call
     call-answered r made = made here.circuit here.tables ∙ rw here.tables.legal refl
 
-pub ruleset call-cases = (zeros-are, call-refused, call-asked, call-answered, needs)
+pub ruleset call-cases = (zeros-are, call-refused, call-asked, call-answered, rules)

@@ -1,6 +1,6 @@
 -- A path of the netlist is open by the bytes of the open pins exactly when the test detects its fault.
 use Rattle.model.proofs.Prelude.{ℕ, ◌≤◌, ◌<◌, ◌+◌, ◌-◌, ◌*◌, ◌≡◌, ◌∙◌, ap, sym, subst, ap₂, Bool, false, ◌&&◌, not, List, [], ◌∷◌, length, get_or}
-use Rattle.model.proofs.Prelude.{drop, T, ltb→lt, eqb→eq, arith, needs}
+use Rattle.model.proofs.Prelude.{drop, T, ltb→lt, eqb→eq, arith, rules}
 use Rattle.model.specs.Base.{bit}
 use Rattle.model.specs.Netlist.{Netlist, nets, pin_net, path_total, output_counts, output_net}
 use Rattle.model.specs.Path.{Edge, rising, falling, valid_at, split, path_at, path_of}
@@ -37,7 +37,7 @@ module _ (file ps cs : List ℕ) (shape : Shape) (k : ℕ) (r : Wanted file ps c
       net-is file ps cs shape k r outs eo o ep N u high ∙ ap (output_net N) (pin-is file ps cs shape k r outs eo o ep N u high) in
       made N u ∙ ap₂ (λ n j. all_open N (open_in masks) (bit moved) n (path_at N n n j)) net (number_is file ps cs shape k r outs eo o ep N u high)
 
-pub ruleset path-cases = (wanted-some, wanted-few, wanted_room, wanted-known, wanted-outputs, wanted-small, picked_net, picked_low, picked_high, path-open, needs)
+pub ruleset path-cases = (wanted-some, wanted-few, wanted_room, wanted-known, wanted-outputs, wanted-small, picked_net, picked_low, picked_high, path-open, rules)
 
 -- ---- the bytes of the open pins, and the pins that the model calls open
 
@@ -112,4 +112,4 @@ module _ {file ps cs : List ℕ} {shape : Shape} {rec : List ℕ} {k : ℕ} (h :
         made N u ∙ ap (λ m. open_number N masks m k) em'
         ∙ open_detects N (legal file N u.legal) (t N u) e masks (moved_by edges e) (pins-open N u) (moves N u e) k h.low high
 
-pub ruleset asked-cases = (asked-inputs, asked-length, asked-circuit, asked-wanted, needs)
+pub ruleset asked-cases = (asked-inputs, asked-length, asked-circuit, asked-wanted, rules)

@@ -1,5 +1,5 @@
 -- The cases of the walk along a path: what is open from the net at hand on is what is open from the first net on.
-use Rattle.model.proofs.Prelude.{ℕ, ◌≤◌, ◌<◌, ◌≡◌, ◌∙◌, ap, refl, sym, true, Bool, false, ◌&&◌, not, List, length, get_or, arith, needs, not-true}
+use Rattle.model.proofs.Prelude.{ℕ, ◌≤◌, ◌<◌, ◌≡◌, ◌∙◌, ap, refl, sym, true, Bool, false, ◌&&◌, not, List, length, get_or, arith, rules, not-true}
 use Rattle.model.proofs.Prelude.{not-false}
 use Rattle.model.specs.Base.{bit, sum_of}
 use Rattle.model.specs.Netlist.{Netlist, nets}
@@ -134,4 +134,4 @@ module _ {file ps cs masks : List ℕ} {moved net number : ℕ} where
           let i : at < N.inputs = omega (arith, d.inputs_are, t.inputs_are) in
           every b (e ∙ sym (ap (all_open N (open_in masks) (bit moved) at) (path_at-input N w at at rest i)))
 
-pub ruleset walk-cases = (walk_start, walk-few, walk_inside, walk-pins, walk-number, walk-pin, walk-less, walk-shut, walk-next, walk-input, walk_end, needs)
+pub ruleset walk-cases = (walk_start, walk-few, walk_inside, walk-pins, walk-number, walk-pin, walk-less, walk-shut, walk-next, walk-input, walk_end, rules)

@@ -1,6 +1,6 @@
 -- All pairs, case by case as the code meets them: on a legal netlist from an empty store, then the call.
 use Rattle.model.proofs.Prelude.{ℕ, ◌≤◌, ◌<◌, ◌^◌, ◌≡◌, ◌∙◌, ap, refl, sym, subst, true, Bool, false, not, List, [], ◌∷◌, length, replicate, T}
-use Rattle.model.proofs.Prelude.{le→leb, T_not, arith, needs, le-leb, lt-leb, ne_eqb, eq-eqb, not-true, not-false}
+use Rattle.model.proofs.Prelude.{le→leb, T_not, arith, rules, le-leb, lt-leb, ne_eqb, eq-eqb, not-true, not-false}
 use Rattle.model.specs.Base.{Answer, refused, value, ◌into◌, checks}
 use Rattle.model.specs.Netlist.{Netlist}
 use Rattle.model.specs.Read.{within, class_of}
@@ -193,4 +193,4 @@ module _ (netlist : List ℕ) (class : ℕ) (ws work : List ℕ) where
                 summed-refused n (refused k) o q = subst (λ (j : ℕ). T (of_work j)) (refused-inj q) (o k refl)
                 summed-refused n (value left) o q = absurd (not_refused (sym q))
 
-pub ruleset exhaust-cases = (exhaust_words, exhaust_short, exhaust_netlist, exhaust_class, exhaust_many, exhaust_empty, exhaust_ready, exhaust_done, needs)
+pub ruleset exhaust-cases = (exhaust_words, exhaust_short, exhaust_netlist, exhaust_class, exhaust_many, exhaust_empty, exhaust_ready, exhaust_done, rules)

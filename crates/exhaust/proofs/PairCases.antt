@@ -1,5 +1,5 @@
 -- All pairs on the tables of a netlist: those of one V1 as a block of tests, then one V1 after the other.
-use Rattle.model.proofs.Prelude.{ℕ, ◌≤◌, ◌<◌, ◌+◌, ◌-◌, suc, ◌^◌, ◌≡◌, ◌∙◌, ap, refl, sym, subst, List, length, get_or, drop, replicate, arith, needs}
+use Rattle.model.proofs.Prelude.{ℕ, ◌≤◌, ◌<◌, ◌+◌, ◌-◌, suc, ◌^◌, ◌≡◌, ◌∙◌, ap, refl, sym, subst, List, length, get_or, drop, replicate, arith, rules}
 use Rattle.model.specs.Base.{refused, value, ◌into◌, ◌then◌}
 use Rattle.model.specs.Netlist.{Netlist}
 use Rattle.model.specs.Detect.{Class, Test}
@@ -202,4 +202,4 @@ module _ (table offsets : List ℕ) (numbers : FileNumbers) (risingLists₀ fall
             past_work = d.kept.past_work ∙ g.past_work;
           }
 
-pub ruleset all-cases = (taking_start, taking_end, taking_ready, taking_below, taking_refused, taking_next, needs)
+pub ruleset all-cases = (taking_start, taking_end, taking_ready, taking_below, taking_refused, taking_next, rules)

@@ -1,6 +1,6 @@
 -- Pairs of vectors in words: how they are written, one V2 more at a time, and the tests that they are.
 use Rattle.model.proofs.Prelude.{ℕ, ◌≤◌, ◌<◌, ◌+◌, suc, ◌^◌, zero, ◌≡◌, ◌∙◌, ap, refl, sym, subst, ap₂, List, [], ◌∷◌, ◌++◌, map, append-nil, length}
-use Rattle.model.proofs.Prelude.{set, zero-add, suc-add, arith, needs, ne_eqb, eq-eqb}
+use Rattle.model.proofs.Prelude.{set, zero-add, suc-add, arith, rules, ne_eqb, eq-eqb}
 use Rattle.model.specs.Base.{numbers_from, value, checks}
 use Rattle.model.specs.Netlist.{Netlist}
 use Rattle.model.specs.Read.{test_rules}
@@ -76,7 +76,7 @@ pub held-end : (inputs : ℕ) {first count : ℕ} {vectors : List ℕ} {pairs se
 held-end inputs {first} e g h =
     (omega (arith, e.1, g.few, g.within), g.room, g.held ∙ ap (pairs_with first 0) (omega (arith, e.0, g.within)))
 
-pub ruleset held-cases = (held_start, needs)
+pub ruleset held-cases = (held_start, rules)
 
 -- each of them is legal
 legal-at : (N : Netlist) (f : ℕ → List ℕ) (n k t : ℕ) → AllLegal N (map f (numbers_from k n)) → t < n → AllPass (test_rules N (f (k + t)))

@@ -1,6 +1,6 @@
 -- What all pairs of a netlist show: where they are not refused, the store is sound for the number of its paths, and its lines are the text; else the
 -- line of the refusal is.
-use Rattle.model.proofs.Prelude.{ℕ, ◌≤◌, ◌^◌, ◌≡◌, ◌∙◌, ap, refl, sym, subst, ap₂, List, [], arith, needs}
+use Rattle.model.proofs.Prelude.{ℕ, ◌≤◌, ◌^◌, ◌≡◌, ◌∙◌, ap, refl, sym, subst, ap₂, List, [], arith, rules}
 use Rattle.io.specs.Counts.{IsPrefixLen}
 use Rattle.model.specs.Base.{Answer, refused, value, ◌into◌}
 use Rattle.model.specs.Netlist.{Netlist, path_total}
@@ -122,4 +122,4 @@ module _ (netlist : List ℕ) (class : ℕ) (ws ws' found left : List ℕ) (zs :
 pub shown-counts : (out out' text : List ℕ) (n : ℕ) → Written out out' 0 text n → IsPrefixLen n out'
 shown-counts out out' text n p = counts-bytes p
 
-pub ruleset shown-cases = (refused-shown, taken-shown, taken-sound, taken-paths, shown-counts, needs)
+pub ruleset shown-cases = (refused-shown, taken-shown, taken-sound, taken-paths, shown-counts, rules)

@@ -1,5 +1,5 @@
 -- The lines of a store and of what it does not hold: they fit in the buffer, one part after the other; and the faults that are listed.
-use Rattle.model.proofs.Prelude.{ℕ, ◌≤◌, ◌+◌, ◌*◌, ◌≡◌, ◌∙◌, ap, List, [], ◌∷◌, length, take, length-append, arith, needs}
+use Rattle.model.proofs.Prelude.{ℕ, ◌≤◌, ◌+◌, ◌*◌, ◌≡◌, ◌∙◌, ap, List, [], ◌∷◌, length, take, length-append, arith, rules}
 use Rattle.io.specs.Counts.{IsPrefixLen}
 use Rattle.model.specs.Path.{Edge, rising, falling}
 use Rattle.model.specs.Runs.{Run, size}
@@ -58,4 +58,4 @@ module _ (r paths : ℕ) (found left ws : List ℕ) (w : ListWritten r found lef
   pub faults-counted : IsPrefixLen r left
   faults-counted = counts-bytes put
 
-pub ruleset line-cases = (count_room, count-sound, lines-put, faults-listed, faults-counted, needs)
+pub ruleset line-cases = (count_room, count-sound, lines-put, faults-listed, faults-counted, rules)

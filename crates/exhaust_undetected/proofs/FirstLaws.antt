@@ -1,6 +1,6 @@
 -- The first fault that is not held is the lower one of the first of each edge.
 use Rattle.model.proofs.Prelude.{ℕ, ◌≤◌, ◌<◌, ◌+◌, ◌^◌, ◌/◌, ◌%◌, ◌≡◌, ◌∙◌, ap, refl, sym, subst, ap₂, ⊎_elim, true, Bool, false, List, eqb, eqb→eq}
-use Rattle.model.proofs.Prelude.{arith, needs, le-leb, lt-leb, eqb-false}
+use Rattle.model.proofs.Prelude.{arith, rules, le-leb, lt-leb, eqb-false}
 use Rattle.model.specs.Base.{refused, value}
 use Rattle.model.specs.Path.{Edge, rising, falling, fault_number, edge_of_fault, path_of_fault}
 use Rattle.model.specs.Runs.{in_runs}
@@ -105,4 +105,4 @@ module _ (ws : List ℕ) (from r s i j : ℕ) (low : 1 ≤ from) (up : FirstFree
       (λ o. down.passed (path_of_fault k) (omega arith) (omega arith)))
       down.free (λ m. omega arith)
 
-pub ruleset first-cases = (from-rising, from-falling, rising-first, falling-first, needs)
+pub ruleset first-cases = (from-rising, from-falling, rising-first, falling-first, rules)

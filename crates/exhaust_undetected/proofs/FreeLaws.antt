@@ -1,5 +1,5 @@
 -- The first number that is in no run: where a walk along ascending runs finds it.
-use Rattle.model.proofs.Prelude.{ℕ, ◌≤◌, ◌<◌, ◌+◌, ◌-◌, ◌*◌, ◌^◌, ◌≡◌, ◌∙◌, ap, refl, sym, subst, List, [], ◌∷◌, get_or, arith, needs}
+use Rattle.model.proofs.Prelude.{ℕ, ◌≤◌, ◌<◌, ◌+◌, ◌-◌, ◌*◌, ◌^◌, ◌≡◌, ◌∙◌, ap, refl, sym, subst, List, [], ◌∷◌, get_or, arith, rules}
 use mir.Syntax.{w64}
 use mir.Val.{Fits}
 use Rattle.model.specs.Path.{rising, falling}
@@ -93,7 +93,7 @@ module _ (ws : List ℕ) (from to x : ℕ) where
       pub walk-fits : Fits w64 (get_or ws (2 * i + 1) 0 + 1)
       walk-fits = omega (arith, (sound-at (2 ^ 62) ws i to i w.sound (omega arith) lt).most)
 
-pub ruleset walk-cases = (walk_begins, walk_ends, walk_inside, walk-below, walk-on, walk-fits, needs)
+pub ruleset walk-cases = (walk_begins, walk_ends, walk_inside, walk-below, walk-on, walk-fits, rules)
 
 -- the runs of an edge in a store's words
 module _ (ws : List ℕ) (edge : Code.Edge) (from r : ℕ) where

@@ -1,6 +1,6 @@
 -- The search for the next fault that is not held, the loop that lists them, and their number, case by case as the code meets them.
 use Rattle.model.proofs.Prelude.{ℕ, ◌≤◌, ◌<◌, ◌+◌, ◌-◌, ◌*◌, suc, ◌^◌, zero, ◌≡◌, ◌∙◌, ap, refl, sym, subst, ⊎_elim, true, Bool, false, List, [], ◌∷◌}
-use Rattle.model.proofs.Prelude.{length, get_or, take, set, length-set, sets, length-take-le, take_all, add-one, arith, needs}
+use Rattle.model.proofs.Prelude.{length, get_or, take, set, length-set, sets, length-take-le, take_all, add-one, arith, rules}
 use mir.Syntax.{w64}
 use mir.Val.{Fits}
 use Rattle.model.specs.Path.{rising, falling, path_of_fault}
@@ -44,7 +44,7 @@ module _ (ws : List ℕ) (paths from : ℕ) (a : FaultAnswer) (x : FirstFault a 
     next_here p is l =
         sym (ap (λ (l : List ℕ). get_or l 0 0) (first-free ws (2 * paths + 1 - from) from f.0 first (omega (arith, first.not_before))))
 
-pub ruleset next-cases = (next-none, next_past, next_here, needs)
+pub ruleset next-cases = (next-none, next_past, next_here, rules)
 
 take_none : (n : ℕ) → take {A = ℕ} n [] ≡ []
 take_none zero = refl
@@ -139,7 +139,7 @@ module _ (ws : List ℕ) (paths : ℕ) (found : List ℕ) where
               counted = omega (arith, x.counted, ap length t);
             }
 
-pub ruleset List-cases = (list-begins, list_full, list-none, list-fits, list-next, needs)
+pub ruleset List-cases = (list-begins, list_full, list-none, list-fits, list-next, rules)
 
 -- Their number, edge by edge
 module _ (ws : List ℕ) where
@@ -213,4 +213,4 @@ module _ (ws : List ℕ) (paths : ℕ) (s : SoundWords paths ws) where
     pub count-both : (paths - t.rising) + (paths - t.falling) ≡ length (undetected ws paths)
     count-both = omega (arith, not_held-many, count-rising, count-falling, of_rising, of_falling)
 
-pub ruleset count-cases = (count-sound, count-rising, count-falling, count-both, needs)
+pub ruleset count-cases = (count-sound, count-rising, count-falling, count-both, rules)

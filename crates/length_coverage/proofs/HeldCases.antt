@@ -1,6 +1,6 @@
 -- The cases of the faults held by length: a run by the paths up to its ends, and the runs one after the other.
 use Rattle.model.proofs.Prelude.{ℕ, ◌≤◌, ◌<◌, ◌+◌, ◌-◌, ◌*◌, ◌/◌, ◌≡◌, ◌∙◌, ap, refl, sym, ap₂, List, ◌∷◌, length, get_or, replicate, length-replicate}
-use Rattle.model.proofs.Prelude.{get_or-replicate, arith, needs}
+use Rattle.model.proofs.Prelude.{get_or-replicate, arith, rules}
 use Rattle.model.specs.Base.{value}
 use Rattle.model.specs.Netlist.{Netlist, path_total}
 use Rattle.model.specs.Runs.{Run, Separated, in_runs}
@@ -142,4 +142,4 @@ module _ {file ps cs : List ℕ} {shape : Shape} {rows : List (List ℕ)} {ws : 
                 omega (arith, ap (λ (x : List ℕ). get_or x l 0) (e C legal), added-at ms f l h, first, a.whole l h);
           }
 
-pub ruleset held-cases = (held_start, held_small, low-place, high-place, run-low, run-order, run-ranked, held_next, needs)
+pub ruleset held-cases = (held_start, held_small, low-place, high-place, run-low, run-order, run-ranked, held_next, rules)

@@ -1,5 +1,5 @@
 -- The cases of the call: store length, netlist and the store's words are refused in this order, then the rows.
-use Rattle.model.proofs.Prelude.{ℕ, ◌≤◌, ◌^◌, ◌≡◌, ◌∙◌, ap, refl, sym, subst, List, [], ◌∷◌, ◌++◌, length, arith, needs, ne_eqb, eq-eqb}
+use Rattle.model.proofs.Prelude.{ℕ, ◌≤◌, ◌^◌, ◌≡◌, ◌∙◌, ap, refl, sym, subst, List, [], ◌∷◌, ◌++◌, length, arith, rules, ne_eqb, eq-eqb}
 use Rattle.model.specs.Base.{Answer, refused, value, ◌then◌, checks}
 use Rattle.model.specs.Netlist.{Netlist, path_total}
 use Rattle.model.specs.Read.{read_netlist}
@@ -85,4 +85,4 @@ module _ (file ws : List ℕ) (l : length ws ≡ store_words_count) (cs ps : Lis
             (sym (on-words ∙ ap (λ (x : StoreCheck). check_of x then checks (length_rule N ∷ []) then value (by_edge (rows_of N ws))) k))
             (f N is.tables.legal)
 
-pub ruleset call-cases = (zeros-are, call-short, call-netlist, call-fit, call-store, call-countable, call-counted, needs)
+pub ruleset call-cases = (zeros-are, call-short, call-netlist, call-fit, call-store, call-countable, call-counted, rules)

@@ -1,6 +1,6 @@
 -- The cases of the descent: what is added so far, with what the net at hand still gives for paths longer by the gates so far, is the whole.
 use Rattle.model.proofs.Prelude.{ℕ, ◌≤◌, ◌<◌, ◌+◌, ◌-◌, suc, ◌^◌, ◌≡◌, ◌∙◌, ap, refl, sym, ap₂, List, length, get_or, set, length-set, get_or-set_same}
-use Rattle.model.proofs.Prelude.{get_or-set_other, arith, needs}
+use Rattle.model.proofs.Prelude.{get_or-set_other, arith, rules}
 use mir.Val.{Fits}
 use mir.Syntax.{w64}
 use Rattle.model.specs.Base.{value, sum_of}
@@ -227,4 +227,4 @@ module _ {file ps cs : List ℕ} {rows : List (List ℕ)} {net number : ℕ} {ns
             (λ u. elsewhere l b (λ z. omega arith)))
             ∙ every M read
 
-pub ruleset down-cases = (down-start, down-few, down-gates, down-inside, down-pins, down-number, down-room, down-pin, down-less, down-next, down_fits, needs)
+pub ruleset down-cases = (down-start, down-few, down-gates, down-inside, down-pins, down-number, down-room, down-pin, down-less, down-next, down_fits, rules)

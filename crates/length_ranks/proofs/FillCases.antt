@@ -1,6 +1,6 @@
 -- The cases of filling in the rows of the nets: those of the nets before the one at hand stand in the table.
 use Rattle.model.proofs.Prelude.{ℕ, ◌≤◌, ◌<◌, ◌+◌, ◌*◌, ◌≡◌, ◌∙◌, sym, subst, List, [], length, get_or, set, length-set, get_or-set_same, get_or-set_other}
-use Rattle.model.proofs.Prelude.{arith, needs}
+use Rattle.model.proofs.Prelude.{arith, rules}
 use mir.Val.{Fits}
 use mir.Syntax.{w64}
 use Rattle.model.specs.Base.{value}
@@ -52,4 +52,4 @@ module _ (file ps : List ℕ) (shape : Shape) where
         subst (λ (M : Netlist). NetRows M shape.nets rows) (value_inj (sym b.tables.legal ∙ e))
         (record { long = b.rows_are_of.long; right = λ k a. b.rows_are_of.right k (omega arith) })
 
-pub ruleset fill-cases = (fill_start, fill_few, fill_place, fill_next, fill_end, needs)
+pub ruleset fill-cases = (fill_start, fill_few, fill_place, fill_next, fill_end, rules)

@@ -1,6 +1,6 @@
 -- The rows at a gate's pins, out of the part of the file that begins with its record, are those of the nets at its pins.
 use Rattle.model.proofs.Prelude.{ℕ, ◌≤◌, ◌<◌, ◌-◌, suc, ◌^◌, zero, ◌≡◌, ◌∙◌, ap, sym, subst, List, [], length, get_or, set, length-set, replicate}
-use Rattle.model.proofs.Prelude.{length-map, length-replicate, get_or-replicate, ext_get_or, arith, needs}
+use Rattle.model.proofs.Prelude.{length-map, length-replicate, get_or-replicate, ext_get_or, arith, rules}
 use Rattle.model.specs.Base.{value, sum_of}
 use Rattle.model.specs.Netlist.{Netlist, counts, nets, pins_of}
 use Rattle.model.specs.Path.{counts_before}
@@ -121,4 +121,4 @@ module _ (file ps : List ℕ) (shape : Shape) (net : ℕ) (rows : List (List ℕ
             e ∙ added-zeros (longer 1 (pin_sums_before part rows pins))
             ∙ row_same (λ l h. at-gate l h ∙ ap (λ (M : Netlist). partials M net l) (same N read))
 
-pub ruleset net-row-cases = (row-few, input-row, row_inside, row-pins, row-head, row_room, gate-row, needs)
+pub ruleset net-row-cases = (row-few, input-row, row_inside, row-pins, row-head, row_room, gate-row, rules)

@@ -1,5 +1,5 @@
 -- The cases of adding the rows of outputs: the rows of the outputs before the one at hand are added.
-use Rattle.model.proofs.Prelude.{ℕ, ◌≤◌, ◌<◌, ◌+◌, ◌-◌, ◌*◌, ◌≡◌, ◌∙◌, ap, refl, sym, List, [], length, get_or, drop, take, arith, needs}
+use Rattle.model.proofs.Prelude.{ℕ, ◌≤◌, ◌<◌, ◌+◌, ◌-◌, ◌*◌, ◌≡◌, ◌∙◌, ap, refl, sym, List, [], length, get_or, drop, take, arith, rules}
 use Rattle.model.specs.Path.{counts_before}
 use Rattle.model.proofs.NetLaws.{output-count-wire, output-count-gate}
 use Rattle.netlist.specs.Tables.{output_in}
@@ -75,6 +75,6 @@ module _ (part : List ℕ) (n inputs : ℕ) (rows : List (List ℕ)) where
       outputs-more ms' e' =
           e' ∙ added_is ns (added ms here) (sums_before (o + 1)) (added-length ms here) (λ l h. omega (arith, added-at ms here l h, so_far l h, next l))
 
-pub ruleset output-row-cases = (wire_added, gate-room, gate-added, needs)
+pub ruleset output-row-cases = (wire_added, gate-room, gate-added, rules)
 
-pub ruleset outputs-cases = (outputs-start, outputs-end, outputs-room, outputs-more, output-few, output-start, output-fits, output-room, needs)
+pub ruleset outputs-cases = (outputs-start, outputs-end, outputs-room, outputs-more, output-few, output-start, output-fits, output-room, rules)

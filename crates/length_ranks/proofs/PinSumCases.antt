@@ -1,5 +1,5 @@
 -- The cases of adding the rows of a gate's pins: the rows of the pins before the one at hand are added.
-use Rattle.model.proofs.Prelude.{ℕ, ◌≤◌, ◌<◌, ◌+◌, ◌*◌, ◌≡◌, ◌∙◌, ap, sym, List, [], length, get_or, arith, needs}
+use Rattle.model.proofs.Prelude.{ℕ, ◌≤◌, ◌<◌, ◌+◌, ◌*◌, ◌≡◌, ◌∙◌, ap, sym, List, [], length, get_or, arith, rules}
 use mir.Val.{Fits}
 use mir.Syntax.{w64}
 use Rattle.netlist.specs.Tables.{pin_count_in, pin_in}
@@ -70,4 +70,4 @@ module _ (part : List ℕ) (rows : List (List ℕ)) (by : ℕ) (ns : List ℕ) (
             longer-same by (pin_sums_before part rows (pin + 1)) (λ k. pin_sums_before part rows pin k + entry k) l (λ k b. next k),
           ))
 
-pub ruleset pins-cases = (pins-start, pins-end, pins-room, pins-more, pin-room, pin-few, row-place, needs)
+pub ruleset pins-cases = (pins-start, pins-end, pins-room, pins-more, pin-room, pin-few, row-place, rules)

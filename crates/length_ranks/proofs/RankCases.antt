@@ -1,6 +1,6 @@
 -- The cases of the paths up to a number: those of the outputs before the one that the number ends at, and some of that output's.
 use Rattle.model.proofs.Prelude.{ℕ, ◌≤◌, ◌<◌, ◌+◌, ◌-◌, ◌*◌, suc, ◌^◌, ◌≡◌, ◌∙◌, ap, refl, sym, ap₂, true, false, List, map, length, get_or, drop}
-use Rattle.model.proofs.Prelude.{replicate, length-map, length-replicate, get_or-replicate, ext_get_or, lt→ltb, arith, needs, lt-leb}
+use Rattle.model.proofs.Prelude.{replicate, length-map, length-replicate, get_or-replicate, ext_get_or, lt→ltb, arith, rules, lt-leb}
 use Rattle.model.specs.Base.{value, sum_of}
 use Rattle.model.specs.Netlist.{Netlist, is_input, output_count, output_counts, output_net}
 use Rattle.model.specs.Path.{counts_before, split}
@@ -129,4 +129,4 @@ module _ {file ps cs : List ℕ} {shape : Shape} {rows : List (List ℕ)} {numbe
             f l = partials_up_to N o.net l o.number
 
 pub ruleset rank-cases =
-    (wanted-few, wanted_room, wanted-some, wanted-outputs, wanted-small, picked_net, picked_low, picked_high, rank_records, rank_room, rank_small, needs)
+    (wanted-few, wanted_room, wanted-some, wanted-outputs, wanted-small, picked_net, picked_low, picked_high, rank_records, rank_room, rank_small, rules)

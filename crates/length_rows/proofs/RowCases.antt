@@ -1,6 +1,6 @@
 -- The cases of the functions on rows: of a row, the numbers before the place at hand are added to, the others are as found.
 use Rattle.model.proofs.Prelude.{ℕ, ◌≤◌, ◌<◌, ◌+◌, ◌-◌, ◌^◌, ◌≡◌, ◌∙◌, ap, refl, sym, List, length, get_or, set, length-set, get_or-set_same}
-use Rattle.model.proofs.Prelude.{get_or-set_other, arith, needs}
+use Rattle.model.proofs.Prelude.{get_or-set_other, arith, rules}
 use mir.Val.{Fits}
 use mir.Syntax.{w64}
 use Rattle.model.specs.Base.{sum_of}
@@ -95,8 +95,8 @@ module _ (row : List ℕ) (long : length row ≡ lengths) (sum at : ℕ) (e : su
   pub row-end : lengths ≤ at → at ≤ lengths → sum ≡ sum_of row
   row-end h b = let all : at ≡ length row = omega arith in e ∙ ap (λ k. counts_before k row) all ∙ counts_before-all row
 
-pub ruleset longer-cases = (longer-start, longer-fits, longer-next, needs)
+pub ruleset longer-cases = (longer-start, longer-fits, longer-next, rules)
 
-pub ruleset over-cases = (over-start, over-less, over-fits, over-next, needs)
+pub ruleset over-cases = (over-start, over-less, over-fits, over-next, rules)
 
-pub ruleset row-cases = (row_fits, row_next, row-end, needs)
+pub ruleset row-cases = (row_fits, row_next, row-end, rules)

@@ -1,5 +1,5 @@
 -- The cases of the search for the first path of a length: how many there are up to a number, and two numbers that draw together.
-use Rattle.model.proofs.Prelude.{ℕ, ◌≤◌, ◌<◌, ◌+◌, ◌-◌, suc, ◌/◌, ◌≡◌, ◌∙◌, ap, sym, true, Bool, false, List, get_or, arith, needs}
+use Rattle.model.proofs.Prelude.{ℕ, ◌≤◌, ◌<◌, ◌+◌, ◌-◌, suc, ◌/◌, ◌≡◌, ◌∙◌, ap, sym, true, Bool, false, List, get_or, arith, rules}
 use mir.Val.{Fits}
 use mir.Syntax.{w64}
 use Rattle.model.specs.Base.{value}
@@ -21,7 +21,7 @@ pub rank_at : (file : List ℕ) (l number : ℕ) → l < lengths → (ns : List 
     → (N : Netlist) → read_netlist file ≡ value N → get_or ns l 0 ≡ paths_up_to N l number
 rank_at file l number h ns f N e = ap (λ (x : List ℕ). get_or x l 0) (f N e) ∙ row_at (λ k. paths_up_to N k number) l h
 
-pub ruleset rank-cases = (rank_at, needs)
+pub ruleset rank-cases = (rank_at, rules)
 
 -- Up to `under` there is no path of the length over `low`, up to `over` there is one
 pub record Drawing (file ps cs : List ℕ) (shape : Shape) (rows : List (List ℕ)) (l low high before under over : ℕ) : Type 0 where
@@ -127,4 +127,4 @@ module _ {file ps cs : List ℕ} {shape : Shape} {rows : List (List ℕ)} {l low
           sym (first-is P (suc high - (low + 1)) (low + 1) over (omega (arith, d.begun)) (omega (arith, d.most, d.begun)) passes none)
           ∙ ap (λ (K : Netlist). first_of (of_length K l) (low + 1) high) (value_inj (sym legal ∙ e))
 
-pub ruleset find_cases = (find_ranked, find_short, find_start, draw_back, draw_fits, draw_ranked, draw_short, draw_over, draw_under, draw_less, draw_less-2, draw_some, draw_end, needs)
+pub ruleset find_cases = (find_ranked, find_short, find_start, draw_back, draw_fits, draw_ranked, draw_short, draw_over, draw_under, draw_less, draw_less-2, draw_some, draw_end, rules)

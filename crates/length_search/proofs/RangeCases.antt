@@ -1,6 +1,6 @@
 -- The cases of one range of path numbers, and of the ranges between runs.
 use Rattle.model.proofs.Prelude.{ℕ, ◌≤◌, ◌<◌, ◌+◌, ◌-◌, suc, ◌≡◌, ◌∙◌, ap, refl, sym, true, Bool, false, ◌&&◌, not, and-false, and-true, List, []}
-use Rattle.model.proofs.Prelude.{◌∷◌, arith, needs}
+use Rattle.model.proofs.Prelude.{◌∷◌, arith, rules}
 use Rattle.model.specs.Base.{value}
 use Rattle.model.specs.Netlist.{Netlist}
 use Rattle.model.specs.Runs.{Run, Separated, in_runs}
@@ -50,7 +50,7 @@ module _ {file ps cs : List ℕ} {shape : Shape} {rows : List (List ℕ)} {l fro
         → (M : Netlist) → read_netlist file ≡ value M → x ≡ first_of (of_length M l) from last
     range-found x f M k = let z : from - 1 + 1 ≡ from = omega arith in f M k ∙ ap (λ y. first_of (of_length M l) y last) z
 
-pub ruleset range-cases = (range-empty, range-ranked, range_none, range-some, range-found, needs)
+pub ruleset range-cases = (range-empty, range-ranked, range_none, range-some, range-found, rules)
 
 -- ---- runs and the ranges between them
 

@@ -1,5 +1,5 @@
 -- The cases of the search along the runs: what is first from the number at hand on, with the runs that are left, is first of all.
-use Rattle.model.proofs.Prelude.{ℕ, ◌≤◌, ◌<◌, ◌+◌, ◌-◌, ◌*◌, ◌/◌, ◌≡◌, ◌∙◌, ap, refl, sym, List, [], ◌∷◌, length, get_or, arith, needs}
+use Rattle.model.proofs.Prelude.{ℕ, ◌≤◌, ◌<◌, ◌+◌, ◌-◌, ◌*◌, ◌/◌, ◌≡◌, ◌∙◌, ap, refl, sym, List, [], ◌∷◌, length, get_or, arith, rules}
 use mir.Val.{Fits}
 use mir.Syntax.{w64}
 use Rattle.model.specs.Base.{value}
@@ -133,4 +133,4 @@ module _ {file ps cs : List ℕ} {shape : Shape} {rows : List (List ℕ)} {ws : 
           whole = sym (none_before C wanted.gates wanted.total (run_at ws i) rest here at g.low within (sym (f C legal) ∙ h)) ∙ whole_here;
         }
 
-pub ruleset go-cases = (go-start, go-short, go-low, go-last, go-end, low-place, high-place, run-some, run-ranked, run_fits, go-past, go-found, go_on, needs)
+pub ruleset go-cases = (go-start, go-short, go-low, go-last, go-end, low-place, high-place, run-some, run-ranked, run_fits, go-past, go-found, go_on, rules)

@@ -1,5 +1,5 @@
 -- The cases of the search from the greatest length down: what it finds from the length at hand on is what it finds from the first.
-use Rattle.model.proofs.Prelude.{ℕ, ◌≤◌, ◌<◌, ◌-◌, ◌^◌, ◌≡◌, ◌∙◌, ap, refl, sym, subst, ap₂, true, false, List, length, get_or, eqb, arith, needs}
+use Rattle.model.proofs.Prelude.{ℕ, ◌≤◌, ◌<◌, ◌-◌, ◌^◌, ◌≡◌, ◌∙◌, ap, refl, sym, subst, ap₂, true, false, List, length, get_or, eqb, arith, rules}
 use Rattle.model.proofs.Prelude.{ne_eqb, eq-eqb}
 use Rattle.model.specs.Base.{Answer, refused, value, sum_of}
 use Rattle.model.specs.Netlist.{Netlist, path_total}
@@ -116,7 +116,7 @@ module _ {file ps cs : List ℕ} {shape : Shape} {rows : List (List ℕ)} {ws : 
             let found = longest_found C (all_runs ws) gates from some (λ z. n (e ∙ z)) in
             every (longest_of (longest.Found gates path)) (ap (λ (k : ℕ). value (record { gates = gates; path = k })) e ∙ ap value (sym found ∙ d.whole))
 
-pub ruleset down-cases = (down-runs, down-start, down-short, down-end, down-full, down-on, down-found, needs)
+pub ruleset down-cases = (down-runs, down-start, down-short, down-end, down-full, down-on, down-found, rules)
 
 -- ---- one path is too long, or the search
 
@@ -162,4 +162,4 @@ module _ {file ps cs : List ℕ} {shape : Shape} {rows : List (List ℕ)} {ws : 
           let here : value (longest_from K (all_runs ws) wanted.gates wanted.from) ≡ longest_in K (all_runs ws) wanted.gates wanted.from = rw yes refl in
           f K read ∙ here ∙ ap (λ (L : Netlist). longest_in L (all_runs ws) wanted.gates wanted.from) (value_inj (sym read ∙ e))
 
-pub ruleset all-cases = (all-ranked, all-long, all_fit, all-too_long, all_found, needs)
+pub ruleset all-cases = (all-ranked, all-long, all_fit, all-too_long, all_found, rules)

@@ -1,6 +1,6 @@
 -- The cases of the call: where it begins; store length, netlist and the store's words are refused in this order, then the search.
 use Rattle.model.proofs.Prelude.{ℕ, ◌≤◌, ◌<◌, ◌^◌, ◌/◌, ◌≡◌, ◌∙◌, ap, refl, sym, subst, true, Bool, false, List, [], ◌∷◌, ◌++◌, length, leb, arith}
-use Rattle.model.proofs.Prelude.{needs, le-leb, lt-leb, ne_eqb, eq-eqb}
+use Rattle.model.proofs.Prelude.{rules, le-leb, lt-leb, ne_eqb, eq-eqb}
 use Rattle.model.specs.Base.{Answer, refused, value, ◌then◌, checks}
 use Rattle.model.specs.Netlist.{Netlist, path_total}
 use Rattle.model.specs.Path.{Edge}
@@ -73,7 +73,7 @@ module _ (gates from total : ℕ) where
       (λ l. subst Begins (begin_none h l) (record { short = omega arith; low = omega arith })))
       (λ h. subst Begins (begin_long h) (record { short = omega arith; low = omega arith }))
 
-pub ruleset begin-cases = (begin_long, begin_none, begin_some, needs)
+pub ruleset begin-cases = (begin_long, begin_none, begin_some, rules)
 
 -- ---- the rows of the nets and the runs of the edge
 
@@ -171,4 +171,4 @@ module _ (file ws : List ℕ) (e : Edge) (gates from : ℕ) where
               ∙ ap (λ (x : Search). longest_in N (store_runs ws e) x.gates x.from) ew
               ∙ sym (on-words ∙ ap (λ (x : StoreCheck). check_of x then checks (length_rule N ∷ []) then value (longest_from N (store_runs ws e) (begin_gates gates) (begin_from gates from))) k)
 
-pub ruleset call-cases = (zeros-are, call-short, call-netlist, call-fit, call-store, call-prepared, call-found, needs)
+pub ruleset call-cases = (zeros-are, call-short, call-netlist, call-fit, call-store, call-prepared, call-found, rules)

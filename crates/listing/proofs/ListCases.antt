@@ -1,5 +1,5 @@
 -- What the listing program's functions need of each other: the first line with a legal netlist's tables, and an empty store.
-use Rattle.model.proofs.Prelude.{ℕ, ◌≤◌, ◌≡◌, sym, subst, true, List, length, take, replicate, needs}
+use Rattle.model.proofs.Prelude.{ℕ, ◌≤◌, ◌≡◌, sym, subst, true, List, length, take, replicate, rules}
 use Rattle.model.specs.Store.{store_words_count, empty_store}
 use Rattle.model.specs.Calls.{work_words_count}
 use Rattle.netlist.specs.Tables.{SomeTables}
@@ -35,4 +35,4 @@ from_empty netlist t ws₀ ws work out l long e w o =
       room = o;
     }
 
-pub ruleset List-cases = (head-length, head-tables, store-empty, from_empty, part_length, needs)
+pub ruleset List-cases = (head-length, head-tables, store-empty, from_empty, part_length, rules)

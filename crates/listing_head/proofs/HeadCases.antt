@@ -1,5 +1,5 @@
 -- The first line by the netlist's answer and the class's.
-use Rattle.model.proofs.Prelude.{ℕ, ◌≡◌, ◌∙◌, ap, refl, sym, true, Bool, false, List, [], ◌∷◌, needs}
+use Rattle.model.proofs.Prelude.{ℕ, ◌≡◌, ◌∙◌, ap, refl, sym, true, Bool, false, List, [], ◌∷◌, rules}
 use Rattle.model.specs.Base.{Answer, refused, value, ◌then◌, checks}
 use Rattle.model.specs.Netlist.{Netlist}
 use Rattle.model.specs.Read.{within}
@@ -97,4 +97,4 @@ module _ (netlist : List ℕ) (class : ℕ) (t : Loaded) (is : LoadedTrue t netl
           tables_are = λ f. record { circuit = l.load.circuit; tables = l.load.tables };
         }
 
-pub ruleset head-cases = (class-known, class-unknown, turn_refused, turn_legal, head-refused, head_passed, needs)
+pub ruleset head-cases = (class-known, class-unknown, turn_refused, turn_legal, head-refused, head_passed, rules)

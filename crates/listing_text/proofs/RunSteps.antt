@@ -1,6 +1,6 @@
 -- The lines of an edge's runs as the loop writes them: one run more, and the end.
 use Rattle.model.proofs.Prelude.{ℕ, ◌≤◌, ◌<◌, ◌+◌, ◌-◌, ◌*◌, suc, ◌^◌, zero, ◌/◌, ◌≡◌, ◌∙◌, ap, refl, sym, subst, ap₂, List, [], ◌++◌, length, get_or}
-use Rattle.model.proofs.Prelude.{length-append, sets, arith, needs}
+use Rattle.model.proofs.Prelude.{length-append, sets, arith, rules}
 use Rattle.model.specs.Path.{Edge, rising, falling}
 use Rattle.model.specs.Runs.{Run}
 use Rattle.model.specs.Store.{max_runs, runs_at, run_count, store_runs}
@@ -89,4 +89,4 @@ module _ (ws R : List ℕ) (sound : SoundWords (2 ^ 62) ws) (e : Edge) (q : R �
   pub edge-end : (r start : ℕ) → r ≤ start + 44 * (length R / 2) → r ≤ start + edge_bytes
   edge-end r start h = omega (arith, count-is, few)
 
-pub ruleset edge-cases = (edge-lines, first-room, edge-room, first-end, edge-end, needs)
+pub ruleset edge-cases = (edge-lines, first-room, edge-room, first-end, edge-end, rules)

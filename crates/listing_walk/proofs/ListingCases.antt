@@ -1,6 +1,6 @@
 -- The listing's walk over a file that is read piece by piece: its start, one piece more, its ends, and the lines after those of the records.
 use Rattle.model.proofs.Prelude.{ℕ, ◌≤◌, ◌<◌, ◌+◌, ◌*◌, ◌^◌, ◌/◌, ◌%◌, ◌≡◌, ◌∙◌, ap, refl, sym, ap₂, Bool, List, [], ◌++◌, append_assoc, length, drop}
-use Rattle.model.proofs.Prelude.{take, length-take-le, arith, needs}
+use Rattle.model.proofs.Prelude.{take, length-take-le, arith, rules}
 use native.Mathlib.Nat.{div-add-mod'}
 use Rattle.model.specs.Base.{value}
 use Rattle.model.specs.Netlist.{Netlist, path_total}
@@ -206,6 +206,6 @@ module _ {netlist : List ℕ} {t : Loaded} {class : ℕ} {space ws work work' ou
     lines = λ N e. first-bytes p ∙ ap store_lines (v.walk.store N e);
   }
 
-pub ruleset listing-cases = (list-inputs, listed-long, listed-read, listed_start, listed_next, listed-last, listed-over, part_length, needs)
+pub ruleset listing-cases = (list-inputs, listed-long, listed-read, listed_start, listed_next, listed-last, listed-over, part_length, rules)
 
-pub ruleset lines-cases = (lines-sound, lines-room, lines-inside, lines-put, part_length, needs)
+pub ruleset lines-cases = (lines-sound, lines-room, lines-inside, lines-put, part_length, rules)

@@ -1,6 +1,6 @@
 -- The cases of the load call, and the records of several vectors as they are written one after another.
 use Rattle.model.proofs.Prelude.{ℕ, ◌≤◌, ◌<◌, ◌+◌, ◌-◌, ◌*◌, suc, ◌^◌, zero, ◌≡◌, ◌∙◌, ap, refl, sym, true, Bool, false, not, List, [], ◌++◌, length}
-use Rattle.model.proofs.Prelude.{drop, sets, sets-eq, leb, leb→le, suc-mul, arith, needs, le-leb, lt-leb, not-true, not-false}
+use Rattle.model.proofs.Prelude.{drop, sets, sets-eq, leb, leb→le, suc-mul, arith, rules, le-leb, lt-leb, not-true, not-false}
 use Rattle.model.specs.Read.{within}
 use Rattle.model.specs.declared.Refusal.TheVariants as why
 use Rattle.model.proofs.BoolLaws.{and_left, and_right, true→T}
@@ -26,7 +26,7 @@ range_none n h = rw (lt-leb 1 n h) refl
 pub range-rest : (n : ℕ) → 1 ≤ n → leb n 64 ≡ within 1 64 n
 range-rest n h = rw (le-leb 1 n h) refl
 
-pub ruleset range-cases = (range_none, range-rest, needs)
+pub ruleset range-cases = (range_none, range-rest, rules)
 
 module _ (state inputs : ℕ) (buffer : List ℕ) where
   pub load-short : length buffer < load_buffer_bytes
@@ -74,7 +74,7 @@ module _ (state inputs : ℕ) (buffer : List ℕ) where
             buffer = put ∙ rw (le-leb load_buffer_bytes (length buffer) h, r) refl;
           }
 
-pub ruleset load-cases = (load-short, load-range, load-few, load-room, load-written, needs)
+pub ruleset load-cases = (load-short, load-range, load-few, load-room, load-written, rules)
 
 -- what is written, and the records of the vectors that are left, give the whole
 pub record Gathering (inputs state vectors size : ℕ) (found records : List ℕ) (last place left : ℕ) : Type 0 where
@@ -145,4 +145,4 @@ module _ (inputs state vectors size : ℕ) (sized : size ≡ vector_size_of inpu
         let e : vector_records inputs left last ≡ [] = ap (λ k. vector_records inputs k last) none ∙ no-vectors inputs last in
         sym (ap (λ (z : List ℕ). sets records place z) e) ∙ g.whole
 
-pub ruleset gather-cases = (gather_first, gather_room, gather_fits, gather_next, gather_state, gather_bytes, needs)
+pub ruleset gather-cases = (gather_first, gather_room, gather_fits, gather_next, gather_state, gather_bytes, rules)

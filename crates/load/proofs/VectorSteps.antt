@@ -1,7 +1,7 @@
 -- One vector's records as they are written, input by input, and the records of one vector after another.
 use Rattle.model.proofs.Prelude.{ℕ, ◌≤◌, ◌<◌, ◌+◌, ◌-◌, ◌*◌, suc, ◌^◌, zero, ◌/◌, ◌%◌, ◌≡◌, ◌∙◌, ap, refl, sym, ap₂, true, Bool, false, not, List, []}
 use Rattle.model.proofs.Prelude.{◌∷◌, ◌++◌, length, get_or, length-append, set, length-set, sets, get_or-set_same, suc-mul, mul-le-mul_right, add-one}
-use Rattle.model.proofs.Prelude.{arith, needs}
+use Rattle.model.proofs.Prelude.{arith, rules}
 use lib.Pow.{pow_mono}
 use lib.Seq.{set-set}
 use Rattle.model.specs.Base.{little_endian}
@@ -190,4 +190,4 @@ module _ (inputs state bytes at : ℕ) (found : List ℕ) where
             }
 
 pub ruleset write-cases =
-    (write_first, write_last, write_rising, write_falling, write_second, write_place, write_fits, write_next, needs)
+    (write_first, write_last, write_rising, write_falling, write_second, write_place, write_fits, write_next, rules)

@@ -1,5 +1,5 @@
 -- A test record as it is written byte by byte.
-use Rattle.model.proofs.Prelude.{ℕ, ◌+◌, ◌≡◌, ◌∙◌, ap, refl, sym, List, [], ◌∷◌, ◌++◌, length, set, sets, add-one, needs}
+use Rattle.model.proofs.Prelude.{ℕ, ◌+◌, ◌≡◌, ◌∙◌, ap, refl, sym, List, [], ◌∷◌, ◌++◌, length, set, sets, add-one, rules}
 use Rattle.model.specs.Base.{little_endian}
 use Rattle.model.specs.Encode.{test_bytes}
 use Rattle.model.proofs.FieldLaws.{length-little_endian}
@@ -23,4 +23,4 @@ test-put l m a b at n x y o p q =
     ∙ sets_append v1 v2 (sets l at mark) (at + 2) (at + 2 + n) i
     ∙ sets_append mark (v1 ++ v2) l at (at + 2) refl
 
-pub ruleset test-put-cases = (mark-put, test-put, needs)
+pub ruleset test-put-cases = (mark-put, test-put, rules)

@@ -1,5 +1,5 @@
 -- The cases of load.bin: ten bytes, or another length; a field of four bytes, by its halves.
-use Rattle.model.proofs.Prelude.{ℕ, ◌<◌, ◌+◌, ◌*◌, ◌≡◌, ap, refl, List, [], ◌∷◌, length, drop, take, length-drop, drop-drop, arith, needs, ne_eqb}
+use Rattle.model.proofs.Prelude.{ℕ, ◌<◌, ◌+◌, ◌*◌, ◌≡◌, ap, refl, List, [], ◌∷◌, length, drop, take, length-drop, drop-drop, arith, rules, ne_eqb}
 use Rattle.model.proofs.Prelude.{eq-eqb}
 use Rattle.model.specs.Base.{field, from_little_endian}
 use Rattle.load_request.specs.Requests.{request_bytes, request_of}
@@ -33,4 +33,4 @@ pub request_some : (bs : List ℕ) → length bs ≡ request_bytes → (s n i : 
 unfolding request_of
 request_some bs l s n i p q r = rw (p, q, r) (rw (eq-eqb (length bs) request_bytes l, request_of) refl)
 
-pub ruleset request-cases = (request_none, request_some, field-four, needs)
+pub ruleset request-cases = (request_none, request_some, field-four, rules)

@@ -1,6 +1,6 @@
 -- A vector as it is drawn: a step of the state, its top bit at an input's place, and one input more as the loop counts.
 use Rattle.model.proofs.Prelude.{ℕ, ◌≤◌, ◌<◌, ◌+◌, ◌-◌, ◌*◌, suc, ◌^◌, zero, ◌/◌, ◌%◌, ◌≡◌, ◌∙◌, ap, refl, sym, true, Bool, false, ◌∷◌, eqb, mod-lt}
-use Rattle.model.proofs.Prelude.{add-one, arith, needs}
+use Rattle.model.proofs.Prelude.{add-one, arith, rules}
 use native.Mathlib.Nat.{mul_comm, mul_assoc, add-mul}
 use lib.Bits.{bit_and, and_mask, mask_lt}
 use lib.Pow.{shl_exact, pow_mono}
@@ -130,4 +130,4 @@ module _ (inputs state vector last input : ℕ) (d : Drawing inputs state vector
       let z : pack_bits (drawn (inputs - input) last) * 2 ^ input ≡ 0 * 2 ^ input = ap (λ k. k * 2 ^ input) e in
       record { vector_is = omega arith; state_is = sym (no_steps last) ∙ ap (λ k. state_after k last) (sym n) ∙ d.steps }
 
-pub ruleset draw-cases = (draw_first, draw_fits, draw_next, draw_last, needs)
+pub ruleset draw-cases = (draw_first, draw_fits, draw_next, draw_last, rules)

@@ -1,6 +1,6 @@
 -- The cases of what load.bin starts, of a piece, and of the walk from piece to piece.
 use Rattle.model.proofs.Prelude.{ℕ, ◌≤◌, ◌<◌, ◌-◌, ◌*◌, suc, ◌^◌, ◌/◌, ◌≡◌, ◌∙◌, ap, refl, sym, true, Bool, false, not, List, length, sets, ltb}
-use Rattle.model.proofs.Prelude.{mul-le-mul_right, arith, needs, not-true, not-false, lt-ltb, le-ltb, ltb-true}
+use Rattle.model.proofs.Prelude.{mul-le-mul_right, arith, rules, not-true, not-false, lt-ltb, le-ltb, ltb-true}
 use mathlib.Core.Option.{Option, none, some}
 use native.Mathlib.Nat.{div-mul-le_self, le-div_iff_mul-le}
 use Rattle.model.specs.Read.{within}
@@ -34,7 +34,7 @@ module _ (bs : List ℕ) (a : Asked) (e : asked_of a ≡ request_of bs) where
     unfolding start_of
     begin_load f = let r : within 1 64 i ≡ true = sym is ∙ not-false fit f in rw (sym e, l, start_of) (rw r refl)
 
-pub ruleset begin-cases = (begin_none, begin_refused, begin_load, needs)
+pub ruleset begin-cases = (begin_none, begin_refused, begin_load, rules)
 
 -- The smaller of two numbers
 pub lesser-first : (a b : ℕ) → a < b → a ≡ lesser a b
@@ -43,7 +43,7 @@ lesser-first a b h = rw (lt-ltb a b h, lesser) refl
 pub lesser-second : (a b : ℕ) → b ≤ a → b ≡ lesser a b
 lesser-second a b h = rw (le-ltb a b h, lesser) refl
 
-pub ruleset lesser-cases = (lesser-first, lesser-second, needs)
+pub ruleset lesser-cases = (lesser-first, lesser-second, rules)
 
 lesser-right : (a b : ℕ) → lesser a b ≤ b
 lesser-right a b = go (ltb a b) (λ e. ltb-true a b e)
@@ -98,7 +98,7 @@ module _ (w : Walk) (each vectors : ℕ) (found : List ℕ) (sized : each ≡ ve
   unfolding piece_of
   next-bytes bytes e = e ∙ ap (λ (v : ℕ). sets found 0 (vector_records w.inputs v w.state)) next-vectors
 
-pub ruleset piece-cases = (next-room, next-size, next-few, next-walk, next-bytes, needs)
+pub ruleset piece-cases = (next-room, next-size, next-few, next-walk, next-bytes, rules)
 
 -- A load that was started has 1 to 64 inputs
 started : (x : Option Request) (w : Walk) → start_of x ≡ start.Load w → within 1 64 w.inputs ≡ true

@@ -1,5 +1,5 @@
 -- A load that was started has inputs in range. As it is written, the walk comes from the first one by pieces alone, and each piece lies in the buffer.
-use Rattle.model.proofs.Prelude.{ℕ, ◌≤◌, ◌<◌, ◌≡◌, ◌∙◌, ap, refl, sym, List, length, take, length-take-le, arith, needs}
+use Rattle.model.proofs.Prelude.{ℕ, ◌≤◌, ◌<◌, ◌≡◌, ◌∙◌, ap, refl, sym, List, length, take, length-take-le, arith, rules}
 use Rattle.load_walk.specs.LoadWalk.{next_walk, Walked}
 use Rattle.load_walk.specs.declared.inner.Walk.{Walk}
 use Rattle.load_walk.proofs.WalkCases.{started-least, started-most, next-inputs, walked-first, walked_next, piece-size, piece-less}
@@ -57,6 +57,6 @@ module _ {found : List ℕ} {start : Walk} {records : List ℕ} {walk : Walk} (g
             room = g.room;
           }
 
-pub ruleset start-cases = (started-least, started-most, needs)
+pub ruleset start-cases = (started-least, started-most, rules)
 
-pub ruleset write-cases = (write_first, write_some, write_few, write_room, write_done, write_inside, write_length, write_less, write_next, needs)
+pub ruleset write-cases = (write_first, write_some, write_few, write_room, write_done, write_inside, write_length, write_less, write_next, rules)

@@ -1,5 +1,5 @@
 -- The cases of the header, by the numbers that were read.
-use Rattle.model.proofs.Prelude.{ℕ, ◌≤◌, ◌<◌, ◌≡◌, true, Bool, false, ◌&&◌, List, length, leb, arith, needs, not-true, not-false}
+use Rattle.model.proofs.Prelude.{ℕ, ◌≤◌, ◌<◌, ◌≡◌, true, Bool, false, ◌&&◌, List, length, leb, arith, rules, not-true, not-false}
 use Rattle.model.specs.Base.{refused, value, field}
 use Rattle.model.specs.Read.{header_range, marked}
 use Rattle.netlist.specs.Reading.{header_step}
@@ -32,4 +32,4 @@ module _ (s : List ℕ) (m : Bool) (em : m ≡ leb 8 (length s) && marked 0x4E 0
       unfolding header_step
       header-range h = simp (← em, t, ← ei, ← eg, ← eu, ← e, h)
 
-pub ruleset header-cases = (header-mark, header-inputs, header-gates, header-outputs, header-found, header-range, not-true, not-false, needs)
+pub ruleset header-cases = (header-mark, header-inputs, header-gates, header-outputs, header-found, header-range, not-true, not-false, rules)

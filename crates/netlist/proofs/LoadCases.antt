@@ -1,6 +1,6 @@
 -- The cases of loading a netlist, by the answers of the readers of its parts, and of a survey made of it.
 use Rattle.model.proofs.Prelude.{ℕ, ◌≤◌, ◌<◌, ◌+◌, ◌-◌, ◌≡◌, ◌∙◌, ap, refl, sym, List, [], ◌∷◌, ◌++◌, map, length, drop, replicate, length-drop}
-use Rattle.model.proofs.Prelude.{length-replicate, leb, eqb, leb→le, arith, needs, ne_eqb, eq-eqb}
+use Rattle.model.proofs.Prelude.{length-replicate, leb, eqb, leb→le, arith, rules, ne_eqb, eq-eqb}
 use Rattle.model.specs.Base.{Answer, refused, value, ◌into◌, ◌then◌, checks, sum_of}
 use Rattle.model.specs.Netlist.{Netlist, net_by_net, gate_count, counts, output_count, path_total}
 use Rattle.model.specs.Read.{read_netlist, read_gates, read_outputs_of, header_rules, marked, within, inputs_in, gates_in, outputs_in}
@@ -158,9 +158,9 @@ module _ (s : List ℕ) (a : HeaderAnswer) (ha : header_of a ≡ header_step s) 
   pub load_found : (h : Header) → a ≡ header.Found h → HeaderRead s h.inputs h.gates h.outputs
   load_found h f = header-legal s h (rw f at ha)
 
-pub ruleset body-cases = (done-within, body-gates, body-outputs, body-left, body-legal, needs)
+pub ruleset body-cases = (done-within, body-gates, body-outputs, body-left, body-legal, rules)
 
-pub ruleset load-cases = (load-header, load_found, needs)
+pub ruleset load-cases = (load-header, load_found, rules)
 
 -- A survey, and the tables by value, by what loading the netlist answered
 pub zeros-are : replicate 512 0 ≡ zeros
@@ -202,6 +202,6 @@ module _ (s counts positions : List ℕ) (a : LoadAnswer) (la : LoadTrue a s cou
     pub by-value-legal : LoadedTrue (record { answer = survey.Legal; shape = shape; total = total; counts = counts; positions = positions }) s
     by-value-legal = record { is = legal }
 
-pub ruleset survey-cases = (zeros-are, survey-refused, survey-inputs, survey-legal, needs)
+pub ruleset survey-cases = (zeros-are, survey-refused, survey-inputs, survey-legal, rules)
 
-pub ruleset by-value-cases = (zeros-are, by-value-refused, by-value-legal, needs)
+pub ruleset by-value-cases = (zeros-are, by-value-refused, by-value-legal, rules)

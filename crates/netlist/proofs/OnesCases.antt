@@ -1,5 +1,5 @@
 -- The counts of the inputs, one at a time.
-use Rattle.model.proofs.Prelude.{ℕ, ◌≤◌, ◌<◌, ◌+◌, ◌≡◌, List, set, replicate, length-replicate, arith, needs}
+use Rattle.model.proofs.Prelude.{ℕ, ◌≤◌, ◌<◌, ◌+◌, ◌≡◌, List, set, replicate, length-replicate, arith, rules}
 use lib.ListN.{replicate-append-replicate}
 use Rattle.model.specs.Calls.{padded}
 use Rattle.netlist_gates.specs.GateReading.{zeros}
@@ -15,4 +15,4 @@ ones-more array i inputs h k e = rw (e, ← replicate-append-replicate {A = ℕ}
 pub ones-all : (array : List ℕ) (i inputs : ℕ) → i ≤ inputs → inputs ≤ i → array ≡ padded (replicate i 1) → array ≡ padded (replicate inputs 1)
 ones-all array i inputs h k e = let p : i ≡ inputs = omega arith in rw p at e
 
-pub ruleset ones-cases = (ones_none, ones-more, ones-all, needs)
+pub ruleset ones-cases = (ones_none, ones-more, ones-all, rules)

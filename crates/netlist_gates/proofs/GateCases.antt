@@ -1,6 +1,6 @@
 -- The cases of a gate's record, by the numbers that were read.
 use Rattle.model.proofs.Prelude.{ℕ, ◌≤◌, ◌<◌, ◌+◌, ◌*◌, ◌^◌, ◌≡◌, ◌∙◌, sym, true, Bool, false, ◌&&◌, List, [], ◌∷◌, length, get_or, drop, leb, T, ltb}
-use Rattle.model.proofs.Prelude.{ltb→lt, lt→ltb, arith, needs, le-leb, lt-leb, not-true, not-false}
+use Rattle.model.proofs.Prelude.{ltb→lt, lt→ltb, arith, rules, le-leb, lt-leb, not-true, not-false}
 use Rattle.model.specs.Base.{refused, value, all_of}
 use Rattle.model.specs.Read.{pins_fit, net_fields, marked}
 use Rattle.model.proofs.BoolLaws.{both, T→true, true→T}
@@ -86,5 +86,5 @@ pub ruleset gate-cases = (
   gate-taken,
   not-true,
   not-false,
-  needs,
+  rules,
 )

@@ -1,7 +1,7 @@
 -- The gates, one at a time.
 use Rattle.model.proofs.Prelude.{ℕ, ◌≤◌, ◌<◌, ◌+◌, ◌-◌, ◌*◌, suc, ◌^◌, zero, ◌≡◌, ◌∙◌, ap, refl, sym, subst, true, Bool, false, List, [], ◌∷◌, ◌++◌}
 use Rattle.model.proofs.Prelude.{append-nil, length, get_or, drop, take, length-append, set, replicate, length-drop, length-replicate, drop-drop}
-use Rattle.model.proofs.Prelude.{get_or-drop, leb, leb→le, ltb, sub-one, arith, needs}
+use Rattle.model.proofs.Prelude.{get_or-drop, leb, leb→le, ltb, sub-one, arith, rules}
 use mir.Val.{Fits}
 use mir.Syntax.{w16, w64}
 use Rattle.model.specs.Base.{Answer, refused, value, ◌into◌, ◌then◌, checks, all_of}
@@ -158,4 +158,4 @@ module _ (left net at : ℕ) (array s : List ℕ) (inputs number : ℕ) (l : Gat
 pub place-fits : (left at number : ℕ) → at + 20 * left ≤ 8 + 20 * number → number ≤ 512 → Fits w16 at
 place-fits left at number b h = record { fits = omega arith }
 
-pub ruleset read-gates-cases = (gates-start, positions-start, gates-stop, gates-size, gates-fit, gates-bound, gates-place, gates-again, gates-end, place-fits, needs)
+pub ruleset read-gates-cases = (gates-start, positions-start, gates-stop, gates-size, gates-fit, gates-bound, gates-place, gates-again, gates-end, place-fits, rules)

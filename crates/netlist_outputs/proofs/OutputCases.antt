@@ -1,6 +1,6 @@
 -- The cases of an output's record, and the outputs one at a time.
 use Rattle.model.proofs.Prelude.{ℕ, ◌≤◌, ◌<◌, ◌+◌, ◌-◌, suc, ◌^◌, zero, ◌≡◌, ◌∙◌, ap, refl, sym, subst, true, Bool, false, ◌&&◌, List, [], ◌∷◌, ◌++◌}
-use Rattle.model.proofs.Prelude.{map, length, get_or, drop, take, length-drop, drop-drop, leb, eqb, leb→le, ltb, ltb→lt, add-one, sub-one, arith, needs}
+use Rattle.model.proofs.Prelude.{map, length, get_or, drop, take, length-drop, drop-drop, leb, eqb, leb→le, ltb, ltb→lt, add-one, sub-one, arith, rules}
 use Rattle.model.proofs.Prelude.{le-leb, lt-leb, not-true, not-false, lt-ltb, le-ltb}
 use mir.Val.{Fits}
 use mir.Syntax.{w64}
@@ -25,7 +25,7 @@ paths-wire inputs cs net h = sym (output-count-wire inputs cs net h)
 pub paths-gate : (inputs : ℕ) (cs : List ℕ) (net : ℕ) → inputs ≤ net → get_or cs net 0 ≡ output_count inputs cs net
 paths-gate inputs cs net h = sym (output-count-gate inputs cs net h)
 
-pub ruleset paths-cases = (paths-wire, paths-gate, needs)
+pub ruleset paths-cases = (paths-wire, paths-gate, rules)
 
 module _ (inputs nets low total : ℕ) (counts s : List ℕ) (m : Bool) (em : m ≡ leb 4 (length s) && marked 0x4F 0x55 s) where
   pub output-mark : m ≡ false → refused 18 ≡ output_step inputs nets counts low total s
@@ -58,7 +58,7 @@ module _ (inputs nets low total : ℕ) (counts s : List ℕ) (m : Bool) (em : m 
             output-taken h =
                 simp (← em, t, ← en, ← ec, lt-ltb net nets there, le-leb low net high, le-leb (total + count) (2 ^ 62) (omega arith))
 
-pub ruleset output-cases = (output-mark, output-net-in, output-none, output-low, output-over, output-taken, not-true, not-false, needs)
+pub ruleset output-cases = (output-mark, output-net-in, output-none, output-low, output-over, output-taken, not-true, not-false, rules)
 
 -- what an output that was taken passed
 pub record OutputLegal (nets low : ℕ) (s : List ℕ) (net total : ℕ) : Type 0 where

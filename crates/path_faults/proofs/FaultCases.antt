@@ -1,5 +1,5 @@
 -- The cases of a path number's fault, and of a fault number's edge.
-use Rattle.model.proofs.Prelude.{ℕ, ◌≤◌, ◌<◌, ◌-◌, ◌*◌, ◌^◌, ◌%◌, ◌≡◌, refl, needs, le-leb, lt-leb, ne_eqb, eq-eqb}
+use Rattle.model.proofs.Prelude.{ℕ, ◌≤◌, ◌<◌, ◌-◌, ◌*◌, ◌^◌, ◌%◌, ◌≡◌, refl, rules, le-leb, lt-leb, ne_eqb, eq-eqb}
 use Rattle.model.specs.Base.{refused, value}
 use Rattle.model.specs.Path.{rising, falling, fault_number, edge_of_fault}
 use Rattle.model.specs.Path as model
@@ -31,4 +31,4 @@ edge-odd f h = rw (eq-eqb (f % 2) 1 h, edge_of_fault) refl
 pub edge-even : (f : ℕ) → (f % 2 ≡ 1 → ⊥) → falling ≡ edge_of_fault f
 edge-even f h = rw (ne_eqb (f % 2) 1 h, edge_of_fault) refl
 
-pub ruleset fault-cases = (fault-zero, fault-over, fault-rising, fault-falling, edge-odd, edge-even, needs)
+pub ruleset fault-cases = (fault-zero, fault-over, fault-rising, fault-falling, edge-odd, edge-even, rules)

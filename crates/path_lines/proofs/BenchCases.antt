@@ -1,6 +1,6 @@
 -- The text of a path of a.bench text, by what the converter answered.
 use Rattle.model.proofs.Prelude.{ℕ, ◌≤◌, ◌<◌, ◌≡◌, ◌∙◌, ap, refl, sym, List, ◌++◌, length, drop, take, length-append, length-take-le, take_at, arith}
-use Rattle.model.proofs.Prelude.{needs}
+use Rattle.model.proofs.Prelude.{rules}
 use Rattle.model.specs.Base.{Answer, refused, value, ◌into◌, after}
 use Rattle.model.specs.Refusals.{refusal_number_of}
 use Rattle.model.specs.declared.Refusal.{Refusal}
@@ -85,4 +85,4 @@ module _ (out text : List ℕ) (k : ℕ) where
           ap (λ (f : List ℕ). path_text f (name_in_of names) k) file-is ∙ same_names got.bytes text names k s ∙ ap (bench_shown (name_of text) k) (sym got.is) in
           written_as (ap (in_room 65536 out) whole) p
 
-pub ruleset bench-cases = (bench_short, bench_refused, bench_inside, bench_taken, bench_told, needs)
+pub ruleset bench-cases = (bench_short, bench_refused, bench_inside, bench_taken, bench_told, rules)

@@ -1,5 +1,5 @@
 -- Parts of a path's lines, put one after the other.
-use Rattle.model.proofs.Prelude.{ℕ, ◌≤◌, ◌+◌, ◌≡◌, ◌∙◌, ap, refl, sym, List, [], ◌∷◌, ◌++◌, length, take, sets, length-take-le, arith, needs, le-ltb}
+use Rattle.model.proofs.Prelude.{ℕ, ◌≤◌, ◌+◌, ◌≡◌, ◌∙◌, ap, refl, sym, List, [], ◌∷◌, ◌++◌, length, take, sets, length-take-le, arith, rules, le-ltb}
 use Rattle.model.specs.Netlist.{Kind}
 use Rattle.model.specs.Read.{kind_of}
 use Rattle.text_line.specs.Decimal.{decimal_text}
@@ -146,10 +146,10 @@ module _ (name : ℕ → List ℕ) {out o1 o2 o3 o4 : List ℕ} {at a b c r : �
     unfolding output_line
     output-put place net p q u v w = then-written (then-written (then-written (then-written p q) u) v) w
 
-pub ruleset part-cases = (part-put, number_put, number-few, needs)
+pub ruleset part-cases = (part-put, number_put, number-few, rules)
 
-pub ruleset bracket-cases = (brackets_put, name-taken, name-none, name-room, name-put, name-few, needs)
+pub ruleset bracket-cases = (brackets_put, name-taken, name-none, name-room, name-put, name-few, rules)
 
-pub ruleset kind-cases = (kind_1, kind_2, kind_3, kind-4, kind-5, kind-6, kind-7, kind-8, needs)
+pub ruleset kind-cases = (kind_1, kind_2, kind_3, kind-4, kind-5, kind-6, kind-7, kind-8, rules)
 
-pub ruleset line-cases = (net-put, line-put, input-put, needs)
+pub ruleset line-cases = (net-put, line-put, input-put, rules)

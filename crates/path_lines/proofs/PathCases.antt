@@ -1,6 +1,6 @@
 -- The text of a number's path, by what the netlist and the number were found to be.
 use Rattle.model.proofs.Prelude.{ℕ, ◌≤◌, ◌<◌, ◌+◌, ◌-◌, ◌≡◌, ◌∙◌, ap, refl, sym, List, [], ◌∷◌, ◌++◌, append_assoc, length, get_or, drop, replicate}
-use Rattle.model.proofs.Prelude.{leb, T, leb→le, needs, le-leb}
+use Rattle.model.proofs.Prelude.{leb, T, leb→le, rules, le-leb}
 use Rattle.model.specs.Base.{Answer, refused, value, ◌into◌, ◌then◌, checks, after, passes}
 use Rattle.model.specs.Netlist.{Netlist, path_total}
 use Rattle.model.specs.Path.{CircuitPath, valid, path_of}
@@ -39,7 +39,7 @@ module _ (file counts positions : List ℕ) (a : LoadAnswer) (la : LoadTrue a fi
   pub loaded_circuit : (shape : Shape) (total : ℕ) → a ≡ load.Legal shape total → SomeCircuit file positions shape
   loaded_circuit shape total l = record { counts = counts; known = read-tables file [] counts positions a la shape total l }
 
-pub ruleset load-cases = (zeros-are, loaded_none, loaded_circuit, needs)
+pub ruleset load-cases = (zeros-are, loaded_none, loaded_circuit, rules)
 
 -- ---- the call with its netlist, and without
 
@@ -135,4 +135,4 @@ module _ (out : List ℕ) (file : List ℕ) (name : ℕ → List ℕ) (k : ℕ) 
           let w = g.told f.circuit p f.reads f.is_path (ap (λ (x : List ℕ). get_or x 0 0) words_are) pins in
           room-there 65536 out (path_text file name k) room (written_as (ap (shown_path name) (sym f.is)) w)
 
-pub ruleset path-cases = (path-short, path-refused, path-told, needs)
+pub ruleset path-cases = (path-short, path-refused, path-told, rules)

@@ -1,6 +1,6 @@
 -- The walk along a path's gates: what is put so far, with the lines of the gates that are left, is the whole text.
 use Rattle.model.proofs.Prelude.{ℕ, ◌≤◌, ◌<◌, ◌+◌, ◌-◌, ◌*◌, ◌≡◌, ◌∙◌, ap, refl, sym, subst, List, [], ◌∷◌, ◌++◌, append_assoc, length, get_or, drop}
-use Rattle.model.proofs.Prelude.{take, drop-drop, get_or-drop, T, ltb→lt, arith, needs}
+use Rattle.model.proofs.Prelude.{take, drop-drop, get_or-drop, T, ltb→lt, arith, rules}
 use Rattle.model.specs.Base.{value}
 use Rattle.model.specs.Netlist.{Netlist, Kind, gate_of, pins_of, pin_net, output_net}
 use Rattle.model.specs.Path.{valid, valid_at}
@@ -215,7 +215,7 @@ module _ (out₀ : List ℕ) (at : ℕ) (name : ℕ → List ℕ) (file ps words
                 }
 
 pub ruleset walk-cases =
-    (walk_start, walk_same, walk-place, walk_end, walk-few, walk_inside, walk-word, walk-head, walk-kind-low, walk-kind-high, walk-stop, walk-room, walk-less, walk-again, needs)
+    (walk_start, walk_same, walk-place, walk_end, walk-few, walk_inside, walk-word, walk-head, walk-kind-low, walk-kind-high, walk-stop, walk-room, walk-less, walk-again, rules)
 
 -- ---- the output, then the gates
 
@@ -250,4 +250,4 @@ module _ (out : List ℕ) (name : ℕ → List ℕ) (file ps words : List ℕ) (
 pub output-room : (r : ℕ) (out o : List ℕ) (t : List ℕ) → Written out o 0 t r → r ≤ 127 → 65536 ≤ length out → r + 127 * 512 ≤ length o
 output-room r out o t w h l = omega (arith, written-length w)
 
-pub ruleset output-cases = (outputs-few, outputs-room, place-start, place-room, place-net, output-none, output-told, output-room, needs)
+pub ruleset output-cases = (outputs-few, outputs-room, place-start, place-room, place-net, output-none, output-told, output-room, rules)

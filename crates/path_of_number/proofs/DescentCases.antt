@@ -1,5 +1,5 @@
 -- The cases of the path of a number, by its net.
-use Rattle.model.proofs.Prelude.{ℕ, ◌≤◌, ◌<◌, ◌+◌, ◌≡◌, ◌∙◌, ap, refl, sym, ap₂, List, [], ◌∷◌, length, get_or, set, length-set, add-one, arith, needs}
+use Rattle.model.proofs.Prelude.{ℕ, ◌≤◌, ◌<◌, ◌+◌, ◌≡◌, ◌∙◌, ap, refl, sym, ap₂, List, [], ◌∷◌, length, get_or, set, length-set, add-one, arith, rules}
 use mir.Val.{Fits}
 use mir.Syntax.{w16}
 use Rattle.model.specs.Netlist.{Netlist, nets, counts, pin_net, pin_counts}
@@ -129,5 +129,5 @@ pub ruleset descend-cases = (
   step_room,
   step_words,
   kept-length,
-  needs,
+  rules,
 )

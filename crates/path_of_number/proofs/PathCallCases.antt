@@ -1,5 +1,5 @@
 -- The cases of the writing call, by what the netlist, the number and the words were found to be.
-use Rattle.model.proofs.Prelude.{ℕ, ◌≤◌, ◌<◌, ◌≡◌, ◌∙◌, refl, List, length, arith, needs, le-leb, lt-leb}
+use Rattle.model.proofs.Prelude.{ℕ, ◌≤◌, ◌<◌, ◌≡◌, ◌∙◌, refl, List, length, arith, rules, le-leb, lt-leb}
 use Rattle.model.specs.Base.{refused, value}
 use Rattle.model.specs.Netlist.{Netlist, path_total}
 use Rattle.model.specs.Path.{path_of}
@@ -67,4 +67,4 @@ module _ (file : List ℕ) (k : ℕ) (ws : List ℕ) (h : 513 ≤ length ws) (cs
             rw (le-leb 513 (length ws) h, is.tables.legal, le-leb 1 k low, le-leb k (path_total N) high) refl in
             record { answer = rw e refl; buffer = f N is.tables ∙ rw e refl }
 
-pub ruleset number-to-path-cases = (zeros-are, write_short, write_netlist, write_zero, write_over, write_wanted, write_done, needs)
+pub ruleset number-to-path-cases = (zeros-are, write_short, write_netlist, write_zero, write_over, write_wanted, write_done, rules)

@@ -1,7 +1,7 @@
 -- Zeros in the first words, and the words of a path over them.
 use Rattle.model.proofs.Prelude.{ℕ, ◌≤◌, ◌<◌, ◌+◌, ◌-◌, suc, zero, ◌≡◌, ◌∙◌, ap, refl, sym, ap₂, List, [], ◌∷◌, ◌++◌, append_assoc, length, get_or}
 use Rattle.model.proofs.Prelude.{drop, length-append, set, length-set, replicate, length-drop, length-replicate, sets, drop-cons, sets-eq, set_at}
-use Rattle.model.proofs.Prelude.{add-one, arith, needs}
+use Rattle.model.proofs.Prelude.{add-one, arith, rules}
 use lib.ListN.{replicate-append-replicate}
 use lib.Seq.{drop-append-le}
 use Rattle.model.specs.Path.{CircuitPath}
@@ -25,7 +25,7 @@ blank-more i n now ws h l e =
 pub blank-all : (i n : ℕ) (now ws : List ℕ) → i ≤ n → n ≤ i → now ≡ blank i ws → now ≡ blank n ws
 blank-all i n now ws h k e = let p : i ≡ n = omega arith in rw p at e
 
-pub ruleset blank-cases = (blank_none, blank-more, blank-all, needs)
+pub ruleset blank-cases = (blank_none, blank-more, blank-all, rules)
 
 -- Words
 drop-zeros : (k m : ℕ) → k ≤ m → drop {A = ℕ} k (replicate m 0) ≡ replicate (m - k) 0

@@ -1,6 +1,6 @@
 -- The cases of writing a path: what its parts may rely on, and what the words of a path are in the buffer.
 use Rattle.model.proofs.Prelude.{ℕ, ◌≤◌, ◌<◌, ◌+◌, ◌-◌, ◌*◌, ◌≡◌, ◌∙◌, ap, sym, subst, ap₂, List, ◌++◌, length, get_or, drop, set, length-set}
-use Rattle.model.proofs.Prelude.{replicate, sets, arith, needs}
+use Rattle.model.proofs.Prelude.{replicate, sets, arith, rules}
 use mir.Val.{Fits}
 use mir.Syntax.{w16}
 use Rattle.model.specs.Base.{sum_of}
@@ -167,5 +167,5 @@ pub ruleset writing-cases = (
   end-room,
   blank-room,
   same-words,
-  needs,
+  rules,
 )

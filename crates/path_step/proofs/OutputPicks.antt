@@ -1,6 +1,6 @@
 -- The cases of the outputs' records: the output that a number ends at, and the counts before an output.
 use Rattle.model.proofs.Prelude.{ℕ, ◌≤◌, ◌<◌, ◌+◌, ◌-◌, ◌*◌, suc, ◌^◌, zero, ◌≡◌, ◌∙◌, ap, refl, sym, List, length, get_or, drop, take, length-map}
-use Rattle.model.proofs.Prelude.{arith, needs}
+use Rattle.model.proofs.Prelude.{arith, rules}
 use mir.Val.{Fits}
 use mir.Syntax.{w64}
 use Rattle.model.specs.Base.{sum_of}
@@ -91,6 +91,6 @@ pub total-end : (part : List ℕ) (n inputs : ℕ) (cs : List ℕ) (o total : �
 total-end part n inputs cs o total h l e =
     e ∙ before-whole (output_counts_in part n inputs cs) o (omega (arith, length-counts part n inputs cs))
 
-pub ruleset output-cases = (passed_none, output-start, output-fits, output-room, output-few, output-taken, output-again, output-end, needs)
+pub ruleset output-cases = (passed_none, output-start, output-fits, output-room, output-few, output-taken, output-again, output-end, rules)
 
-pub ruleset outputs-before-cases = (output-start, output-fits, output-room, output-few, sum-start, total-again, total-fits, total-end, needs)
+pub ruleset outputs-before-cases = (output-start, output-fits, output-room, output-few, sum-start, total-again, total-fits, total-end, rules)

@@ -1,5 +1,5 @@
 -- The cases of the pins of a gate's record: the pin that a number goes through, and the counts before a pin.
-use Rattle.model.proofs.Prelude.{ℕ, ◌≤◌, ◌<◌, ◌+◌, ◌-◌, ◌*◌, ◌^◌, ◌≡◌, ◌∙◌, ap, refl, sym, List, length, get_or, drop, length-map, arith, needs}
+use Rattle.model.proofs.Prelude.{ℕ, ◌≤◌, ◌<◌, ◌+◌, ◌-◌, ◌*◌, ◌^◌, ◌≡◌, ◌∙◌, ap, refl, sym, List, length, get_or, drop, length-map, arith, rules}
 use mir.Val.{Fits}
 use mir.Syntax.{w64}
 use Rattle.model.specs.Base.{sum_of}
@@ -72,6 +72,6 @@ sum-end xs j k sum h l e = let p : j ≡ k = omega arith in rw p at e
 pub sum-start : (xs : List ℕ) → 0 ≡ counts_before 0 xs
 sum-start xs = refl
 
-pub ruleset pick-cases = (passed_none, record_head, pin-room, pin-few, pin-fits, pick-taken, pick_end, pick-again, needs)
+pub ruleset pick-cases = (passed_none, record_head, pin-room, pin-few, pin-fits, pick-taken, pick_end, pick-again, rules)
 
-pub ruleset pins-before-cases = (record_head, pin-room, pin-few, pin-fits, sum-start, sum-again, sum_fits, sum-end, needs)
+pub ruleset pins-before-cases = (record_head, pin-room, pin-few, pin-fits, sum-start, sum-again, sum_fits, sum-end, rules)

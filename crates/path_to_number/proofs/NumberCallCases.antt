@@ -1,5 +1,5 @@
 -- The cases of the reading call, by what the netlist and the words were found to be.
-use Rattle.model.proofs.Prelude.{ℕ, ◌≤◌, ◌+◌, ◌≡◌, ◌∙◌, ap, refl, sym, true, Bool, false, ◌&&◌, List, length, get_or, leb, T, eqb, arith, needs}
+use Rattle.model.proofs.Prelude.{ℕ, ◌≤◌, ◌+◌, ◌≡◌, ◌∙◌, ap, refl, sym, true, Bool, false, ◌&&◌, List, length, get_or, leb, T, eqb, arith, rules}
 use Rattle.model.specs.Base.{refused, value}
 use Rattle.model.specs.Netlist.{Netlist}
 use Rattle.model.specs.Path.{valid, number_of}
@@ -70,4 +70,4 @@ module _ (file ws cs ps : List ℕ) (a : LoadAnswer) (la : LoadTrue a file cs ps
           let e : k ≡ number_of circuit (path_in ws) = number_is ∙ rw p refl in
           rw (read, p) (ap value e)
 
-pub ruleset path-to-number-cases = (zeros-are, read-netlist, read-tables, read_none, read_done, needs)
+pub ruleset path-to-number-cases = (zeros-are, read-netlist, read-tables, read_none, read_done, rules)

@@ -1,6 +1,6 @@
 -- The cases of the number of a partial path, by its net and its pins.
 use Rattle.model.proofs.Prelude.{ℕ, ◌≤◌, ◌<◌, ◌+◌, ◌-◌, ◌≡◌, ◌∙◌, ap, sym, List, [], ◌∷◌, length, get_or, drop, take, drop_of_length-le, drop-cons}
-use Rattle.model.proofs.Prelude.{arith, needs}
+use Rattle.model.proofs.Prelude.{arith, rules}
 use mir.Val.{Fits}
 use mir.Syntax.{w64}
 use Rattle.model.specs.Netlist.{Netlist, nets, pins_of, pin_net}
@@ -100,5 +100,5 @@ pub ruleset number-cases = (
   no-rest,
   whole-number,
   whole-fits,
-  needs,
+  rules,
 )

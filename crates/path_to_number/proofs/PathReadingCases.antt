@@ -1,6 +1,6 @@
 -- The cases of reading a path, by what was found in its words.
 use Rattle.model.proofs.Prelude.{ℕ, ◌≤◌, ◌<◌, ◌+◌, ◌-◌, ◌*◌, ◌^◌, ◌≡◌, ◌∙◌, ap, refl, sym, ap₂, ⊎_elim, true, Bool, false, ◌&&◌, List, length, get_or}
-use Rattle.model.proofs.Prelude.{drop, take, length-drop, leb, T, eqb, ltb, arith, needs, le-leb, ne_eqb, eq-eqb, lt-ltb, le-ltb}
+use Rattle.model.proofs.Prelude.{drop, take, length-drop, leb, T, eqb, ltb, arith, rules, le-leb, ne_eqb, eq-eqb, lt-ltb, le-ltb}
 use mir.Val.{Fits}
 use mir.Syntax.{w64}
 use Rattle.model.specs.Base.{sum_of}
@@ -184,5 +184,5 @@ pub ruleset reading-cases = (
   words-none,
   words-fits,
   words-done,
-  needs,
+  rules,
 )

@@ -1,5 +1,5 @@
 -- A class file, case by case as the code meets them.
-use Rattle.model.proofs.Prelude.{ℕ, ◌≡◌, ◌∙◌, refl, true, Bool, false, true≢false, List, [], ◌∷◌, length, get_or, eqb, arith, needs, ne_eqb}
+use Rattle.model.proofs.Prelude.{ℕ, ◌≡◌, ◌∙◌, refl, true, Bool, false, true≢false, List, [], ◌∷◌, length, get_or, eqb, arith, rules, ne_eqb}
 use Rattle.program_files.specs.ClassFile.{character_class, class_chosen_of}
 
 -- neither character
@@ -43,4 +43,4 @@ module _ (usual : ℕ) (missing : Bool) (bytes : List ℕ) where
           neither (eqb (get_or bytes 0 0) 49) (eqb (get_or bytes 0 0) 50) (ne_eqb (get_or bytes 0 0) 49 d) (ne_eqb (get_or bytes 0 0) 50 e) in
           q ∙ one h
 
-pub ruleset Class-cases = (class-missing, class-other-length, class-one, class-two, class-none, needs)
+pub ruleset Class-cases = (class-missing, class-other-length, class-one, class-two, class-none, rules)

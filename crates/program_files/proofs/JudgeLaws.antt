@@ -1,6 +1,6 @@
 -- Whether a program may judge by a file, case by case as the code meets them. A number that may be negative is told by its bits.
 use Rattle.model.proofs.Prelude.{ℕ, ◌≤◌, ◌<◌, ◌^◌, ◌≡◌, ◌∙◌, ap, refl, sym, ap₂, ⊎_elim, true, Bool, false, ◌&&◌, not, ◌||◌, leb, T, eqb, eqb→eq}
-use Rattle.model.proofs.Prelude.{eqb_refl, arith, needs, le-leb, lt-leb, ne_eqb, eq-eqb, not-true, not-false}
+use Rattle.model.proofs.Prelude.{eqb_refl, arith, rules, le-leb, lt-leb, ne_eqb, eq-eqb, not-true, not-false}
 use lib.IntN.{ℤ, pos, negsuc}
 use lib.Signed.{mag, non_neg, le_z}
 use mir.Syntax.{w32, w64}
@@ -44,7 +44,7 @@ module _ (room bytes : ℕ) (ended : Bool) where
   pub whole-ended : bytes < room → ended ≡ (leb room bytes || ended)
   whole-ended h = sym (ap (λ (b : Bool). b || ended) (lt-leb room bytes h))
 
-pub ruleset judge-cases = (second-false, whole-full, whole-ended, needs)
+pub ruleset judge-cases = (second-false, whole-full, whole-ended, rules)
 
 -- Numbers that may be negative are the same where their bits are
 same_numbers : (a b : ℤ) → T (eq_z a b) → a ≡ b
@@ -94,4 +94,4 @@ pub end-told : (answer : Bool) (got size place : ℤ) → SFits w64 size → ans
 end-told answer got size place f e =
     record { got = got; place = place; end_is_of = e ∙ ap (λ (z : ℤ). ended_by got z place) (to_z-of_z w64 size f) }
 
-pub ruleset end-cases = (more-read, no_size, at_size, needs)
+pub ruleset end-cases = (more-read, no_size, at_size, rules)

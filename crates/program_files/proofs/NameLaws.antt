@@ -1,6 +1,6 @@
 -- A name at the start of a space: the usual one where the space holds it and there is no such argument.
 use Rattle.model.proofs.Prelude.{ℕ, ◌≤◌, ◌<◌, ◌+◌, ◌≡◌, ◌∙◌, ap, refl, sym, subst, List, [], length, take, sets, length-take-le, length-sets, arith}
-use Rattle.model.proofs.Prelude.{needs, le-leb, lt-leb}
+use Rattle.model.proofs.Prelude.{rules, le-leb, lt-leb}
 use Rattle.program_files.specs.Files.{NameTold, usual_in}
 
 module _ (space space' usual : List ℕ) (r : ℕ) (e : space' ≡ sets space 0 usual) (l : r ≡ 0 + length usual) (h : length usual ≤ length space) where
@@ -30,7 +30,7 @@ module _ (space usual : List ℕ) (h : length space < length usual) where
   pub none-put : space ≡ sets space 0 (usual_in usual space)
   none-put = ap (λ (x : List ℕ). sets space 0 x) (sym none)
 
-pub ruleset name-cases = (name-within, name-counts, name-length, name-put, none-length, none-put, needs)
+pub ruleset name-cases = (name-within, name-counts, name-length, name-put, none-length, none-put, rules)
 
 -- by the number of arguments
 module _ (place n : ℕ) (usual space space' : List ℕ) (arguments : ℕ) where
@@ -40,4 +40,4 @@ module _ (place n : ℕ) (usual space space' : List ℕ) (arguments : ℕ) where
   pub name-usual : arguments ≤ place → n ≡ length (usual_in usual space) → space' ≡ sets space 0 (usual_in usual space) → NameTold place n usual space space'
   name-usual h e s = record { arguments = arguments; length_is = λ a. e; usual_is = λ a. s }
 
-pub ruleset told-cases = (name-given, name-usual, needs)
+pub ruleset told-cases = (name-given, name-usual, rules)

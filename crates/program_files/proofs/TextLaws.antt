@@ -1,6 +1,6 @@
 -- Two texts compared byte by byte: what is left to compare gives the whole answer.
 use Rattle.model.proofs.Prelude.{ℕ, ◌≤◌, ◌<◌, ◌+◌, suc, ◌≡◌, ◌∙◌, ap, sym, ap₂, true, Bool, false, ◌&&◌, List, length, get_or, drop, take}
-use Rattle.model.proofs.Prelude.{drop_of_length-le, drop-cons, eqb, add-one, arith, needs, ne_eqb, eq-eqb}
+use Rattle.model.proofs.Prelude.{drop_of_length-le, drop-cons, eqb, add-one, arith, rules, ne_eqb, eq-eqb}
 use Rattle.model.specs.Report.{same_bytes}
 use Rattle.model.proofs.AnswerLaws.{same→}
 use Rattle.model.proofs.BoolLaws.{not→false}
@@ -27,7 +27,7 @@ module _ (xs ys : List ℕ) where
     pub same_end : length xs ≤ i → true ≡ same_bytes xs ys
     same_end h = sym (ap₂ same_bytes (drop_of_length-le xs {i = i} h) (drop_of_length-le ys {i = i} (omega (arith, e, h)))) ∙ so_far
 
-pub ruleset same_cases = (other_length, same_here, other-here, same_end, needs)
+pub ruleset same_cases = (other_length, same_here, other-here, same_end, rules)
 
 -- an argument, as it was read to a space
 pub argument_told : (answer : Bool) (space word : List ℕ) (n : ℕ) → n ≤ 4096 → n ≡ length (take n space) → answer ≡ same_bytes (take n space) word → ArgumentTold answer word

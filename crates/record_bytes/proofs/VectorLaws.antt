@@ -1,6 +1,6 @@
 -- The spare bits of a packed vector lie in one byte, and a mask finds them.
 use Rattle.model.proofs.Prelude.{ℕ, ◌≤◌, ◌<◌, ◌+◌, ◌-◌, ◌*◌, suc, ◌^◌, zero, ◌/◌, ◌%◌, ◌≡◌, ◌∙◌, ap, refl, sym, true, Bool, ◌&&◌, not, Bool·beq, List}
-use Rattle.model.proofs.Prelude.{get_or, T, eqb, arith}
+use Rattle.model.proofs.Prelude.{ap₂, get_or, T, eqb, arith}
 use lib.Bits.{bit_and}
 use Rattle.model.proofs.BoolLaws.{beq→}
 use Rattle.model.specs.Base.{all_of, numbers_from, bit}
@@ -18,7 +18,7 @@ in_byte bs n (suc zero) h = refl
 in_byte bs n (suc (suc m)) h =
     let q : suc n / 8 ≡ n / 8 = omega arith in
     let r : suc n % 8 ≡ suc (n % 8) = omega arith in
-    ap (λ (t : Bool). not (input_bit bs n) && t) (in_byte bs (suc n) (suc m) (omega arith) ∙ rw (q, r))
+    ap (λ (t : Bool). not (input_bit bs n) && t) (in_byte bs (suc n) (suc m) (omega arith) ∙ ap₂ (λ x k. clear (get_or bs x 0) k (suc m)) q r)
 
 -- the mask of the bits from bit `k` on finds none set in the byte `b`
 masked : ℕ → ℕ → Bool

@@ -1,7 +1,7 @@
 -- A test record: its checks, its vectors as words, and the edges of its inputs.
 use Rattle.model.proofs.Prelude.{ℕ, ◌≤◌, ◌<◌, ◌+◌, ◌-◌, ◌*◌, suc, ◌^◌, ◌/◌, ◌%◌, ◌≡◌, ◌∙◌, ap, refl, sym, ap₂, true, Bool, false, ◌&&◌, not, List, []}
 use Rattle.model.proofs.Prelude.{◌∷◌, length, get_or, drop, take, length-drop, length-take-le, drop-cons, get_or-drop, leb, T, eqb, zero-add, arith}
-use Rattle.model.proofs.Prelude.{needs, ne_eqb, eq-eqb, not-true, not-false, le-leb}
+use Rattle.model.proofs.Prelude.{rules, ne_eqb, eq-eqb, not-true, not-false, le-leb}
 use lib.Seq.{get_or-take}
 use Rattle.model.specs.Base.{Answer, refused, value, checks, bit, from_little_endian, numbers_from}
 use Rattle.model.specs.Netlist.{Netlist}
@@ -196,4 +196,4 @@ module _ {test : List ℕ} {inputs bytes : ℕ} (small : (i : ℕ) → get_or te
         ∙ ap (λ i. get_or (vector i (drop (2 + vector_bytes_of i) test)) j false) (sym e);
   }
 
-pub ruleset record-cases = (wrong_length, wrong_mark, spare-first, spare-second, pair-unchanged, record_legal, needs)
+pub ruleset record-cases = (wrong_length, wrong_mark, spare-first, spare-second, pair-unchanged, record_legal, rules)

@@ -1,6 +1,6 @@
 -- A report compared with the one of a sound store, case by case as the code meets them.
 use Rattle.model.proofs.Prelude.{ℕ, ◌≤◌, ◌<◌, ◌+◌, ◌*◌, ◌^◌, ◌/◌, ◌≡◌, ◌∙◌, ap, refl, sym, ap₂, true, Bool, false, ◌&&◌, not, List, ◌++◌, length}
-use Rattle.model.proofs.Prelude.{drop, take, length-drop, take_all, leb, eqb, leb→le, arith, needs, ne_eqb, eq-eqb, not-true, not-false}
+use Rattle.model.proofs.Prelude.{drop, take, length-drop, take_all, leb, eqb, leb→le, arith, rules, ne_eqb, eq-eqb, not-true, not-false}
 use Rattle.model.specs.Base.{refused, value, checks, field}
 use Rattle.model.specs.Path.{rising, falling}
 use Rattle.model.specs.Read.{marked}
@@ -48,7 +48,7 @@ module _ (report ws : List ℕ) (tests paths : ℕ) (sound : SoundWords (2 ^ 62)
           ∙ ap (λ (z : List ℕ). same_bytes z (word_bytes F)) k
           ∙ sym (after-head ∙ part-yes report 34 (8 * length R) (word_bytes R) (word_bytes F) (length-words R) (omega arith) (sym e ∙ not-false u m))
 
-pub ruleset report-cases = (other_length, other-head, other-rising, falling-decides, needs)
+pub ruleset report-cases = (other_length, other-head, other-rising, falling-decides, rules)
 
 -- the fields with the numbers of runs lie within a report that is long enough
 module _ (report : List ℕ) (b : Bool) (e : b ≡ (leb 34 (length report) && marked 0x52 0x50 report)) (n : not b ≡ false) where
@@ -84,4 +84,4 @@ module _ (report written : List ℕ) (b : Bool) (e : b ≡ (leb 34 (length repor
         pub equal-bytes : not u ≡ false → value tt ≡ checks (report_rules report written)
         equal-bytes m = rw (sym e ∙ not-false b n) (rw stated (rw (sym f ∙ not-false u m) refl))
 
-pub ruleset compare-cases = (rising_inside, falling_inside, other-mark, other-runs, other-bytes, equal-bytes, needs)
+pub ruleset compare-cases = (rising_inside, falling_inside, other-mark, other-runs, other-bytes, equal-bytes, rules)

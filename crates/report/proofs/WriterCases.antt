@@ -1,6 +1,6 @@
 -- The report put together from its parts, and the writer case by case as the code meets them.
 use Rattle.model.proofs.Prelude.{ℕ, ◌≤◌, ◌<◌, ◌+◌, ◌*◌, ◌^◌, ◌/◌, ◌≡◌, ◌∙◌, ap, refl, sym, ap₂, List, ◌++◌, append_assoc, length, drop, length-append}
-use Rattle.model.proofs.Prelude.{sets, sets-eq, arith, needs, le-leb, lt-leb, ne_eqb, eq-eqb}
+use Rattle.model.proofs.Prelude.{sets, sets-eq, arith, rules, le-leb, lt-leb, ne_eqb, eq-eqb}
 use Rattle.model.specs.Base.{refused, value, checks}
 use Rattle.model.specs.Netlist.{path_total}
 use Rattle.model.specs.Path.{rising, falling}
@@ -57,7 +57,7 @@ module _ (ws : List ℕ) (sound : SoundWords (2 ^ 62) ws) (R : List ℕ) (er : R
     pub record_small : 34 + 8 * length R + 8 * length F < 2 ^ 64
     record_small = omega (arith, edge_few sound rising er, edge_few sound falling ef)
 
-pub ruleset put-report-cases = (rising-room, falling-room, record_small, needs)
+pub ruleset put-report-cases = (rising-room, falling-room, record_small, rules)
 
 module _ (netlist ws buffer : List ℕ) where
   pub writer_store : (length ws ≡ store_words_count → ⊥) → WriteTrue (write.Refused why.StoreLength) netlist ws buffer buffer
@@ -122,4 +122,4 @@ module _ (netlist ws buffer : List ℕ) where
                   buffer = put ∙ rw (eq-eqb (length ws) store_words_count l, le-leb report_buffer_bytes (length buffer) h, is.is_read) (rw z refl);
                 }
 
-pub ruleset writer-cases = (writer_store, writer_short, writer_netlist, writer_total, writer_words, writer_sound, writer_written, needs)
+pub ruleset writer-cases = (writer_store, writer_short, writer_netlist, writer_total, writer_words, writer_sound, writer_written, rules)

@@ -1,5 +1,5 @@
 -- The 34 bytes before the runs, written and compared field by field.
-use Rattle.model.proofs.Prelude.{ℕ, ◌≤◌, ◌≡◌, ◌∙◌, ap, refl, sym, true, Bool, false, ◌&&◌, not, List, ◌++◌, length, drop, take, sets, arith, needs}
+use Rattle.model.proofs.Prelude.{ℕ, ◌≤◌, ◌≡◌, ◌∙◌, ap, refl, sym, true, Bool, false, ◌&&◌, not, List, ◌++◌, length, drop, take, sets, arith, rules}
 use Rattle.model.proofs.Prelude.{not-true, not-false}
 use Rattle.model.specs.Base.{little_endian}
 use Rattle.model.specs.Report.{same_bytes}
@@ -86,4 +86,4 @@ module _ (tests paths n m r f : ℕ) where
                 pub head-last : not t₆ ≡ false → (t₇ : Bool) → t₇ ≡ same_field 26 8 f → SameHead t₇ report tests paths n m r f
                 head-last y₆ t₇ e₇ = record { decides = λ rest. rest-5 rest ∙ rw (not-false t₅ y₅, sym e₆ ∙ not-false t₆ y₆, sym e₇) refl }
 
-pub ruleset head-cases = (head-mark, head-tests, head-paths, head-rising, head-falling, head-risen, head-last, needs)
+pub ruleset head-cases = (head-mark, head-tests, head-paths, head-rising, head-falling, head-risen, head-last, rules)

@@ -1,6 +1,6 @@
 -- Words of 8 bytes each, written into a report or compared with it one after the other: one word more as the loops count, and the end.
 use Rattle.model.proofs.Prelude.{ℕ, ◌≤◌, ◌<◌, ◌+◌, ◌-◌, ◌*◌, ◌≡◌, ◌∙◌, ap, refl, sym, ap₂, true, Bool, false, ◌&&◌, not, List, [], ◌++◌, length, get_or}
-use Rattle.model.proofs.Prelude.{drop, take, length-drop, drop_of_length-le, sets, length-take-le, drop-drop, drop-cons, add-one, arith, needs}
+use Rattle.model.proofs.Prelude.{drop, take, length-drop, drop_of_length-le, sets, length-take-le, drop-drop, drop-cons, add-one, arith, rules}
 use Rattle.model.proofs.Prelude.{not-true, not-false}
 use lib.Seq.{take-add}
 use Rattle.model.specs.Base.{little_endian}
@@ -33,7 +33,7 @@ put-start ws b at = let e : at + 8 * 0 ≡ at = omega arith in ap (λ (k : ℕ).
 pub put-end : (ws b : List ℕ) (at i : ℕ) → length ws ≤ i → (whole : List ℕ) → sets b (at + 8 * i) (word_bytes (drop i ws)) ≡ whole → b ≡ whole
 put-end ws b at i h whole w = sym (ap (λ (x : List ℕ). sets b (at + 8 * i) x) (no_bytes ws i h)) ∙ w
 
-pub ruleset put-cases = (put-start, put_next, put-end, needs)
+pub ruleset put-cases = (put-start, put_next, put-end, rules)
 
 -- Comparing: a part, then the rest
 front : (s : List ℕ) (at k m : ℕ) (xs ys : List ℕ) → length xs ≡ k → at + k ≤ length s
@@ -82,4 +82,4 @@ words-end report at ws i h whole w =
     let none : 8 * (length ws - i) ≡ 0 = omega arith in
     sym (ap₂ (λ (n : ℕ) (y : List ℕ). same_bytes (take n (drop (at + 8 * i) report)) y) none (no_bytes ws i h)) ∙ w
 
-pub ruleset same_cases = (same_start, word-other, word_same, words-end, needs)
+pub ruleset same_cases = (same_start, word-other, word_same, words-end, rules)

@@ -1,5 +1,5 @@
 -- The first false claim, case by case as the code meets it.
-use Rattle.model.proofs.Prelude.{ℕ, ◌≤◌, ◌<◌, ◌≡◌, ◌∙◌, ap, refl, sym, ap₂, true, Bool, false, not, true≢false, List, length, get_or, T, arith, needs}
+use Rattle.model.proofs.Prelude.{ℕ, ◌≤◌, ◌<◌, ◌≡◌, ◌∙◌, ap, refl, sym, ap₂, true, Bool, false, not, true≢false, List, length, get_or, T, arith, rules}
 use Rattle.model.proofs.Prelude.{le-leb, lt-leb, ne_eqb, eq-eqb, not-true, not-false}
 use mir.Syntax.{w8, w64}
 use mir.Val.{Fits}
@@ -187,10 +187,10 @@ module _ (report truth plain : List ℕ) (paths : ℕ) where
       told-first q r g =
           let z : claims_held_of report plain ≡ false = sym f ∙ q in g ∙ sym (rw (le-leb 34 (length plain) h, not_all, z, told_of) refl)
 
-pub ruleset number-cases = (number-none, number-over, number-found, needs)
+pub ruleset number-cases = (number-none, number-over, number-found, rules)
 
-pub ruleset held-cases = (held_all, held-not, needs)
+pub ruleset held-cases = (held_all, held-not, rules)
 
-pub ruleset claim-cases = (claim_unread, claim_unheld, claim_compared, held-unread, held-unheld, held-compared, needs)
+pub ruleset claim-cases = (claim_unread, claim_unheld, claim_compared, held-unread, held-unheld, held-compared, rules)
 
-pub ruleset told-cases = (told-plainly, told-nothing, told-not_robust, told-first, needs)
+pub ruleset told-cases = (told-plainly, told-nothing, told-not_robust, told-first, rules)

@@ -1,5 +1,5 @@
 -- Which numbers are those of one test record, by what each test of the code says: `n` is the refusal's number, the others those of the five cases.
-use Rattle.model.proofs.Prelude.{ℕ, ◌≡◌, refl, true, false, eqb, arith, needs, ne_eqb}
+use Rattle.model.proofs.Prelude.{ℕ, ◌≡◌, refl, true, false, eqb, arith, rules, ne_eqb}
 use Rattle.report_verdict.specs.Verdict.{of_record}
 
 module _ (number n : ℕ) (same : n ≡ number) where
@@ -32,4 +32,4 @@ module _ (number n : ℕ) (same : n ≡ number) where
       let not-50 : eqb number 50 ≡ false = ne_eqb number 50 (λ e. no-work (omega arith)) in
       rw (not-31, not-32, not-85, not-50, same, t) refl
 
-pub ruleset record-cases = (of_mark, of_spare-bit, of_unchanged_pair, of_working-runs, of_store-runs, needs)
+pub ruleset record-cases = (of_mark, of_spare-bit, of_unchanged_pair, of_working-runs, of_store-runs, rules)

@@ -1,5 +1,5 @@
 -- A text that fits a line, on_line-alone on it, is what the line says.
-use Rattle.model.proofs.Prelude.{ℕ, ◌≤◌, ◌≡◌, ◌∙◌, ap, refl, sym, List, [], ◌++◌, length, length-append, arith, needs, ne_eqb, eq-eqb}
+use Rattle.model.proofs.Prelude.{ℕ, ◌≤◌, ◌≡◌, ◌∙◌, ap, refl, sym, List, [], ◌++◌, length, length-append, arith, rules, ne_eqb, eq-eqb}
 use Rattle.model.specs.Refusals.{refusal_number_of}
 use Rattle.model.specs.declared.Refusal.{Refusal}
 use Rattle.audit_judging.specs.FileJudging.{audited_of}
@@ -26,7 +26,7 @@ module _ (answer : AuditAnswer) (before after : List ℕ) (e : before ≡ []) wh
       l ∙ ap (λ (t : List ℕ). on_line t (refused_text (refusal_number_of why))) e ∙ on_line-alone (refused_text (refusal_number_of why)) (short (refusal_number_of why))
       ∙ ap (λ (a : AuditAnswer). verdict_text (audited_of a)) (sym q)
 
-pub ruleset line-cases = (line-accepted, line_refused, needs)
+pub ruleset line-cases = (line-accepted, line_refused, rules)
 
 -- the class
 module _ (class : ℕ) (before after : List ℕ) (e : before ≡ []) where
@@ -40,4 +40,4 @@ module _ (class : ℕ) (before after : List ℕ) (e : before ≡ []) where
   class-other q l =
       l ∙ ap (λ (t : List ℕ). on_line t (judged_text ++ non_robust_text)) e ∙ on_line-alone (judged_text ++ non_robust_text) (omega arith) ∙ rw (ne_eqb class 2 q) refl
 
-pub ruleset Class-cases = (class-robust, class-other, needs)
+pub ruleset Class-cases = (class-robust, class-other, rules)

@@ -1,6 +1,6 @@
 -- The cases of the walk along two lists: what is put so far, followed by what the runs that are left have in common, is the whole.
 use Rattle.model.proofs.Prelude.{ℕ, ◌≤◌, ◌<◌, ◌+◌, ◌-◌, ◌*◌, suc, min, max, ◌≡◌, ◌∙◌, ap, refl, sym, ap₂, List, [], ◌∷◌, ◌++◌, append_assoc}
-use Rattle.model.proofs.Prelude.{append-nil, length, get_or, set, arith, needs}
+use Rattle.model.proofs.Prelude.{append-nil, length, get_or, set, arith, rules}
 use Rattle.model.specs.Runs.{Run, run}
 use Rattle.run_lists.specs.RunLists.{run_at, runs_in_words, write_runs_of}
 use Rattle.run_lists.proofs.RunWordLaws.{runs-next, runs-snoc}
@@ -27,7 +27,7 @@ module _ (ws : List ℕ) (k : ℕ) (x y : Run) where
       same : (run (max x.low y.low) (min x.high y.high) ∷ []) ≡ (run low high ∷ [])
       same = ap₂ (λ (a b : ℕ). run a b ∷ []) (sym p) (sym q)
 
-pub ruleset put-cases = (nothing_put, one-put, needs)
+pub ruleset put-cases = (nothing_put, one-put, rules)
 
 pub record Meeting (a : List ℕ) (m : ℕ) (b : List ℕ) (n : ℕ) (ws₀ ws : List ℕ) (i j k : ℕ) : Type 0 where
   pub a_fits : 2 * m ≤ length a
@@ -107,4 +107,4 @@ module _ {a : List ℕ} {m : ℕ} {b : List ℕ} {n : ℕ} where
             (split ∙ meet_second (run_at a i) (run_at b j) (λ zs. meets next-a zs) next-b g
             ∙ ap (λ (s : List Run). overlap (run_at a i) (run_at b j) ++ meets s next-b) (sym (runs-next a i m h)))
 
-pub ruleset meet-cases = (meeting_start, meeting_end, meeting_short, meeting_few, put-room, pass_first, pass_second, needs)
+pub ruleset meet-cases = (meeting_start, meeting_end, meeting_short, meeting_few, put-room, pass_first, pass_second, rules)

@@ -1,6 +1,6 @@
 -- The runs that a place adds where it is open, or not.
 use Rattle.model.proofs.Prelude.{ℕ, ◌≤◌, ◌<◌, ◌+◌, ◌-◌, ◌*◌, ◌^◌, ◌≡◌, ◌∙◌, ap, refl, sym, subst, ap₂, true, Bool, false, List, [], get_or, eqb, arith}
-use Rattle.model.proofs.Prelude.{needs}
+use Rattle.model.proofs.Prelude.{rules}
 use mir.Val.{Fits}
 use mir.Syntax.{w64}
 use Rattle.model.specs.Runs.{Run}
@@ -72,4 +72,4 @@ module _ {starts ws : List ℕ} {start net from to opened : ℕ} (r : NetReady s
   net-added count offset a =
       as_adds (ap (add_runs (runs_in_words ws start count)) (ap (shift_runs offset) opened-runs ∙ shift-only (eqb opened 1) offset (runs_in starts ws net))) refl a
 
-pub ruleset net-cases = (net-times, net-end, net-begins, net-ends, net-sound, net-added, needs)
+pub ruleset net-cases = (net-times, net-end, net-begins, net-ends, net-sound, net-added, rules)

@@ -1,6 +1,6 @@
 -- The loop over the places: the list holds the runs of the places so far.
 use Rattle.model.proofs.Prelude.{ℕ, ◌≤◌, ◌<◌, ◌+◌, ◌-◌, suc, ◌^◌, zero, ◌≡◌, ◌∙◌, ap, refl, sym, ap₂, subst⁻¹, List, [], ◌++◌, append-nil, length}
-use Rattle.model.proofs.Prelude.{get_or, eqb, add-one, arith, needs}
+use Rattle.model.proofs.Prelude.{get_or, eqb, add-one, arith, rules}
 use mir.Val.{Fits}
 use mir.Syntax.{w64}
 use Rattle.model.specs.Runs.{Run}
@@ -133,6 +133,6 @@ module _ {P : Places} {n : ℕ} {starts ws₀ : List ℕ} {start cap : ℕ} wher
         }
 
 pub ruleset place-cases =
-    (places-start, places_same, places-room, places-small, places-done, place-net, place-below, place-sum, place-full, place-more, needs)
+    (places-start, places_same, places-room, places-small, places-done, place-net, place-below, place-sum, place-full, place-more, rules)
 
 pub ruleset output-cases = (output-here, output-long, place-cases)

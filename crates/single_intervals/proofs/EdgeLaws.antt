@@ -1,6 +1,6 @@
 -- One edge: the runs of the inputs, those of the gates' nets, then those of the detected path numbers.
 use Rattle.model.proofs.Prelude.{ℕ, ◌≤◌, ◌<◌, ◌-◌, ◌*◌, ◌≡◌, ◌∙◌, ap, refl, sym, ap₂, subst⁻¹, cond, List, [], ◌∷◌, length, drop, length-drop, leb}
-use Rattle.model.proofs.Prelude.{arith, needs, le-leb, lt-leb}
+use Rattle.model.proofs.Prelude.{arith, rules, le-leb, lt-leb}
 use Rattle.model.specs.Base.{sum_of}
 use Rattle.model.specs.Netlist.{Netlist, nets, counts, path_total, output_count, output_counts, output_net}
 use Rattle.model.specs.Store.{max_runs}
@@ -136,4 +136,4 @@ module _ {file ps cs masks : List ℕ} {edges : ℕ} {shape : Shape} {ws₀ ws�
       pub edge-ready : SomeEdgeAt file ps cs masks edges shape ws₀ → OutputsReady part shape.inputs shape.outputs cs starts₂ ws₂
       edge-ready k = ready k.case k.at_edge
 
-pub ruleset edge-cases = (no_edge, few-outputs, outputs-inside, edge-nets, edge-detects, edge-ready, needs)
+pub ruleset edge-cases = (no_edge, few-outputs, outputs-inside, edge-nets, edge-detects, edge-ready, rules)

@@ -1,5 +1,5 @@
 -- The loop over the gates: the words hold the runs of the nets so far, by the tables of the netlist.
-use Rattle.model.proofs.Prelude.{ℕ, ◌≤◌, ◌<◌, ◌+◌, ◌-◌, ◌*◌, ◌≡◌, ◌∙◌, ap, refl, sym, subst, subst⁻¹, List, length, get_or, take, set, arith, needs}
+use Rattle.model.proofs.Prelude.{ℕ, ◌≤◌, ◌<◌, ◌+◌, ◌-◌, ◌*◌, ◌≡◌, ◌∙◌, ap, refl, sym, subst, subst⁻¹, List, length, get_or, take, set, arith, rules}
 use mir.Val.{Fits}
 use mir.Syntax.{w16, w64}
 use Rattle.model.specs.Netlist.{Netlist, nets, pins_of, pin_net, pin_counts}
@@ -166,4 +166,4 @@ module _ {file ps cs masks : List ℕ} {shape : Shape} {ws₀ starts₀ : List �
             }
 
 pub ruleset gate-cases =
-    (nets-start, nets-done, nets-below, nets-next, nets-index, nets-inside, nets-gate, nets-full, nets-sum, nets-word, nets-more, needs)
+    (nets-start, nets-done, nets-below, nets-next, nets-index, nets-inside, nets-gate, nets-full, nets-sum, nets-word, nets-more, rules)

@@ -1,6 +1,6 @@
 -- The runs of a gate's open pins, counted pin by pin; where the count is 0 the gate has none.
 use Rattle.model.proofs.Prelude.{ℕ, ◌≤◌, ◌<◌, ◌+◌, ◌-◌, ◌*◌, suc, zero, ◌≡◌, ◌∙◌, ap, refl, sym, ap₂, subst⁻¹, true, Bool, false, List, [], length}
-use Rattle.model.proofs.Prelude.{get_or, take_all, eqb, add-one, arith, needs}
+use Rattle.model.proofs.Prelude.{get_or, take_all, eqb, add-one, arith, rules}
 use mir.Val.{Fits}
 use mir.Syntax.{w64}
 use Rattle.model.specs.Base.{bit}
@@ -36,7 +36,7 @@ module _ (from to opened : ℕ) (l : opened < 2) where
       → (to - from) * opened ≡ count_if (eqb opened 1) (run_count starts net)
   count-is starts net e d = count-times (to - from) l ∙ ap₂ (λ (x y : ℕ). count_if (eqb opened 1) (y - x)) e d
 
-pub ruleset count-cases = (count_fits, count_small, count-is, needs)
+pub ruleset count-cases = (count_fits, count_small, count-is, rules)
 
 module _ {part starts : List ℕ} (ready : PinsReady part starts) {pin : ℕ} (h : pin < pin_count_in part) where
   pub pin-inside : 4 + 2 * pin + 2 ≤ length part
@@ -55,7 +55,7 @@ module _ {part starts : List ℕ} (ready : PinsReady part starts) {pin : ℕ} (h
     pub pin-counted : (mask : ℕ) {k : ℕ} {b : Bool} → b ≡ bit mask pin → k ≡ count_if b (run_count starts net) → k ≡ pin_runs_of part mask starts pin
     pin-counted mask o c = c ∙ ap₂ (λ (b : Bool) (x : ℕ). count_if b (run_count starts x)) o e
 
-pub ruleset pin-cases = (pin-inside, pin-digit, pin-is-net, pin-ordered, pin-counted, needs)
+pub ruleset pin-cases = (pin-inside, pin-digit, pin-is-net, pin-ordered, pin-counted, rules)
 
 -- ---- all pins
 
@@ -113,7 +113,7 @@ module _ {part : List ℕ} {mask : ℕ} {starts : List ℕ} {pins : ℕ} where
         small = omega (arith, i.small);
       }
 
-pub ruleset open-cases = (open_start, two-first, two-second, two-together, two_fits, open_done, open_ready, open_pin_lem, open_sum, open_more, needs)
+pub ruleset open-cases = (open_start, two-first, two-second, two-together, two_fits, open_done, open_ready, open_pin_lem, open_sum, open_more, rules)
 
 -- ---- a gate whose open pins' nets have no run
 
@@ -145,4 +145,4 @@ module _ {part : List ℕ} {mask : ℕ} {counts starts ws : List ℕ} {start : �
     writes = ap (write_runs_of ws start) (sym (take_all (max_runs - start) [] (omega arith)));
   }
 
-pub ruleset pass-cases = (pins-ready, none-added, needs)
+pub ruleset pass-cases = (pins-ready, none-added, rules)

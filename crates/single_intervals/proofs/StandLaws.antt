@@ -1,6 +1,6 @@
 -- The runs of one net after the other in the words: one net more, and the inputs' one after the other.
 use Rattle.model.proofs.Prelude.{ℕ, ◌≤◌, ◌<◌, ◌+◌, ◌-◌, ◌*◌, suc, ◌^◌, zero, ◌≡◌, ◌∙◌, ap, refl, sym, subst, ap₂, subst⁻¹, true, Bool, false, List}
-use Rattle.model.proofs.Prelude.{[], ◌∷◌, length, get_or, set, length-set, get_or-set_same, get_or-set_other, eqb, le_refl, arith, needs}
+use Rattle.model.proofs.Prelude.{[], ◌∷◌, length, get_or, set, length-set, get_or-set_same, get_or-set_other, eqb, le_refl, arith, rules}
 use Rattle.model.specs.Base.{bit}
 use Rattle.model.specs.Runs.{Run, run}
 use Rattle.model.specs.Store.{max_runs}
@@ -136,4 +136,4 @@ module _ {edges inputs : ℕ} {ws₀ ws starts : List ℕ} {input start : ℕ} (
   pub inputs-done : inputs ≤ input → Stand (input_runs_of edges) ws starts inputs start
   inputs-done h = let e : input ≡ inputs = omega (arith, i.within) in subst (λ k. Stand (input_runs_of edges) ws starts k start) e i.stand
 
-pub ruleset input-cases = (inputs-start, inputs-more, inputs-second, inputs-done, needs)
+pub ruleset input-cases = (inputs-start, inputs-more, inputs-second, inputs-done, rules)

@@ -1,6 +1,6 @@
 -- The states of the nets and the open pins of the gates, net by net.
 use Rattle.model.proofs.Prelude.{ℕ, ◌≤◌, ◌<◌, ◌+◌, ◌*◌, suc, ◌^◌, ◌≡◌, ◌∙◌, ap, refl, sym, subst, ap₂, Bool·beq, List, [], ◌∷◌, map, length, get_or}
-use Rattle.model.proofs.Prelude.{set, length-set, replicate, length-replicate, arith, needs}
+use Rattle.model.proofs.Prelude.{set, length-set, replicate, length-replicate, arith, rules}
 use mir.Syntax.{w64}
 use mir.Val.{Fits}
 use Rattle.model.specs.Base.{bit}
@@ -196,4 +196,4 @@ pub sim_end : {file ps : List ℕ} {shape : Shape} {class first last : ℕ} {arr
     → (N : Netlist) (cs : List ℕ) (t : Test) → CircuitTables N file ps cs shape → TestIs N t class first last → OpenMasks N t masks
 sim_end h x N cs t c y = record { opens = λ q p l m k. (x.right N cs t c y).opens.opens q p l (omega (arith, c.nets_are)) k }
 
-pub ruleset open-cases = (inputs-few, sim_start, below-512, entry_place, position_inside, kind-inside, pins-inside, gate-states, packed-small, states-packed, sim_step, sim_end, needs)
+pub ruleset open-cases = (inputs-few, sim_start, below-512, entry_place, position_inside, kind-inside, pins-inside, gate-states, packed-small, states-packed, sim_step, sim_end, rules)

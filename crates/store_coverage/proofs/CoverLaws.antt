@@ -1,6 +1,6 @@
 -- One edge: the detected runs, joined to those that the store holds.
 use Rattle.model.proofs.Prelude.{ℕ, ◌≤◌, ◌+◌, ◌-◌, ◌*◌, suc, ◌^◌, zero, ◌/◌, ◌≡◌, ◌∙◌, ap, refl, sym, subst, ap₂, subst⁻¹, true, Bool, false, ◌||◌}
-use Rattle.model.proofs.Prelude.{cond, or_comm, List, [], ◌∷◌, length, get_or, drop, get_or-drop, leb, arith, needs, le-leb, leb-true}
+use Rattle.model.proofs.Prelude.{cond, or_comm, List, [], ◌∷◌, length, get_or, drop, get_or-drop, leb, arith, rules, le-leb, leb-true}
 use mir.Syntax.{w64}
 use mir.Val.{Fits}
 use Rattle.model.specs.Base.{refused, value, checks}
@@ -158,4 +158,4 @@ module _ {q : Added} {held ws₁ : List ℕ} {target : ℕ} (h : JoinReady q hel
         → (K : Case) (ws₀ : List ℕ) → Detects K ws₀ ws₁ q → Sound (path_total K.netlist) (held_runs held) → Covers K (held_runs held) ws₀ ws₂ target a
     join_count made K ws₀ d so = made K ws₀ (subst (λ (x : Added). Detects K ws₀ ws₁ x) t d) so
 
-pub ruleset join-cases = (join_over, place-fits, found_inside, join_known, join_none, ready-count, join_count, needs)
+pub ruleset join-cases = (join_over, place-fits, found_inside, join_known, join_none, ready-count, join_count, rules)

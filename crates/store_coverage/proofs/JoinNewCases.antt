@@ -1,6 +1,6 @@
 -- One edge with new runs: those that it holds around them are united with them, the others stay before and after.
 use Rattle.model.proofs.Prelude.{ℕ, ◌≤◌, ◌<◌, ◌+◌, ◌-◌, ◌*◌, ◌^◌, ◌/◌, ◌≡◌, ◌∙◌, ap, refl, sym, subst, ap₂, subst⁻¹, List, ◌++◌, length, get_or, drop}
-use Rattle.model.proofs.Prelude.{take, length-append, arith, needs, le-leb, lt-leb}
+use Rattle.model.proofs.Prelude.{take, length-append, arith, rules, le-leb, lt-leb}
 use mir.Syntax.{w64}
 use mir.Val.{Fits}
 use Rattle.model.specs.Store.{max_runs}
@@ -176,4 +176,4 @@ module _ {held ws₁ : List ℕ} {target found : ℕ} (h : JoinReady (Count foun
           between = between₂;
         }
 
-pub ruleset join-new-cases = (end_fits, twice-fits, word_fits, word-inside, sum_fits, then-fits, join_full, join_many, join_made, needs)
+pub ruleset join-new-cases = (end_fits, twice-fits, word_fits, word-inside, sum_fits, then-fits, join_full, join_many, join_made, rules)

@@ -1,6 +1,6 @@
 -- What was made of both edges, as the place Work.
 use Rattle.model.proofs.Prelude.{ℕ, ◌≤◌, ◌<◌, ◌+◌, ◌*◌, suc, ◌≡◌, ◌∙◌, ap, refl, sym, ap₂, true, Bool, false, not, List, [], ◌∷◌, length, set, ltb}
-use Rattle.model.proofs.Prelude.{ltb→lt, arith, needs, not-true, not-false}
+use Rattle.model.proofs.Prelude.{ltb→lt, arith, rules, not-true, not-false}
 use Rattle.model.specs.Base.{Answer, refused, value, ◌then◌, check, checks, passes, after}
 use Rattle.model.specs.Netlist.{Netlist, path_total}
 use Rattle.model.specs.Path.{Edge, rising, falling}
@@ -182,6 +182,6 @@ module _ (ws : List ℕ) {a : Bool} (ea : a ≡ ltb (tests_taken_of ws) max_test
   pub refuse_full : a ≡ false → stage_of (Refused why.TestsFull) ≡ refused_after ws w
   refuse_full e = rw (sym ea ∙ e) refl
 
-pub ruleset refuse-cases = (refuse_why, refuse_full, needs)
+pub ruleset refuse-cases = (refuse_why, refuse_full, rules)
 
-pub ruleset write-cases = (write_long, write_none, write_over, write_full, write_first, write_next, write_taken, needs)
+pub ruleset write-cases = (write_long, write_none, write_over, write_full, write_first, write_next, write_taken, rules)

@@ -1,6 +1,6 @@
 -- Words that are zero so far: one more of them, a row more of them, none left.
 use Rattle.model.proofs.Prelude.{ℕ, ◌≤◌, ◌<◌, ◌+◌, ◌-◌, suc, zero, ◌≡◌, ◌∙◌, ap, refl, sym, ap₂, true, Bool, false, ◌&&◌, and-true, and_assoc, List}
-use Rattle.model.proofs.Prelude.{[], ◌∷◌, ◌++◌, length, get_or, drop, take, drop-drop, drop-cons, eqb, add-one, arith, needs, ne_eqb, eq-eqb}
+use Rattle.model.proofs.Prelude.{[], ◌∷◌, ◌++◌, length, get_or, drop, take, drop-drop, drop-cons, eqb, add-one, arith, rules, ne_eqb, eq-eqb}
 use lib.Bits.{bit_or, or_zero_l, or_add_and, and_le_r}
 use lib.Seq.{take-add}
 use Rattle.model.specs.Base.{all_of}
@@ -93,6 +93,6 @@ row-end ws at i seen so_far h = zeros-end ws at row_words (at + i) (row_words - 
 pub row-start : (ws : List ℕ) (at : ℕ) → (eqb 0 0 && zero_words_of ws (at + 0) (row_words - 0)) ≡ zero_words_of ws at row_words
 row-start ws at = let here : at + 0 ≡ at = omega arith in ap (λ (p : ℕ). zero_words_of ws p row_words) here
 
-pub ruleset row-cases = (row-start, row_more, row-end, needs)
+pub ruleset row-cases = (row-start, row_more, row-end, rules)
 
-pub ruleset zero-cases = (zeros-none, zeros-first, zeros-more, zeros-end, rows_more, rows_end, rows-not, needs)
+pub ruleset zero-cases = (zeros-none, zeros-first, zeros-more, zeros-end, rows_more, rows_end, rows-not, rules)

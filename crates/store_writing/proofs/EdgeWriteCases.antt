@@ -1,7 +1,7 @@
 -- One edge's runs written to a store: its number of runs at the head, then its places.
 use Rattle.model.proofs.Prelude.{ℕ, ◌≤◌, ◌<◌, ◌+◌, ◌-◌, ◌*◌, suc, ◌≡◌, ◌∙◌, ap, refl, sym, subst, ap₂, List, [], ◌∷◌, ◌++◌, append_assoc, append-nil}
 use Rattle.model.proofs.Prelude.{length, get_or, drop, take, length-append, set, length-set, replicate, length-drop, length-replicate}
-use Rattle.model.proofs.Prelude.{drop_of_length-le, get_or-replicate, List·getD-append, drop-set-lt, arith, needs}
+use Rattle.model.proofs.Prelude.{drop_of_length-le, get_or-replicate, List·getD-append, drop-set-lt, arith, rules}
 use mir.Syntax.{w64}
 use mir.Val.{Fits}
 use lib.Seq.{get_or-append-add}
@@ -224,4 +224,4 @@ module _ (words : List ℕ) (made : ℕ) (ws : List ℕ) (e : Edge) where
         ∙ store-head has new few e
         ∙ ap (λ (c : Change). store_of (tests_taken_of ws) (with_runs e (changed c words made (of_edge s e)) s)) (sym is)
 
-pub ruleset write-runs-cases = (count-inside, head-inside, cut-held, sum_fits, then-fits, runs-kept, needs)
+pub ruleset write-runs-cases = (count-inside, head-inside, cut-held, sum_fits, then-fits, runs-kept, rules)

@@ -1,5 +1,5 @@
 -- The calls on the test file that an argument names: long working memory is not refused, and there is a report exactly where the tests are taken.
-use Rattle.model.proofs.Prelude.{ℕ, ◌≤◌, ◌≡◌, ◌∙◌, ap, refl, true, Bool, false, ◌&&◌, List, [], ◌∷◌, length, ltb, le→leb, arith, needs, lt-ltb, le-leb}
+use Rattle.model.proofs.Prelude.{ℕ, ◌≤◌, ◌≡◌, ◌∙◌, ap, refl, true, Bool, false, ◌&&◌, List, [], ◌∷◌, length, ltb, le→leb, arith, rules, lt-ltb, le-leb}
 use Rattle.model.specs.Base.{Answer, refused, value, ◌into◌, ◌then◌, checks}
 use Rattle.model.specs.Netlist.{Netlist, path_total}
 use Rattle.model.specs.Detect.{Class}
@@ -125,4 +125,4 @@ tests-stored r netlist class truth truth' ws ws' e t =
     }
 
 -- what `search` finds the returns with
-pub ruleset named-test-cases = (file-reported, nothing-told, length-told, tests-stored, needs)
+pub ruleset named-test-cases = (file-reported, nothing-told, length-told, tests-stored, rules)

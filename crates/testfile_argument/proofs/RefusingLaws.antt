@@ -1,5 +1,5 @@
 -- The line on a refusal, part by part.
-use Rattle.model.proofs.Prelude.{ℕ, ◌≤◌, ◌+◌, min, ◌≡◌, ◌∙◌, refl, sym, true, Bool, false, List, [], ◌++◌, length, length-append, arith, needs}
+use Rattle.model.proofs.Prelude.{ℕ, ◌≤◌, ◌+◌, min, ◌≡◌, ◌∙◌, refl, sym, true, Bool, false, List, [], ◌++◌, length, length-append, arith, rules}
 use Rattle.text_line.specs.Decimal.{decimal_text, refused_word, refused_text}
 use Rattle.text_line.specs.Lines.{ascii, on_line}
 use Rattle.text_line.proofs.DecimalLaws.{at-most-20}
@@ -46,4 +46,4 @@ module _ (number taken : ℕ) (ofOne : Bool) (q : ofOne ≡ of_record number) wh
   other-line x0 x1 r e0 e1 =
       first_part x0 x1 (refused_text number) e0 e1 ∙ on_line-alone (refused_text number) (omega (arith, short number)) ∙ sym (rw (sym q ∙ r, refused_line_of) refl)
 
-pub ruleset refused-cases = (record_line_lem, other-line, needs)
+pub ruleset refused-cases = (record_line_lem, other-line, rules)

@@ -1,5 +1,5 @@
 -- The public calls: a refusal at the beginning, or the end of a file that was walked over.
-use Rattle.model.proofs.Prelude.{ℕ, ◌/◌, ◌≡◌, ◌∙◌, ap, refl, sym, subst, ◌↔◌, true, Bool, false, List, [], ◌∷◌, length, needs}
+use Rattle.model.proofs.Prelude.{ℕ, ◌/◌, ◌≡◌, ◌∙◌, ap, refl, sym, subst, ◌↔◌, true, Bool, false, List, [], ◌∷◌, length, rules}
 use Rattle.model.specs.Base.{Answer, refused, value, ◌into◌, ◌then◌, checks, passes, after}
 use Rattle.model.specs.Netlist.{Netlist, path_total}
 use Rattle.model.specs.Detect.{Class}
@@ -155,4 +155,4 @@ pub stream_accepts : (r : Judged) (netlist report : List ℕ) (class : ℕ) (tru
 stream_accepts r netlist report class truth truth' space ws ws' work work' s =
     calls-true.audits r.answer netlist class s.read.test_file report ws ws' work work' s.is_audit
 
-pub ruleset stream-cases = (begun-ready, begun-empty, audit_refused, audit_done, report-refused, report-done, needs)
+pub ruleset stream-cases = (begun-ready, begun-empty, audit_refused, audit_done, report-refused, report-done, rules)

@@ -1,5 +1,5 @@
 -- The true report: none after a refusal, else the writer's, whose bytes lie in the buffer.
-use Rattle.model.proofs.Prelude.{ℕ, ◌≤◌, ◌≡◌, ◌∙◌, ap, refl, sym, subst, List, length, drop, length-append, arith, needs}
+use Rattle.model.proofs.Prelude.{ℕ, ◌≤◌, ◌≡◌, ◌∙◌, ap, refl, sym, subst, List, length, drop, length-append, arith, rules}
 use Rattle.model.specs.Base.{Answer, refused, value, ◌into◌}
 use Rattle.model.specs.Report.{writer_answer, writer_buffer}
 use Rattle.model.specs.declared.Refusal.{Refusal}
@@ -27,7 +27,7 @@ module _ (a : WriteAnswer) where
   pub length-written : (n : ℕ) → a ≡ write.Written n → n ≡ length_in (written_of a)
   length-written n q = sym (ap (λ (x : WriteAnswer). length_in (written_of x)) q)
 
-pub ruleset answer-cases = (same-refused, length-refused, same-written, length-written, needs)
+pub ruleset answer-cases = (same-refused, length-refused, same-written, length-written, rules)
 
 -- the report lies in the buffer
 within : (x : Answer (List ℕ)) (found : List ℕ) → length_in (x into λ w. value (length w)) ≤ length (with_report x found)
@@ -64,4 +64,4 @@ module _ (netlist ws : List ℕ) (answer : StageAnswer) (r : Written) (truth : L
       → r.length ≡ length_in (written_of a) → r.length ≤ length truth'
   some-within truth' a q t s l = wrote-within r (writer_after netlist (file_of answer ws) truth) truth truth' (wrote-some truth' a q t s l)
 
-pub ruleset wrote-cases = (wrote_none, wrote-some, none_within, some-within, part_length, needs)
+pub ruleset wrote-cases = (wrote_none, wrote-some, none_within, some-within, part_length, rules)

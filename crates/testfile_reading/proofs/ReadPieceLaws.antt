@@ -1,6 +1,6 @@
 -- A file that is read piece by piece, whatever is done with the pieces: its start, one full piece more, its last piece.
 use Rattle.model.proofs.Prelude.{ℕ, ◌≤◌, ◌<◌, ◌+◌, ◌-◌, ◌*◌, ◌/◌, ◌%◌, ◌≡◌, ◌∙◌, ap, refl, sym, subst, inl, inr, ◌⊎◌, List, [], ◌++◌, length, take}
-use Rattle.model.proofs.Prelude.{length-append, length-take-le, mod-lt, mod-eq_of_lt, arith, needs}
+use Rattle.model.proofs.Prelude.{length-append, length-take-le, mod-lt, mod-eq_of_lt, arith, rules}
 use native.Mathlib.Nat.{mul-mod_left, mul-add-mod_self_right, div-add-mod', mod-le}
 use Rattle.model.specs.Base.{value}
 use Rattle.model.specs.Netlist.{Netlist}
@@ -18,7 +18,7 @@ module _ (space bytes : ℕ) (h : 2 ≤ bytes) where
   pub part-near : space < space - space % bytes + bytes
   part-near = omega (arith, mod-lt space {m = bytes} (omega (arith, h)), mod-le space bytes)
 
-pub ruleset part-cases = (part-whole, part-near, needs)
+pub ruleset part-cases = (part-whole, part-near, rules)
 
 -- What counts bytes of a part counts bytes of the whole
 pub part_length : (n : ℕ) (l : List ℕ) → n ≤ length l → n ≡ length (take n l)
@@ -33,7 +33,7 @@ part-counts n part rest h = part_length n (part ++ rest) (part-within n part res
 pub part-most : (n most : ℕ) (part l : List ℕ) → n ≤ length part → length part ≡ length (take most l) → most ≤ length l → n ≤ most
 part-most n most part l h k m = omega (arith, h, k, length-take-le most l m)
 
-pub ruleset read-cases = (part_length, part-within, part-counts, part-most, needs)
+pub ruleset read-cases = (part_length, part-within, part-counts, part-most, rules)
 
 -- the bytes with one piece more
 pub file-more : (bytes n : ℕ) (test_file space : List ℕ) → bytes ≡ length test_file → n ≤ length space → bytes + n ≡ length (test_file ++ take n space)

@@ -1,5 +1,5 @@
 -- The length of the whole file: 33 comes before what its records answer.
-use Rattle.model.proofs.Prelude.{ℕ, ◌≤◌, ◌+◌, ◌*◌, ◌≡◌, ◌∙◌, ap, refl, sym, subst, ap₂, true, Bool, false, List, length, replicate, needs}
+use Rattle.model.proofs.Prelude.{ℕ, ◌≤◌, ◌+◌, ◌*◌, ◌≡◌, ◌∙◌, ap, refl, sym, subst, ap₂, true, Bool, false, List, length, replicate, rules}
 use Rattle.model.specs.Base.{refused, value}
 use Rattle.model.specs.Netlist.{Netlist}
 use Rattle.model.specs.Detect.{Class}
@@ -77,4 +77,4 @@ module _ (walk : Walk) (netlist : List ℕ) (loaded : Loaded) (class : ℕ) (spa
           past_work = v.past_work;
         }
 
-pub ruleset file-cases = (walked-inputs, file-whole, file-cut, needs)
+pub ruleset file-cases = (walked-inputs, file-whole, file-cut, rules)

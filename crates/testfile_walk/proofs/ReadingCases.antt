@@ -1,6 +1,6 @@
 -- The walk over a file that is read piece by piece: its start, one piece more, its ends.
 use Rattle.model.proofs.Prelude.{ℕ, ◌≤◌, ◌<◌, ◌+◌, ◌*◌, ◌%◌, ◌≡◌, ◌∙◌, ap, refl, sym, ap₂, Bool, List, [], ◌++◌, length, drop, take, length-take-le}
-use Rattle.model.proofs.Prelude.{zero-add, arith, needs}
+use Rattle.model.proofs.Prelude.{zero-add, arith, rules}
 use Rattle.model.specs.Base.{Answer, value}
 use Rattle.model.specs.Netlist.{Netlist}
 use Rattle.model.specs.Detect.{Class}
@@ -137,4 +137,4 @@ module _ (netlist : List ℕ) (loaded : Loaded) (class : ℕ) (full most : ℕ) 
   pub reading_long : full ≤ most → full ≤ length space
   reading_long h = omega (arith, h, g.read.space_length)
 
-pub ruleset walk-cases = (ready-inputs, reading_is, reading_long, reading_start, reading_next, reading_last, reading_over, needs)
+pub ruleset walk-cases = (ready-inputs, reading_is, reading_long, reading_start, reading_next, reading_last, reading_over, rules)

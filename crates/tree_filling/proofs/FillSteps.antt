@@ -1,6 +1,6 @@
 -- A tree filled run by run: after each step its leaves are the runs so far, and no word past the tree's is written.
 use Rattle.model.proofs.Prelude.{ℕ, ◌≤◌, ◌<◌, ◌+◌, ◌-◌, ◌*◌, suc, ◌^◌, zero, ◌/◌, ◌≡◌, ◌∙◌, ap, refl, sym, subst, List, [], ◌∷◌, ◌++◌, length, get_or}
-use Rattle.model.proofs.Prelude.{drop, length-drop, get_or-drop, add-one, arith, needs}
+use Rattle.model.proofs.Prelude.{drop, length-drop, get_or-drop, add-one, arith, rules}
 use Rattle.model.specs.Base.{value}
 use Rattle.model.specs.Runs.{Run}
 use Rattle.model.proofs.AnswerLaws.{value_inj, not_refused}
@@ -119,4 +119,4 @@ fill_done part ws ws₁ ws' n i f e en g h =
       refusal = λ k q. absurd (not_refused (sym q));
     }
 
-pub ruleset fill-cases = (fill_start, fill_inserts, fill_next, fill_done, needs)
+pub ruleset fill-cases = (fill_start, fill_inserts, fill_next, fill_done, rules)

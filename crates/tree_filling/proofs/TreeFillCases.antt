@@ -1,5 +1,5 @@
 -- The cases of filling the trees of a store: lent memory, the netlist and the store's words are refused in this order, then both are filled.
-use Rattle.model.proofs.Prelude.{ℕ, ◌≤◌, ◌<◌, ◌^◌, ◌/◌, ◌≡◌, ◌∙◌, ap, refl, sym, subst, List, [], ◌∷◌, length, leb→le, eqb→eq, arith, needs, le-leb}
+use Rattle.model.proofs.Prelude.{ℕ, ◌≤◌, ◌<◌, ◌^◌, ◌/◌, ◌≡◌, ◌∙◌, ap, refl, sym, subst, List, [], ◌∷◌, length, leb→le, eqb→eq, arith, rules, le-leb}
 use Rattle.model.proofs.Prelude.{lt-leb, ne_eqb, eq-eqb}
 use Rattle.model.specs.Base.{Answer, refused, value, ◌into◌, ◌then◌, Rule, checks}
 use Rattle.model.specs.Netlist.{Netlist, path_total}
@@ -101,7 +101,7 @@ module _ (paths : ℕ) (store : List ℕ) (l : length store ≡ store_words_coun
         → FilledBy (fill_on paths store) (fill.Filled paths) store up up' down down'
     both-filled qu hu qd hd = record { answer = sym taken; on_rising = leaves rising qu hu; on_falling = leaves falling qd hd }
 
-pub ruleset both-cases = (both-refused, few_words, rising-fillable, falling-fillable, both-filled, needs)
+pub ruleset both-cases = (both-refused, few_words, rising-fillable, falling-fillable, both-filled, rules)
 
 -- ---- the call
 
@@ -141,7 +141,7 @@ module _ (netlist store up down : List ℕ) where
             ap (λ (n : ℕ). fill_on n store) s.total_is ∙ sym (passed ∙ rw s.is_read refl) in
             subst (λ (x : Answer ℕ). FilledBy x a store up up' down down') call f
 
-pub ruleset trees-cases = (trees-store, trees-up, trees-down, trees-netlist, paths-fit, trees-legal, needs)
+pub ruleset trees-cases = (trees-store, trees-up, trees-down, trees-netlist, paths-fit, trees-legal, rules)
 
 -- ---- trees that were filled can be asked
 

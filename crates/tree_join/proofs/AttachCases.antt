@@ -1,5 +1,5 @@
 -- Cases of `attach_last` and `attach_first`: the children that are kept, and the new ones beside them.
-use Rattle.model.proofs.Prelude.{ℕ, ◌≤◌, ◌+◌, suc, ◌≡◌, ◌∙◌, refl, sym, List, ◌++◌, append_assoc, append-nil, length, arith, needs, ne_eqb, eq-eqb}
+use Rattle.model.proofs.Prelude.{ℕ, ◌≤◌, ◌+◌, suc, ◌≡◌, ◌∙◌, refl, sym, List, ◌++◌, append_assoc, append-nil, length, arith, rules, ne_eqb, eq-eqb}
 use Rattle.model.specs.Runs.{Run}
 use Rattle.tree_words.specs.TreeLayout.{child1, child2, child3, leaves_at}
 use Rattle.tree_words.specs.Nodes.{Good, good-two, good-three, last_child_of}
@@ -138,4 +138,4 @@ module _ (ws : List ℕ) (start free h at a b : ℕ) (n : AttachFirst ws start f
           → Grows ws ws' start free (suc h) 16 (child3 ws at) (leaves_at ws h a ++ (leaves_or ws h b ++ back_leaves ws h at)) g
       first-both-gives ws' g r = slimmer ws ws' start free (suc h) z (child3 ws at) g (λ e. ez ∙ e) (rw row-both at r)
 
-pub ruleset attach-cases = (last_word, last-two-asks, last-two-gives, last-three-asks, last-three-gives, first-word, first-one-asks, first-one-gives, first-both-asks, first-both-gives, needs)
+pub ruleset attach-cases = (last_word, last-two-asks, last-two-gives, last-three-asks, last-three-gives, first-word, first-one-asks, first-one-gives, first-both-asks, first-both-gives, rules)

@@ -1,5 +1,5 @@
 -- Cases of `group`: two, three and four neighbours.
-use Rattle.model.proofs.Prelude.{ℕ, ◌≤◌, ◌+◌, suc, ◌^◌, ◌≡◌, ◌∙◌, ap, refl, sym, ap₂, List, [], ◌++◌, append_assoc, append-nil, length, arith, needs}
+use Rattle.model.proofs.Prelude.{ℕ, ◌≤◌, ◌+◌, suc, ◌^◌, ◌≡◌, ◌∙◌, ap, refl, sym, ap₂, List, [], ◌++◌, append_assoc, append-nil, length, arith, rules}
 use Rattle.model.proofs.Prelude.{ne_eqb, eq-eqb}
 use Rattle.model.specs.Runs.{Run, size, Separated}
 use Rattle.run_lists.proofs.MemberLaws.{size-le}
@@ -191,4 +191,4 @@ module _ (ws : List ℕ) (start free h a b c d : ℕ) (room : Room ws start free
             thin = λ z. absurd (someD z);
           })
 
-pub ruleset group-cases = (two_fits, end-a, end-b, two-total, group_two, end-c, three-total, group_three, four-total, four-room, four-c, four-d, group_four, needs)
+pub ruleset group-cases = (two_fits, end-a, end-b, two-total, group_two, end-c, three-total, group_three, four-total, four-room, four-c, four-d, group_four, rules)

@@ -1,6 +1,6 @@
 -- Cases of `join_right` and `join_left`: the lower tree is joined to the last or the first child, and what that makes replaces the child.
 use Rattle.model.proofs.Prelude.{ℕ, ◌≤◌, ◌<◌, ◌+◌, ◌-◌, ◌*◌, suc, ◌^◌, ◌≡◌, ◌∙◌, ap, refl, sym, subst, ap₂, ⊎_elim, inl, inr, ◌⊎◌, List, ◌++◌}
-use Rattle.model.proofs.Prelude.{append_assoc, length, arith, needs, lt-ltb, le-ltb}
+use Rattle.model.proofs.Prelude.{append_assoc, length, arith, rules, lt-ltb, le-ltb}
 use Rattle.model.specs.Runs.{Run}
 use Rattle.model.proofs.BoolLaws.{le_or_lt}
 use Rattle.run_lists.proofs.RunCutLaws.{sound-left}
@@ -225,5 +225,5 @@ pub ruleset join-cases = (
   left-room,
   left-attach,
   left-gives,
-  needs,
+  rules,
 )

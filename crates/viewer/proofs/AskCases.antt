@@ -1,6 +1,6 @@
 -- The cases of a question: the range of the fault, then whether its path is the viewer's, then the search.
 use Rattle.model.proofs.Prelude.{ℕ, ◌≤◌, ◌<◌, ◌-◌, ◌*◌, ◌^◌, ◌≡◌, ◌∙◌, ap, refl, sym, subst, ap₂, true, Bool, false, not, and-false, List, leb, arith}
-use Rattle.model.proofs.Prelude.{needs, le-leb, lt-leb, not-true, not-false}
+use Rattle.model.proofs.Prelude.{rules, le-leb, lt-leb, not-true, not-false}
 use Rattle.model.specs.Base.{refused, value}
 use Rattle.model.specs.Path.{Edge, edge_of_fault, path_of_fault}
 use Rattle.model.specs.Runs.{Run, in_runs}
@@ -48,4 +48,4 @@ module _ (st : List ℕ) (n : ℕ) where
         → value v ≡ asked_on (in_runs (runs_in_words st 0 n)) ws paths fault
     ask-own e d de b be v bv = ap value (sym bv) ∙ found (in_runs (runs_in_words st 0 n)) ws paths fault low high i is (own_is ∙ not-false own e) d de b be
 
-pub ruleset ask-cases = (ask-low, ask-high, all_sound, ask-foreign, ask-own, needs)
+pub ruleset ask-cases = (ask-low, ask-high, all_sound, ask-foreign, ask-own, rules)

@@ -1,6 +1,6 @@
 -- The cases of the answers to a viewer: what looking refuses, the numbers of the runs that he sees, these runs written, the question for one fault.
 use Rattle.model.proofs.Prelude.{ℕ, ◌≤◌, ◌<◌, ◌*◌, ◌^◌, ◌≡◌, ◌∙◌, ap, refl, sym, ap₂, ⊎_elim, true, Bool, false, ◌&&◌, and-false, List, [], ◌∷◌}
-use Rattle.model.proofs.Prelude.{length, leb, leb→le, arith, needs, le-leb, lt-leb, ne_eqb, eq-eqb}
+use Rattle.model.proofs.Prelude.{length, leb, leb→le, arith, rules, le-leb, lt-leb, ne_eqb, eq-eqb}
 use Rattle.model.specs.Base.{Answer, refused, value, ◌then◌, checks, passes}
 use Rattle.model.specs.Netlist.{Netlist, path_total}
 use Rattle.model.specs.Path.{rising, falling, edge_of_fault, path_of_fault}
@@ -172,5 +172,5 @@ pub ruleset view-cases = (
   rising-over,
   falling-over,
   view-written,
-  needs,
+  rules,
 )

@@ -1,5 +1,5 @@
 -- The cases of looking: the netlist, the store's words and the places are refused in this order, then the ranges are made.
-use Rattle.model.proofs.Prelude.{ℕ, ◌≤◌, ◌^◌, ◌≡◌, ◌∙◌, ap, refl, sym, true, Bool, false, not, List, [], ◌∷◌, length, arith, needs, not-true}
+use Rattle.model.proofs.Prelude.{ℕ, ◌≤◌, ◌^◌, ◌≡◌, ◌∙◌, ap, refl, sym, true, Bool, false, not, List, [], ◌∷◌, length, arith, rules, not-true}
 use Rattle.model.proofs.Prelude.{not-false}
 use Rattle.model.specs.Base.{Answer, refused, value, ◌then◌, checks}
 use Rattle.model.specs.Netlist.{Netlist, path_total}
@@ -91,4 +91,4 @@ module _ (file cs ps : List ℕ) (a : LoadAnswer) (la : LoadTrue a file cs ps) (
       let is : LegalLoad file cs ps shape total = rw e at la in
       record { circuit = is.circuit; positions = ps; tables = is.tables; total_is = is.total_is; long = l }
 
-pub ruleset look-cases = (zeros-are, open_fits, open_long, look_store, look_places, look_viewable, look_seen, look_netlist, look_opened, needs)
+pub ruleset look-cases = (zeros-are, open_fits, open_long, look_store, look_places, look_viewable, look_seen, look_netlist, look_opened, rules)

@@ -1,6 +1,6 @@
 -- A line of places, one digit at a time: what is left of it, after the number so far, decides.
 use Rattle.model.proofs.Prelude.{ℕ, ◌≤◌, ◌<◌, ◌+◌, ◌-◌, ◌*◌, ◌≡◌, ◌∙◌, ap, refl, sym, true, false, ◌&&◌, and-false, List, [], ◌∷◌, length, get_or, drop}
-use Rattle.model.proofs.Prelude.{drop_of_length-le, leb, arith, needs, le-leb, lt-leb}
+use Rattle.model.proofs.Prelude.{drop_of_length-le, leb, arith, rules, le-leb, lt-leb}
 use Rattle.model.specs.Base.{all_of}
 use Rattle.bench_lines.proofs.BytePartLaws.{drop-next}
 use Rattle.viewer_place_lines.specs.Places.{is_digit_of, number_from, number_of, is_place_line}
@@ -77,4 +77,4 @@ module _ (bytes : List ℕ) where
           number = sym is;
         }
 
-pub ruleset place-cases = (none-there, number-start, number-few, digit_low, digit-high, number-over, number-again, number-there, needs)
+pub ruleset place-cases = (none-there, number-start, number-few, digit_low, digit-high, number-over, number-again, number-there, rules)

@@ -1,6 +1,6 @@
 -- The list of a text's places, one line at a time: the lines that are left, after the places so far, give the whole.
 use Rattle.model.proofs.Prelude.{ℕ, ◌≤◌, ◌<◌, ◌+◌, suc, ◌≡◌, ◌∙◌, ap, refl, sym, ap₂, ⊎_elim, true, false, List, [], ◌∷◌, ◌++◌, length, drop, take}
-use Rattle.model.proofs.Prelude.{length-append, set, length-set, drop_of_length-le, length-take-le, take_all, add-one, arith, needs}
+use Rattle.model.proofs.Prelude.{length-append, set, length-set, drop_of_length-le, length-take-le, take_all, add-one, arith, rules}
 use lib.Seq.{take-append-le, take-suc-set}
 use Rattle.io.specs.Counts.{IsPrefixLen}
 use Rattle.model.proofs.BoolLaws.{le_or_lt}
@@ -33,7 +33,7 @@ module _ (l : PlaceList) (place : ℕ) (fits : ListFits l) where
       let many : length (places_of l) ≡ l.count = length-take-le l.count l.places (omega arith) in
       sym (take-append-le most_kept (places_of l) (place ∷ []) (omega arith) ∙ take_all most_kept (places_of l) (omega arith))
 
-pub ruleset List-cases = (list-longer, longer-fits, list_full, needs)
+pub ruleset List-cases = (list-longer, longer-fits, list_full, rules)
 
 -- one place more of a list of which the first are kept
 keep-more : (ps : List ℕ) (p : ℕ) → take most_kept (take most_kept ps ++ (p ∷ [])) ≡ take most_kept (ps ++ (p ∷ []))
@@ -105,4 +105,4 @@ module _ (text : List ℕ) where
             fits = k.1;
           }
 
-pub ruleset text-cases = (places-start, places-fit, places-counted, places-end, places-bad, places-again, needs)
+pub ruleset text-cases = (places-start, places-fit, places-counted, places-end, places-bad, places-again, rules)

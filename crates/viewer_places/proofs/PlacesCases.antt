@@ -1,6 +1,6 @@
 -- The cases of judging a list of places: the places that are left, with the least that the next may be, are judged as the whole list is.
 use Rattle.model.proofs.Prelude.{ℕ, ◌≤◌, ◌<◌, ◌+◌, suc, ◌≡◌, ◌∙◌, ap, refl, sym, true, false, List, [], ◌∷◌, length, get_or, drop, drop_of_length-le}
-use Rattle.model.proofs.Prelude.{drop-cons, add-one, arith, needs, le-leb, lt-leb, lt-ltb, le-ltb}
+use Rattle.model.proofs.Prelude.{drop-cons, add-one, arith, rules, le-leb, lt-leb, lt-ltb, le-ltb}
 use Rattle.viewer_places.specs.Viewer.{ascending_places, places_fit_of}
 
 pub record Judged (n : ℕ) (places : List ℕ) (i least : ℕ) : Type 0 where
@@ -46,4 +46,4 @@ module _ {n : ℕ} {places : List ℕ} where
           left = rw (add-one i, add-one v) (sym (next ∙ rw (le-leb least v l, lt-ltb v n m) refl) ∙ j.left);
         }
 
-pub ruleset places-cases = (none-fit, judged-start, judged-end, judged-low, judged-high, judged-next, needs)
+pub ruleset places-cases = (none-fit, judged-start, judged-end, judged-low, judged-high, judged-next, rules)

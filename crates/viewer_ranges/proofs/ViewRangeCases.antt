@@ -1,6 +1,6 @@
 -- The cases of making a viewer's ranges: what is added so far, with the ranges of the places that are left, is the whole.
 use Rattle.model.proofs.Prelude.{ℕ, ◌≤◌, ◌<◌, ◌+◌, ◌-◌, ◌*◌, suc, ◌^◌, ◌≡◌, ◌∙◌, ap, refl, sym, subst, ap₂, List, [], ◌∷◌, ◌++◌, length, get_or, drop}
-use Rattle.model.proofs.Prelude.{drop_of_length-le, drop-cons, leb, T, ltb, ltb→lt, add-one, arith, needs}
+use Rattle.model.proofs.Prelude.{drop_of_length-le, drop-cons, leb, T, ltb, ltb→lt, add-one, arith, rules}
 use Rattle.model.specs.Base.{value, sum_of}
 use Rattle.model.specs.Netlist.{Netlist, output_counts, path_total}
 use Rattle.model.specs.Path.{counts_before}
@@ -43,7 +43,7 @@ module _ (ws : List ℕ) (n : ℕ) (room : Room ws 0 n most_places) {b l : ℕ} 
       subst (λ (s : List Run). Adds ws ws' 0 most_places (add_runs (runs_in_words ws 0 n) s) r)
       (ap₂ (λ (x y : ℕ). run (x + 1) y ∷ []) eb el ∙ sym (range-some b l (omega arith))) d
 
-pub ruleset range-cases = (records-fewer, sum-fewer, nothing-added, range-added, needs)
+pub ruleset range-cases = (records-fewer, sum-fewer, nothing-added, range-added, rules)
 
 -- All ranges
 module _ {file cs : List ℕ} {shape : Shape} {places : List ℕ} (k : Viewable file cs shape places) where
@@ -196,5 +196,5 @@ pub ruleset view-cases = (
   full_runs,
   full-few,
   viewing_next,
-  needs,
+  rules,
 )

@@ -1,5 +1,5 @@
 -- The cases of a store's runs cut to ranges: the words of an edge's runs are two for each, and what the lists have in common is sound as they are.
-use Rattle.model.proofs.Prelude.{ℕ, ◌≤◌, ◌+◌, ◌-◌, ◌*◌, ◌^◌, ◌/◌, max, ◌≡◌, ◌∙◌, ap, sym, subst, List, length, arith, needs}
+use Rattle.model.proofs.Prelude.{ℕ, ◌≤◌, ◌+◌, ◌-◌, ◌*◌, ◌^◌, ◌/◌, max, ◌≡◌, ◌∙◌, ap, sym, subst, List, length, arith, rules}
 use Rattle.model.specs.Path.{Edge}
 use Rattle.model.specs.Runs.{Run, size}
 use Rattle.model.specs.Store.{max_runs, run_count, store_runs}
@@ -42,4 +42,4 @@ module _ {ws : List ℕ} (s : SoundWords (2 ^ 62) ws) (e : Edge) (a : List Run) 
   pub made-size : {n : ℕ} → n ≡ size (runs_in_words words 0 (r - 0)) → n ≡ size (meets a (store_runs ws e))
   made-size p = p ∙ ap size none
 
-pub ruleset seen-cases = (half-inside, half_room, half-few, half_runs, made-sound, made-size, needs)
+pub ruleset seen-cases = (half-inside, half_room, half-few, half_runs, made-sound, made-size, rules)

@@ -1,5 +1,5 @@
 -- `ask::answer_store` is safe: trees that were filled can be asked.
-use Rattle.model.proofs.Prelude.{arith, needs}
+use Rattle.model.proofs.Prelude.{arith, rules}
 use Rattle.tree_filling.proofs.TreeFillCases.{trees-ready}
 use Rattle.ask.proofs.answer_store.Statement.{statement}
 use Rattle.ask.proofs.answer_store.Tie as tie
@@ -17,8 +17,8 @@ pub answer_store_spec : {M : Type 1} → statement M
 answer_store_spec =
     tie.close
     (tie.spec
-    (λ c κs. search needs) (λ c κs. search needs) (λ c. search needs) (λ c. search needs) (λ c κs. search needs)
-    (λ c. search needs) (λ c κs. search needs) (λ c. search needs) (λ c κs. search needs) (λ c κs. search needs)
-    (λ c. search needs) (λ c. search needs) (λ c. search needs) (λ c. search needs)
+    (λ c κs. search rules) (λ c κs. search rules) (λ c. search rules) (λ c. search rules) (λ c κs. search rules)
+    (λ c. search rules) (λ c κs. search rules) (λ c. search rules) (λ c κs. search rules) (λ c κs. search rules)
+    (λ c. search rules) (λ c. search rules) (λ c. search rules) (λ c. search rules)
     answer-input-requires
-    (λ c. search needs) (λ c. search needs))
+    (λ c. search rules) (λ c. search rules))

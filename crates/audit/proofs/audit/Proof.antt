@@ -1,5 +1,5 @@
 -- `audit::audit` meets its contract: each return is one case of the audit.
-use Rattle.model.proofs.Prelude.{needs}
+use Rattle.model.proofs.Prelude.{rules}
 use Rattle.audit.proofs.AuditCases.{audit-cases}
 use Rattle.audit.proofs.audit.Statement.{statement}
 use Rattle.audit.proofs.audit.Tie as tie
@@ -10,11 +10,11 @@ audit_spec =
     (tie.spec
     (λ c. search audit-cases)
     (λ c. search audit-cases)
-    (λ c κs. search needs) (λ c κs. search needs) (λ c. search needs) (λ c. search needs) (λ c κs. search needs)
-    (λ c. search needs)
+    (λ c κs. search rules) (λ c κs. search rules) (λ c. search rules) (λ c. search rules) (λ c κs. search rules)
+    (λ c. search rules)
     (λ c. search audit-cases)
     (λ c κs. search audit-cases)
-    (λ c. search needs)
+    (λ c. search rules)
     (λ c. search audit-cases)
-    (λ c. search needs) (λ c. search needs)
+    (λ c. search rules) (λ c. search rules)
     (λ c. search audit-cases))

@@ -1,5 +1,5 @@
 -- `audit_pieces::audit_piece` meets its contract: each return is one case of a piece.
-use Rattle.model.proofs.Prelude.{needs}
+use Rattle.model.proofs.Prelude.{rules}
 use Rattle.audit_pieces.proofs.PieceCases.{call-piece-cases}
 use Rattle.audit_pieces.proofs.audit_piece.Statement.{statement}
 use Rattle.audit_pieces.proofs.audit_piece.Tie as tie
@@ -10,11 +10,11 @@ audit_piece_spec =
     (tie.spec
     (λ c. search call-piece-cases)
     (λ c. search call-piece-cases)
-    (λ c κs. search needs) (λ c. search needs) (λ c κs. search needs) (λ c. search needs) (λ c κs. search needs)
-    (λ c κs. search needs) (λ c. search needs)
+    (λ c κs. search rules) (λ c. search rules) (λ c κs. search rules) (λ c. search rules) (λ c κs. search rules)
+    (λ c κs. search rules) (λ c. search rules)
     (λ c. search call-piece-cases)
     (λ c κs. search call-piece-cases)
-    (λ c. search needs)
+    (λ c. search rules)
     (λ c. search call-piece-cases)
-    (λ c. search needs) (λ c. search needs)
+    (λ c. search rules) (λ c. search rules)
     (λ c. search call-piece-cases))

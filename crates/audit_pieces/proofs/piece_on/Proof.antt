@@ -1,5 +1,5 @@
 -- `audit_pieces::piece_on` meets its contract: each return is one case of a piece on a legal netlist.
-use Rattle.model.proofs.Prelude.{needs}
+use Rattle.model.proofs.Prelude.{rules}
 use Rattle.audit_pieces.proofs.PieceCases.{on-cases}
 use Rattle.audit_pieces.proofs.piece_on.Statement.{statement}
 use Rattle.audit_pieces.proofs.piece_on.Tie as tie
@@ -14,12 +14,12 @@ pub piece_on_spec : {M : Type 1} → statement M
 piece_on_spec =
     tie.close
     (tie.spec
-    (λ c κs. (search needs, search on-cases))
-    (λ c. search needs) (λ c κs. search needs) (λ c. search needs)
-    (λ c κs. (search on-cases, search needs))
-    (λ c. search needs) (λ c. search needs) (λ c. search needs)
+    (λ c κs. (search rules, search on-cases))
+    (λ c. search rules) (λ c κs. search rules) (λ c. search rules)
+    (λ c κs. (search on-cases, search rules))
+    (λ c. search rules) (λ c. search rules) (λ c. search rules)
     (λ c. search on-cases)
-    (λ c. search needs) (λ c. search needs)
+    (λ c. search rules) (λ c. search rules)
     returns-2
-    (λ c. search needs) (λ c. search needs)
+    (λ c. search rules) (λ c. search rules)
     returns-3)

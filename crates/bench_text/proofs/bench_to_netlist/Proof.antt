@@ -1,5 +1,5 @@
 -- `bench_text::bench_to_netlist` meets its contract: the buffer first.
-use Rattle.model.proofs.Prelude.{needs}
+use Rattle.model.proofs.Prelude.{rules}
 use Rattle.bench_text.proofs.ConvertCases.{buffer-short}
 use Rattle.bench_text.proofs.bench_to_netlist.Statement.{statement}
 use Rattle.bench_text.proofs.bench_to_netlist.Tie as tie
@@ -8,6 +8,6 @@ pub bench_to_netlist_spec : {M : Type 1} → statement M
 bench_to_netlist_spec =
     tie.close
     (tie.spec
-    (λ c. search (buffer-short, needs))
-    (λ c. search needs) (λ c. search needs) (λ c. search needs) (λ c κs. search needs) (λ c. search needs)
-    (λ c. search needs))
+    (λ c. search (buffer-short, rules))
+    (λ c. search rules) (λ c. search rules) (λ c. search rules) (λ c κs. search rules) (λ c. search rules)
+    (λ c. search rules))

@@ -1,5 +1,5 @@
 -- `c_calls::bench_code` meets its contract.
-use Rattle.model.proofs.Prelude.{needs}
+use Rattle.model.proofs.Prelude.{rules}
 use Rattle.c_calls.proofs.AnswerCases.{bench-cases}
 use Rattle.c_calls.proofs.bench_code.Statement.{statement}
 use Rattle.c_calls.proofs.bench_code.Tie as tie
@@ -8,6 +8,6 @@ pub bench_code_spec : {M : Type 1} → statement M
 bench_code_spec =
     tie.close
     (tie.spec
-    (λ c. search needs) (λ c κs. search needs) (λ c. search needs) (λ c κs. search needs)
+    (λ c. search rules) (λ c κs. search rules) (λ c. search rules) (λ c κs. search rules)
     (λ c. search bench-cases)
     (λ c. search bench-cases))

@@ -1,5 +1,5 @@
 -- `c_calls::load_code` meets its contract.
-use Rattle.model.proofs.Prelude.{needs}
+use Rattle.model.proofs.Prelude.{rules}
 use Rattle.c_calls.proofs.AnswerCases.{load-cases}
 use Rattle.c_calls.proofs.load_code.Statement.{statement}
 use Rattle.c_calls.proofs.load_code.Tie as tie
@@ -8,7 +8,7 @@ pub load_code_spec : {M : Type 1} → statement M
 load_code_spec =
     tie.close
     (tie.spec
-    (λ c. search needs) (λ c κs. search needs) (λ c. search needs) (λ c. search needs) (λ c. search needs)
-    (λ c. search needs)
+    (λ c. search rules) (λ c κs. search rules) (λ c. search rules) (λ c. search rules) (λ c. search rules)
+    (λ c. search rules)
     (λ c. search load-cases)
     (λ c. search load-cases))

@@ -1,5 +1,5 @@
 -- `c_store::totals_code` meets its contract.
-use Rattle.model.proofs.Prelude.{needs}
+use Rattle.model.proofs.Prelude.{rules}
 use Rattle.c_store.proofs.StoreAnswerCases.{totals-cases}
 use Rattle.c_store.proofs.totals_code.Statement.{statement}
 use Rattle.c_store.proofs.totals_code.Tie as tie
@@ -14,6 +14,6 @@ pub totals_code_spec : {M : Type 1} → statement M
 totals_code_spec =
     tie.close
     (tie.spec
-    (λ c. search needs) (λ c κs. search needs) (λ c. search needs) (λ c. search needs) (λ c. search needs)
+    (λ c. search rules) (λ c κs. search rules) (λ c. search rules) (λ c. search rules) (λ c. search rules)
     returns
     returns-2)

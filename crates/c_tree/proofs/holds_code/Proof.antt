@@ -1,5 +1,5 @@
 -- `c_tree::holds_code` meets its contract.
-use Rattle.model.proofs.Prelude.{needs}
+use Rattle.model.proofs.Prelude.{rules}
 use Rattle.c_tree.proofs.TreeAnswerCases.{holds-cases}
 use Rattle.c_tree.proofs.holds_code.Statement.{statement}
 use Rattle.c_tree.proofs.holds_code.Tie as tie
@@ -11,8 +11,8 @@ pub holds_code_spec : {M : Type 1} → statement M
 holds_code_spec =
     tie.close
     (tie.spec
-    (λ c. search needs) (λ c κs. search needs) (λ c. search needs) (λ c κs. search needs) (λ c. search needs)
-    (λ c κs. search needs)
+    (λ c. search rules) (λ c κs. search rules) (λ c. search rules) (λ c κs. search rules) (λ c. search rules)
+    (λ c κs. search rules)
     (λ c. search holds-cases)
     returns-2
     (λ c. search holds-cases))

@@ -1,5 +1,5 @@
 -- `exhaust::apply_pairs` meets its contract: the tables of the netlist are made, then all pairs applied on them.
-use Rattle.model.proofs.Prelude.{refl, needs}
+use Rattle.model.proofs.Prelude.{refl, rules}
 use Rattle.exhaust.proofs.ExhaustCases.{pairs-tables, pairs-blocks, pairs-sound, pairs-refused, pairs-taken}
 use Rattle.exhaust.proofs.apply_pairs.Statement.{statement}
 use Rattle.exhaust.proofs.apply_pairs.Tie as tie
@@ -16,7 +16,7 @@ apply-all-pairs-requires c κs =
     pairs-blocks _ _ _ _ start.requires.0 start.requires.1 tables.fill-tables.ensures refl refl
 
 enum_told : tie.Need-enum-told
-enum_told c = search needs
+enum_told c = search rules
 
 totals-of-requires : tie.Need-totals-of-requires
 totals-of-requires c κs =
@@ -44,12 +44,12 @@ apply_pairs_spec =
     tie.close
     (tie.spec
     fill-tables-requires
-    (λ c. search needs) (λ c. search needs)
+    (λ c. search rules) (λ c. search rules)
     apply-all-pairs-requires
-    (λ c. search needs)
+    (λ c. search rules)
     enum_told
     totals-of-requires
-    (λ c. search needs) (λ c. search needs)
+    (λ c. search rules) (λ c. search rules)
     returns
-    (λ c. search needs) (λ c. search needs)
+    (λ c. search rules) (λ c. search rules)
     returns-2)

@@ -1,5 +1,5 @@
 -- `exhaust::exhaust` meets its contract: each return is one case of the call.
-use Rattle.model.proofs.Prelude.{needs}
+use Rattle.model.proofs.Prelude.{rules}
 use Rattle.exhaust.proofs.ExhaustCases.{exhaust-cases}
 use Rattle.exhaust.proofs.exhaust.Statement.{statement}
 use Rattle.exhaust.proofs.exhaust.Tie as tie
@@ -19,11 +19,11 @@ exhaust_spec =
     (tie.spec
     (λ c. search exhaust-cases)
     (λ c. search exhaust-cases)
-    (λ c κs. search needs) (λ c. search needs) (λ c. search needs) (λ c κs. search needs)
+    (λ c κs. search rules) (λ c. search rules) (λ c. search rules) (λ c κs. search rules)
     (λ c. search exhaust-cases)
     returns-4
-    (λ c κs. search needs)
+    (λ c κs. search rules)
     apply-pairs-requires
     (λ c. search exhaust-cases)
-    (λ c. search needs) (λ c. search needs)
+    (λ c. search rules) (λ c. search rules)
     returns-6)

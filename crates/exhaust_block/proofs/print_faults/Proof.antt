@@ -1,5 +1,5 @@
 -- `exhaust_block::print_faults` is safe and ends: one fault less is left each time.
-use Rattle.model.proofs.Prelude.{◌≤◌, ◌-◌, length, needs}
+use Rattle.model.proofs.Prelude.{◌≤◌, ◌-◌, length, rules}
 use Rattle.exhaust_block.proofs.print_faults.Statement.{statement}
 use Rattle.exhaust_block.proofs.print_faults.Tie as tie
 
@@ -15,5 +15,5 @@ print_faults_spec =
     (tie.spec
     invariant-loop
     decreases-loop
-    (λ c. search needs) (λ c. search needs) (λ c. search needs) (λ c κs. search needs) (λ c. search needs)
-    (λ c. search needs) (λ c. search needs) (λ c. search needs))
+    (λ c. search rules) (λ c. search rules) (λ c. search rules) (λ c κs. search rules) (λ c. search rules)
+    (λ c. search rules) (λ c. search rules) (λ c. search rules))

@@ -1,5 +1,5 @@
 -- `exhaust_undetected_text::count_line` meets its contract: a word and the number.
-use Rattle.model.proofs.Prelude.{◌∙◌, needs}
+use Rattle.model.proofs.Prelude.{◌∙◌, rules}
 use Rattle.exhaust_undetected_text.specs.UndetectedText.{count_text}
 use Rattle.exhaust_undetected_text.proofs.UndetectedLineCases.{count-short}
 use Rattle.text_line.proofs.LineLaws.{first_part, then-part, on_line-alone}
@@ -18,5 +18,5 @@ pub count_line_spec : {M : Type 1} → statement M
 count_line_spec =
     tie.close
     (tie.spec
-    (λ c κs. search needs) (λ c. search needs) (λ c κs. search needs) (λ c κs. search needs)
+    (λ c κs. search rules) (λ c. search rules) (λ c κs. search rules) (λ c κs. search rules)
     returns)

@@ -1,5 +1,5 @@
 -- `exhaust_undetected_text::fault_line` meets its contract: the parts one after the other, and the line holds them all.
-use Rattle.model.proofs.Prelude.{◌∙◌, needs}
+use Rattle.model.proofs.Prelude.{◌∙◌, rules}
 use Rattle.exhaust_undetected_text.specs.UndetectedText.{fault_text}
 use Rattle.exhaust_undetected_text.proofs.UndetectedLineCases.{fault-short, fault-parts}
 use Rattle.text_line.proofs.LineLaws.{first_part, then-part, as_part, on_line-alone}
@@ -30,7 +30,7 @@ pub fault_line_spec : {M : Type 1} → statement M
 fault_line_spec =
     tie.close
     (tie.spec
-    (λ c κs. search needs) (λ c. search needs) (λ c κs. search needs) (λ c κs. search needs) (λ c. search needs)
-    (λ c κs. search needs) (λ c κs. search needs) (λ c κs. search needs) (λ c κs. search needs) (λ c. search needs)
-    (λ c κs. search needs) (λ c κs. search needs)
+    (λ c κs. search rules) (λ c. search rules) (λ c κs. search rules) (λ c κs. search rules) (λ c. search rules)
+    (λ c κs. search rules) (λ c κs. search rules) (λ c κs. search rules) (λ c κs. search rules) (λ c. search rules)
+    (λ c κs. search rules) (λ c κs. search rules)
     returns)

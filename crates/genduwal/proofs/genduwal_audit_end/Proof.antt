@@ -1,11 +1,11 @@
 -- `genduwal::genduwal_audit_end` meets its contract.
-use Rattle.model.proofs.Prelude.{needs}
+use Rattle.model.proofs.Prelude.{rules}
 use Rattle.genduwal.proofs.CallCases.{end_refused, end-accepted}
 use Rattle.genduwal.proofs.genduwal_audit_end.Statement.{statement}
 use Rattle.genduwal.proofs.genduwal_audit_end.Tie as tie
 
 enum_told : tie.Need-enum-told
-enum_told c = search needs
+enum_told c = search rules
 
 returns : tie.Need-returns
 returns c =
@@ -21,9 +21,9 @@ pub genduwal_audit_end_spec : {M : Type 1} → statement M
 genduwal_audit_end_spec =
     tie.close
     (tie.spec
-    (λ c κs. search needs) (λ c. search needs)
+    (λ c κs. search rules) (λ c. search rules)
     enum_told
-    (λ c. search needs)
+    (λ c. search rules)
     returns
-    (λ c. search needs)
+    (λ c. search rules)
     returns-2)

@@ -1,5 +1,5 @@
 -- `genduwal::genduwal_audit_piece` meets its contract: code and words are those of the answer of the call beneath.
-use Rattle.model.proofs.Prelude.{ap, needs}
+use Rattle.model.proofs.Prelude.{ap, rules}
 use Rattle.c_calls.specs.Answers.{all_taken}
 use Rattle.c_answer_words.proofs.CodeLaws.{answered-by}
 use Rattle.genduwal.proofs.genduwal_audit_piece.Statement.{statement}
@@ -12,4 +12,4 @@ returns c =
 
 pub genduwal_audit_piece_spec : {M : Type 1} → statement M
 genduwal_audit_piece_spec =
-    tie.close (tie.spec (λ c κs. search needs) (λ c κs. search needs) (λ c. search needs) (λ c. search needs) returns)
+    tie.close (tie.spec (λ c κs. search rules) (λ c κs. search rules) (λ c. search rules) (λ c. search rules) returns)

@@ -1,5 +1,5 @@
 -- `genduwal::genduwal_empty` meets its contract: code and words are those of the answer of the call beneath.
-use Rattle.model.proofs.Prelude.{◌∙◌, needs}
+use Rattle.model.proofs.Prelude.{◌∙◌, rules}
 use Rattle.genduwal.proofs.genduwal_empty.Statement.{statement}
 use Rattle.genduwal.proofs.genduwal_empty.Tie as tie
 
@@ -9,4 +9,4 @@ returns c =
     (c.empty_code.ensures ∙ called.answer, called.store)
 
 pub genduwal_empty_spec : {M : Type 1} → statement M
-genduwal_empty_spec = tie.close (tie.spec (λ c κs. search needs) (λ c κs. search needs) (λ c. search needs) returns)
+genduwal_empty_spec = tie.close (tie.spec (λ c κs. search rules) (λ c κs. search rules) (λ c. search rules) returns)

@@ -1,5 +1,5 @@
 -- `genduwal::genduwal_load` meets its contract: code and words are those of the answer of the call beneath.
-use Rattle.model.proofs.Prelude.{needs}
+use Rattle.model.proofs.Prelude.{rules}
 use Rattle.c_answer_words.proofs.CodeLaws.{answered-by}
 use Rattle.genduwal.proofs.genduwal_load.Statement.{statement}
 use Rattle.genduwal.proofs.genduwal_load.Tie as tie
@@ -11,4 +11,4 @@ returns c =
 
 pub genduwal_load_spec : {M : Type 1} → statement M
 genduwal_load_spec =
-    tie.close (tie.spec (λ c κs. search needs) (λ c κs. search needs) (λ c. search needs) returns)
+    tie.close (tie.spec (λ c κs. search rules) (λ c κs. search rules) (λ c. search rules) returns)

@@ -1,5 +1,5 @@
 -- `genduwal::genduwal_number_to_path` meets its contract: code and words are those of the answer of the call beneath.
-use Rattle.model.proofs.Prelude.{◌∙◌, needs}
+use Rattle.model.proofs.Prelude.{◌∙◌, rules}
 use Rattle.genduwal.proofs.genduwal_number_to_path.Statement.{statement}
 use Rattle.genduwal.proofs.genduwal_number_to_path.Tie as tie
 
@@ -10,4 +10,4 @@ returns c =
 
 pub genduwal_number_to_path_spec : {M : Type 1} → statement M
 genduwal_number_to_path_spec =
-    tie.close (tie.spec (λ c κs. search needs) (λ c κs. search needs) (λ c. search needs) returns)
+    tie.close (tie.spec (λ c κs. search rules) (λ c κs. search rules) (λ c. search rules) returns)

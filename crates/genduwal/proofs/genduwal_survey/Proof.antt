@@ -1,5 +1,5 @@
 -- `genduwal::genduwal_survey` meets its contract: code and words are those of the answer of the call beneath.
-use Rattle.model.proofs.Prelude.{needs}
+use Rattle.model.proofs.Prelude.{rules}
 use Rattle.c_answer_words.proofs.CodeLaws.{answered-by}
 use Rattle.genduwal.proofs.CallCases.{survey-is}
 use Rattle.genduwal.proofs.genduwal_survey.Statement.{statement}
@@ -11,4 +11,4 @@ returns c =
     answered-by (survey-is called) c.survey-code.ensures
 
 pub genduwal_survey_spec : {M : Type 1} → statement M
-genduwal_survey_spec = tie.close (tie.spec (λ c κs. search needs) (λ c κs. search needs) returns)
+genduwal_survey_spec = tie.close (tie.spec (λ c κs. search rules) (λ c κs. search rules) returns)

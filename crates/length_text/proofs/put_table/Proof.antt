@@ -1,5 +1,5 @@
 -- `length_text::put_table` meets its contract: the head, a line for each length that has a path, the sums; nothing where the buffer is too short.
-use Rattle.model.proofs.Prelude.{needs}
+use Rattle.model.proofs.Prelude.{rules}
 use Rattle.text_buffer.proofs.WrittenLaws.{no_room}
 use Rattle.length_text.proofs.TableCases.{name-short, table-written, told}
 use Rattle.length_text.proofs.put_table.Statement.{statement}
@@ -9,9 +9,9 @@ pub put_table_spec : {M : Type 1} → statement M
 put_table_spec =
     tie.close
     (tie.spec
-    (λ c. told (search (no_room, needs)))
-    (λ c. search needs) (λ c κs. search needs) (λ c κs. search needs) (λ c κs. search needs) (λ c. search needs)
-    (λ c κs. search needs) (λ c κs. search needs) (λ c κs. search needs) (λ c κs. search needs)
-    (λ c κs. (search needs, search (name-short, needs)))
-    (λ c. search needs)
-    (λ c. told (search (table-written, needs))))
+    (λ c. told (search (no_room, rules)))
+    (λ c. search rules) (λ c κs. search rules) (λ c κs. search rules) (λ c κs. search rules) (λ c. search rules)
+    (λ c κs. search rules) (λ c κs. search rules) (λ c κs. search rules) (λ c κs. search rules)
+    (λ c κs. (search rules, search (name-short, rules)))
+    (λ c. search rules)
+    (λ c. told (search (table-written, rules))))

@@ -1,5 +1,5 @@
 -- `length_untested::longest_on` meets its contract: the rows of the nets and the runs of the edge are handed on.
-use Rattle.model.proofs.Prelude.{needs}
+use Rattle.model.proofs.Prelude.{rules}
 use Rattle.length_untested.proofs.LongestCases.{on-circuit, on-few, on-ready, on-found}
 use Rattle.length_untested.proofs.longest_on.Statement.{statement}
 use Rattle.length_untested.proofs.longest_on.Tie as tie
@@ -12,4 +12,4 @@ returns c =
 
 pub longest_on_spec : {M : Type 1} → statement M
 longest_on_spec =
-    tie.close (tie.spec (λ c κs. search (on-circuit, on-few, on-ready, on-found, needs)) (λ c κs. search needs) (λ c κs. search (on-circuit, on-few, on-ready, on-found, needs)) returns)
+    tie.close (tie.spec (λ c κs. search (on-circuit, on-few, on-ready, on-found, rules)) (λ c κs. search rules) (λ c κs. search (on-circuit, on-few, on-ready, on-found, rules)) returns)

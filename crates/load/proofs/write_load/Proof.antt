@@ -1,5 +1,5 @@
 -- `load::write_load` meets its contract: each return is one case of the load call.
-use Rattle.model.proofs.Prelude.{needs}
+use Rattle.model.proofs.Prelude.{rules}
 use Rattle.load.proofs.LoadCallCases.{load-cases}
 use Rattle.load.proofs.write_load.Statement.{statement}
 use Rattle.load.proofs.write_load.Tie as tie
@@ -9,9 +9,9 @@ write_load_spec =
     tie.close
     (tie.spec
     (λ c. search load-cases)
-    (λ c κs. search needs)
+    (λ c κs. search rules)
     (λ c. search load-cases)
     (λ c κs. search load-cases)
     (λ c κs. search load-cases)
-    (λ c. search needs)
+    (λ c. search rules)
     (λ c. search load-cases))

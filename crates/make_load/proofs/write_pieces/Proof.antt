@@ -1,5 +1,5 @@
 -- `make_load::write_pieces` meets its contract: the walk goes on from piece to piece, each piece lies in the buffer, and each has one vector at the least.
-use Rattle.model.proofs.Prelude.{needs}
+use Rattle.model.proofs.Prelude.{rules}
 use Rattle.make_load.proofs.WriteCases.{Writing, write-cases}
 use Rattle.make_load.proofs.write_pieces.Statement.{statement}
 use Rattle.make_load.proofs.write_pieces.Tie as tie
@@ -16,15 +16,15 @@ write_pieces_spec =
     (tie.spec
     invariant-loop
     decreases-loop
-    (λ c κs. search needs) (λ c κs. search needs)
+    (λ c κs. search rules) (λ c κs. search rules)
     (λ c. search write-cases)
     (λ c κs. search write-cases)
     (λ c. search write-cases)
     (λ c. search write-cases)
-    (λ c κs. search needs) (λ c. search needs)
+    (λ c κs. search rules) (λ c. search rules)
     (λ c. search write-cases)
-    (λ c κs. search needs)
+    (λ c κs. search rules)
     (λ c. search write-cases)
     (λ c. search write-cases)
-    (λ c. search needs)
+    (λ c. search rules)
     (λ c. search write-cases))

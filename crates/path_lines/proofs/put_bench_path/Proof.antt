@@ -1,5 +1,5 @@
 -- `path_lines::put_bench_path` meets its contract: the buffer first, then the converter's refusal or the path.
-use Rattle.model.proofs.Prelude.{needs}
+use Rattle.model.proofs.Prelude.{rules}
 use Rattle.path_lines.proofs.BenchCases.{bench-cases}
 use Rattle.path_lines.proofs.put_bench_path.Statement.{statement}
 use Rattle.path_lines.proofs.put_bench_path.Tie as tie
@@ -14,11 +14,11 @@ put_bench_path_spec =
     tie.close
     (tie.spec
     (λ c. search bench-cases)
-    (λ c κs. search needs) (λ c κs. search needs) (λ c. search needs) (λ c κs. search needs) (λ c. search needs)
-    (λ c κs. search needs) (λ c. search needs)
+    (λ c κs. search rules) (λ c κs. search rules) (λ c. search rules) (λ c κs. search rules) (λ c. search rules)
+    (λ c κs. search rules) (λ c. search rules)
     (λ c. search bench-cases)
     (λ c. search bench-cases)
-    (λ c. search needs) (λ c κs. search needs) (λ c. search needs)
+    (λ c. search rules) (λ c κs. search rules) (λ c. search rules)
     (λ c. search bench-cases)
-    (λ c. search needs)
+    (λ c. search rules)
     (λ c. search bench-cases))

@@ -1,5 +1,5 @@
 -- `path_lines::put_path` meets its contract: the buffer first, then the refusal or the path.
-use Rattle.model.proofs.Prelude.{needs}
+use Rattle.model.proofs.Prelude.{rules}
 use Rattle.path_lines.proofs.PathCases.{path-cases}
 use Rattle.path_lines.proofs.put_path.Statement.{statement}
 use Rattle.path_lines.proofs.put_path.Tie as tie
@@ -12,8 +12,8 @@ put_path_spec =
     tie.close
     (tie.spec
     (λ c. search path-cases)
-    (λ c. search needs) (λ c κs. search needs) (λ c. search needs) (λ c κs. search needs) (λ c. search needs)
-    (λ c. search needs) (λ c κs. search needs) (λ c. search needs)
+    (λ c. search rules) (λ c κs. search rules) (λ c. search rules) (λ c κs. search rules) (λ c. search rules)
+    (λ c. search rules) (λ c κs. search rules) (λ c. search rules)
     (λ c. search path-cases)
-    (λ c. search needs)
+    (λ c. search rules)
     (λ c. search path-cases))

@@ -1,5 +1,5 @@
 -- `path_of_number::number_to_path` meets its contract: each return is a case of the buffer, the netlist and the number.
-use Rattle.model.proofs.Prelude.{needs}
+use Rattle.model.proofs.Prelude.{rules}
 use Rattle.path_of_number.proofs.PathCallCases.{number-to-path-cases}
 use Rattle.path_of_number.proofs.number_to_path.Statement.{statement}
 use Rattle.path_of_number.proofs.number_to_path.Tie as tie
@@ -19,10 +19,10 @@ number_to_path_spec =
     (tie.spec
     (λ c. search number-to-path-cases)
     (λ c κs. search number-to-path-cases)
-    (λ c. search needs) (λ c. search needs)
+    (λ c. search rules) (λ c. search rules)
     (λ c. search number-to-path-cases)
     returns-3
     write-path-requires
     (λ c. search number-to-path-cases)
-    (λ c. search needs)
+    (λ c. search rules)
     returns-5)

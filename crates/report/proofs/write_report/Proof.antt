@@ -1,5 +1,5 @@
 -- `report::write_report` meets its contract: each return is one case of the writer.
-use Rattle.model.proofs.Prelude.{needs}
+use Rattle.model.proofs.Prelude.{rules}
 use Rattle.report.proofs.WriterCases.{writer-cases}
 use Rattle.report.proofs.write_report.Statement.{statement}
 use Rattle.report.proofs.write_report.Tie as tie
@@ -10,12 +10,12 @@ write_report_spec =
     (tie.spec
     (λ c. search writer-cases)
     (λ c. search writer-cases)
-    (λ c κs. search needs) (λ c. search needs) (λ c. search needs)
+    (λ c κs. search rules) (λ c. search rules) (λ c. search rules)
     (λ c κs. search writer-cases)
-    (λ c. search needs) (λ c. search needs)
+    (λ c. search rules) (λ c. search rules)
     (λ c κs. search writer-cases)
     (λ c κs. search writer-cases)
     (λ c. search writer-cases)
     (λ c. search writer-cases)
-    (λ c. search needs)
+    (λ c. search rules)
     (λ c. search writer-cases))

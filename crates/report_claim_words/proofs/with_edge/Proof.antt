@@ -1,5 +1,5 @@
 -- `report_claim_words::with_edge` meets its contract: one text for each case of the edge.
-use Rattle.model.proofs.Prelude.{ap, sym, needs}
+use Rattle.model.proofs.Prelude.{ap, sym, rules}
 use Rattle.path_faults.specs.Answers.{model_edge}
 use Rattle.path_faults.specs.declared.Edge.{Edge}
 use Rattle.report_claim_words.specs.ClaimWords.{edge_word}
@@ -8,7 +8,7 @@ use Rattle.report_claim_words.proofs.with_edge.Statement.{statement}
 use Rattle.report_claim_words.proofs.with_edge.Tie as tie
 
 enum_told : tie.Need-enum-told
-enum_told c = search needs
+enum_told c = search rules
 
 returns : tie.Need-returns
 returns c = as_part _ _ _ _ c.with-text.ensures (sym (ap (λ (d : Edge). edge_word (model_edge d)) c.before.before.enum_told.given.1))
@@ -21,6 +21,6 @@ with_edge_spec =
     tie.close
     (tie.spec
     enum_told
-    (λ c. search needs) (λ c κs. search needs) (λ c. search needs) (λ c. search needs) (λ c κs. search needs)
+    (λ c. search rules) (λ c κs. search rules) (λ c. search rules) (λ c. search rules) (λ c κs. search rules)
     returns
     returns-2)

@@ -1,12 +1,12 @@
 -- `report_claim_words::with_field` meets its contract: one text for each case of the field.
-use Rattle.model.proofs.Prelude.{ap, sym, needs}
+use Rattle.model.proofs.Prelude.{ap, sym, rules}
 use Rattle.report_claim_words.specs.ClaimWords.{field_name}
 use Rattle.text_line.proofs.LineLaws.{as_part}
 use Rattle.report_claim_words.proofs.with_field.Statement.{statement}
 use Rattle.report_claim_words.proofs.with_field.Tie as tie
 
 enum_told : tie.Need-enum-told
-enum_told c = search needs
+enum_told c = search rules
 
 returns : tie.Need-returns
 returns c = as_part _ _ _ _ c.with-text.ensures (sym (ap field_name c.before.before.enum_told.given.1))
@@ -25,9 +25,9 @@ with_field_spec =
     tie.close
     (tie.spec
     enum_told
-    (λ c. search needs) (λ c κs. search needs) (λ c. search needs) (λ c. search needs) (λ c κs. search needs)
-    (λ c. search needs) (λ c. search needs) (λ c κs. search needs) (λ c. search needs) (λ c. search needs)
-    (λ c κs. search needs)
+    (λ c. search rules) (λ c κs. search rules) (λ c. search rules) (λ c. search rules) (λ c κs. search rules)
+    (λ c. search rules) (λ c. search rules) (λ c κs. search rules) (λ c. search rules) (λ c. search rules)
+    (λ c κs. search rules)
     returns
     returns-2
     returns-3

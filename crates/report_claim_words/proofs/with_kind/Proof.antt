@@ -1,12 +1,12 @@
 -- `report_claim_words::with_kind` meets its contract: one text for each case of what is wrong.
-use Rattle.model.proofs.Prelude.{ap, sym, needs}
+use Rattle.model.proofs.Prelude.{ap, sym, rules}
 use Rattle.report_claim_words.specs.ClaimWords.{kind_text}
 use Rattle.text_line.proofs.LineLaws.{as_part}
 use Rattle.report_claim_words.proofs.with_kind.Statement.{statement}
 use Rattle.report_claim_words.proofs.with_kind.Tie as tie
 
 enum_told : tie.Need-enum-told
-enum_told c = search needs
+enum_told c = search rules
 
 returns : tie.Need-returns
 returns c = as_part _ _ _ _ c.with-text.ensures (sym (ap kind_text c.before.before.enum_told.given.1))
@@ -22,8 +22,8 @@ with_kind_spec =
     tie.close
     (tie.spec
     enum_told
-    (λ c. search needs) (λ c κs. search needs) (λ c. search needs) (λ c. search needs) (λ c κs. search needs)
-    (λ c. search needs) (λ c. search needs) (λ c κs. search needs)
+    (λ c. search rules) (λ c κs. search rules) (λ c. search rules) (λ c. search rules) (λ c κs. search rules)
+    (λ c. search rules) (λ c. search rules) (λ c κs. search rules)
     returns
     returns-2
     returns-3)

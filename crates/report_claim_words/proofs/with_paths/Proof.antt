@@ -1,5 +1,5 @@
 -- `report_claim_words::with_paths` meets its contract: one number, or two.
-use Rattle.model.proofs.Prelude.{arith, needs}
+use Rattle.model.proofs.Prelude.{arith, rules}
 use Rattle.text_line.proofs.LineLaws.{then-part, as_part}
 use Rattle.report_claim_words.proofs.WordCases.{one-path, some-paths}
 use Rattle.report_claim_words.proofs.with_paths.Statement.{statement}
@@ -25,8 +25,8 @@ pub with_paths_spec : {M : Type 1} → statement M
 with_paths_spec =
     tie.close
     (tie.spec
-    (λ c. search needs) (λ c κs. search needs) (λ c κs. search needs)
+    (λ c. search rules) (λ c κs. search rules) (λ c κs. search rules)
     returns
-    (λ c. search needs) (λ c κs. search needs) (λ c κs. search needs) (λ c. search needs) (λ c κs. search needs)
-    (λ c κs. search needs)
+    (λ c. search rules) (λ c κs. search rules) (λ c κs. search rules) (λ c. search rules) (λ c κs. search rules)
+    (λ c κs. search rules)
     returns-2)

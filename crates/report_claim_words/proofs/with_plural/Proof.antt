@@ -1,12 +1,12 @@
 -- `report_claim_words::with_plural` meets its contract: one text for each case.
-use Rattle.model.proofs.Prelude.{arith, needs}
+use Rattle.model.proofs.Prelude.{arith, rules}
 use Rattle.text_line.proofs.LineLaws.{as_part}
 use Rattle.report_claim_words.proofs.WordCases.{plural_missed, plural_not_robust, plural_one, plural_more}
 use Rattle.report_claim_words.proofs.with_plural.Statement.{statement}
 use Rattle.report_claim_words.proofs.with_plural.Tie as tie
 
 enum_told : tie.Need-enum-told
-enum_told c = search needs
+enum_told c = search rules
 
 returns : tie.Need-returns
 returns c =
@@ -33,10 +33,10 @@ with_plural_spec =
     tie.close
     (tie.spec
     enum_told
-    (λ c. search needs) (λ c κs. search needs) (λ c. search needs) (λ c. search needs) (λ c κs. search needs)
-    (λ c. search needs) (λ c. search needs) (λ c κs. search needs)
+    (λ c. search rules) (λ c κs. search rules) (λ c. search rules) (λ c. search rules) (λ c κs. search rules)
+    (λ c. search rules) (λ c. search rules) (λ c κs. search rules)
     returns
-    (λ c. search needs) (λ c κs. search needs)
+    (λ c. search rules) (λ c κs. search rules)
     returns-2
     returns-3
     returns-4)

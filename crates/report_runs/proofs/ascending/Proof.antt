@@ -1,5 +1,5 @@
 -- `report_runs::ascending` meets its contract: runs ascend where none is out of order.
-use Rattle.model.proofs.Prelude.{needs}
+use Rattle.model.proofs.Prelude.{rules}
 use Rattle.report_runs.proofs.AscendLaws.{ordered-all, ordered-not}
 use Rattle.report_runs.proofs.ascending.Statement.{statement}
 use Rattle.report_runs.proofs.ascending.Tie as tie
@@ -15,4 +15,4 @@ returns-2 c =
     ordered-not _ told.result told.ensures _ c.enum-told2.given.1
 
 pub ascending_spec : {M : Type 1} → statement M
-ascending_spec = tie.close (tie.spec (λ c κs. search needs) (λ c. search needs) (λ c. search needs) returns returns-2)
+ascending_spec = tie.close (tie.spec (λ c κs. search rules) (λ c. search rules) (λ c. search rules) returns returns-2)

@@ -1,5 +1,5 @@
 -- `report_runs::order_of` meets its contract. The invariant: the runs before the place ascend, and the last of them ends with `last`.
-use Rattle.model.proofs.Prelude.{◌≤◌, ◌-◌, ◌/◌, ◌≡◌, length, take, arith, needs}
+use Rattle.model.proofs.Prelude.{◌≤◌, ◌-◌, ◌/◌, ◌≡◌, length, take, arith, rules}
 use Rattle.report_runs.specs.ReportRuns.{runs_of_bytes, Ascends, least_at_of}
 use Rattle.report_runs.proofs.OrderCases.{least_after, least-none, one_more, least_more, out_of_order, all-ascend}
 use Rattle.report_runs.proofs.order_of.Statement.{statement}
@@ -58,9 +58,9 @@ order_of_spec =
     invariant-loop
     decreases-loop
     (λ c. (omega arith, tt, least-none 0))
-    (λ c. search needs) (λ c κs. search needs) (λ c. search needs) (λ c. search needs) (λ c κs. search needs)
-    (λ c κs. search needs)
+    (λ c. search rules) (λ c κs. search rules) (λ c. search rules) (λ c. search rules) (λ c κs. search rules)
+    (λ c κs. search rules)
     returns
-    (λ c. search needs) (λ c. search needs)
+    (λ c. search rules) (λ c. search rules)
     loop-again
     returns-2)

@@ -1,5 +1,5 @@
 -- `report_verdict::is_of_record` meets its contract: each test says whether the number is that of one of the five cases.
-use Rattle.model.proofs.Prelude.{needs}
+use Rattle.model.proofs.Prelude.{rules}
 use Rattle.report_verdict.proofs.OfRecordCases.{record-cases}
 use Rattle.report_verdict.proofs.is_of_record.Statement.{statement}
 use Rattle.report_verdict.proofs.is_of_record.Tie as tie
@@ -14,13 +14,13 @@ pub is_of_record_spec : {M : Type 1} → statement M
 is_of_record_spec =
     tie.close
     (tie.spec
-    (λ c κs. search needs) (λ c κs. search needs)
+    (λ c κs. search rules) (λ c κs. search rules)
     (λ c. search record-cases)
-    (λ c κs. search needs)
+    (λ c κs. search rules)
     (λ c. search record-cases)
-    (λ c κs. search needs)
+    (λ c κs. search rules)
     (λ c. search record-cases)
-    (λ c κs. search needs)
+    (λ c κs. search rules)
     returns-4
-    (λ c κs. search needs)
+    (λ c κs. search rules)
     returns-5)

@@ -1,5 +1,5 @@
 -- `single_call::check_call` meets its contract: the class, then the places Test and Store.
-use Rattle.model.proofs.Prelude.{needs}
+use Rattle.model.proofs.Prelude.{rules}
 use Rattle.single_call.proofs.CallLaws.{class-unknown, class-known}
 use Rattle.single_call.proofs.check_call.Statement.{statement}
 use Rattle.single_call.proofs.check_call.Tie as tie
@@ -17,4 +17,4 @@ returns-2 c =
     c.before.if1.false c.check-places.result c.check-places.ensures
 
 pub check_call_spec : {M : Type 1} → statement M
-check_call_spec = tie.close (tie.spec (λ c κs. search needs) returns (λ c κs. search needs) returns-2)
+check_call_spec = tie.close (tie.spec (λ c κs. search rules) returns (λ c κs. search rules) returns-2)

@@ -1,11 +1,11 @@
 -- `single_call::check_places` meets its contract: the record's rules, then the store's.
-use Rattle.model.proofs.Prelude.{needs}
+use Rattle.model.proofs.Prelude.{rules}
 use Rattle.single_call.proofs.CallPlaceLaws.{place-test, place-refused, place-sound}
 use Rattle.single_call.proofs.check_places.Statement.{statement}
 use Rattle.single_call.proofs.check_places.Tie as tie
 
 enum_told : tie.Need-enum-told
-enum_told c = search needs
+enum_told c = search rules
 
 returns : tie.Need-returns
 returns c =
@@ -38,9 +38,9 @@ pub check_places_spec : {M : Type 1} → statement M
 check_places_spec =
     tie.close
     (tie.spec
-    (λ c κs. search needs) (λ c. search needs)
+    (λ c κs. search rules) (λ c. search rules)
     enum_told
-    (λ c κs. search needs) (λ c. search needs) (λ c. search needs)
+    (λ c κs. search rules) (λ c. search rules) (λ c. search rules)
     returns
     returns-2
     returns-3)

@@ -1,5 +1,5 @@
 -- `single_call::count_new` meets its contract: the stage's faults are counted, from the totals of the sound store before it.
-use Rattle.model.proofs.Prelude.{needs}
+use Rattle.model.proofs.Prelude.{rules}
 use Rattle.single_call.proofs.CallPlaceLaws.{before-sound, legal-counting, legal-counted}
 use Rattle.single_call.proofs.count_new.Statement.{statement}
 use Rattle.single_call.proofs.count_new.Tie as tie
@@ -19,4 +19,4 @@ returns c =
     legal-counted start.requires start.args.class at_before.totals-of.ensures at_stage.apply-legal.ensures c.count-answer.ensures
 
 pub count_new_spec : {M : Type 1} → statement M
-count_new_spec = tie.close (tie.spec (λ c κs. search (before-sound, needs)) (λ c κs. search needs) count-answer-requires (λ c. search needs) (λ c. search needs) returns)
+count_new_spec = tie.close (tie.spec (λ c κs. search (before-sound, rules)) (λ c κs. search rules) count-answer-requires (λ c. search rules) (λ c. search rules) returns)

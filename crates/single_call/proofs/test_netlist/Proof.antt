@@ -1,5 +1,5 @@
 -- `single_call::test_netlist` meets its contract: the netlist, the class and the places Test and Store refuse in this order; then the stage is the call.
-use Rattle.model.proofs.Prelude.{needs}
+use Rattle.model.proofs.Prelude.{rules}
 use Rattle.netlist.proofs.LoadCases.{zeros-are}
 use Rattle.single_call.proofs.CallLaws.{call-checks, call-legal, no-netlist, call-refused, call-true}
 use Rattle.single_call.proofs.test_netlist.Statement.{statement}
@@ -16,7 +16,7 @@ check-call-requires c κs =
     loaded.new.1.0 loaded.new.1.1.0 loaded.result loaded.ensures legal
 
 enum_told : tie.Need-enum-told
-enum_told c = search needs
+enum_told c = search rules
 
 count-new-requires : tie.Need-count-new-requires
 count-new-requires c κs =
@@ -67,14 +67,14 @@ pub test_netlist_spec : {M : Type 1} → statement M
 test_netlist_spec =
     tie.close
     (tie.spec
-    (λ c κs. search (zeros-are, needs))
-    (λ c. search needs) (λ c. search needs)
+    (λ c κs. search (zeros-are, rules))
+    (λ c. search rules) (λ c. search rules)
     check-call-requires
-    (λ c. search needs)
+    (λ c. search rules)
     enum_told
     count-new-requires
     returns
-    (λ c. search needs)
+    (λ c. search rules)
     returns-2
-    (λ c. search needs) (λ c. search needs)
+    (λ c. search rules) (λ c. search rules)
     returns-3)

@@ -1,12 +1,12 @@
 -- `testfile_judged::audit_stream` meets its contract: a refusal at the beginning, or the end of a file that was walked over.
-use Rattle.model.proofs.Prelude.{◌∙◌, needs}
+use Rattle.model.proofs.Prelude.{◌∙◌, rules}
 use Rattle.audit_pieces.proofs.TogetherHolds.{begun-ready, begun-empty}
 use Rattle.testfile_judged.proofs.StreamCases.{audit_done, stream-cases}
 use Rattle.testfile_judged.proofs.audit_stream.Statement.{statement}
 use Rattle.testfile_judged.proofs.audit_stream.Tie as tie
 
 enum_told : tie.Need-enum-told
-enum_told c = search needs
+enum_told c = search rules
 
 walk-file-requires : tie.Need-walk-file-requires
 walk-file-requires c κs =
@@ -48,13 +48,13 @@ pub audit_stream_spec : {M : Type 1} → statement M
 audit_stream_spec =
     tie.close
     (tie.spec
-    (λ c κs. search needs) (λ c. search needs)
+    (λ c κs. search rules) (λ c. search rules)
     enum_told
     walk-file-requires
     (λ c κs. search stream-cases)
-    (λ c κs. search needs) (λ c. search needs) (λ c. search needs)
-    (λ c. (search stream-cases, search needs))
-    (λ c. search needs) (λ c. search needs)
+    (λ c κs. search rules) (λ c. search rules) (λ c. search rules)
+    (λ c. (search stream-cases, search rules))
+    (λ c. search rules) (λ c. search rules)
     same-length-5
-    (λ c. search needs)
+    (λ c. search rules)
     returns-2)

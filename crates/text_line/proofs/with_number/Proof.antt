@@ -1,5 +1,5 @@
 -- `text_line::with_number` meets its contract: the digits that are written are those of the number.
-use Rattle.model.proofs.Prelude.{ℕ, ◌∙◌, ap, List, arith, needs}
+use Rattle.model.proofs.Prelude.{ℕ, ◌∙◌, ap, List, arith, rules}
 use Rattle.text_line.specs.Lines.{on_line, text_of}
 use Rattle.text_line.proofs.DecimalLaws.{decimal_is}
 use Rattle.text_line.proofs.with_number.Statement.{statement}
@@ -16,5 +16,5 @@ pub with_number_spec : {M : Type 1} → statement M
 with_number_spec =
     tie.close
     (tie.spec
-    (λ c κs. search needs) (λ c. search needs) (λ c. search needs) (λ c κs. search needs)
+    (λ c κs. search rules) (λ c. search rules) (λ c. search rules) (λ c κs. search rules)
     returns)

@@ -1,5 +1,5 @@
 -- `text_line::with_refusal` meets its contract: a word, then a number at its end.
-use Rattle.model.proofs.Prelude.{ℕ, ◌∙◌, ap, List, ◌++◌, needs}
+use Rattle.model.proofs.Prelude.{ℕ, ◌∙◌, ap, List, ◌++◌, rules}
 use Rattle.text_line.specs.Decimal.{decimal_text, refused_word, refused_text}
 use Rattle.text_line.specs.Lines.{on_line, text_of}
 use Rattle.text_line.proofs.LineLaws.{on_line-twice}
@@ -20,5 +20,5 @@ pub with_refusal_spec : {M : Type 1} → statement M
 with_refusal_spec =
     tie.close
     (tie.spec
-    (λ c. search needs) (λ c κs. search needs) (λ c κs. search needs) (λ c. search needs) (λ c κs. search needs)
+    (λ c. search rules) (λ c κs. search rules) (λ c κs. search rules) (λ c. search rules) (λ c κs. search rules)
     returns)

@@ -1,5 +1,5 @@
 -- `text_line::with_text` meets its contract. The invariant: the text so far with what is left at its end is, on a line, the whole.
-use Rattle.model.proofs.Prelude.{◌≤◌, ◌-◌, ◌≡◌, ◌∙◌, length, drop, take, length-set, arith, needs}
+use Rattle.model.proofs.Prelude.{◌≤◌, ◌-◌, ◌≡◌, ◌∙◌, length, drop, take, length-set, arith, rules}
 use Rattle.text_line.specs.Lines.{on_line, text_of}
 use Rattle.text_line.proofs.LineLaws.{line-start, line_step, line-full, line-end}
 use Rattle.text_line.proofs.with_text.Statement.{statement}
@@ -16,15 +16,15 @@ loop-holds : tie.Need-loop-init invariant-loop decreases-loop
 loop-holds c =
     let line = c.before.before.args.line in
     let text = c.before.before.args.text.now in
-    let long : length line.bytes ≡ 128 = search needs in
-    (search needs, search needs, long, line-start line.bytes text long line.length c.end_of_lem.result c.end_of_lem.ensures.0)
+    let long : length line.bytes ≡ 128 = search rules in
+    (search rules, search rules, long, line-start line.bytes text long line.length c.end_of_lem.result c.end_of_lem.ensures.0)
 
 loop-again : tie.Need-loop-preserved invariant-loop decreases-loop
 loop-again c =
     let l = c.before.before.before.loop in
     let text = c.before.before.before.before.before.before.args.text.now in
     let long : length l.longer.bytes ≡ 128 = l.invariant.2 in
-    (search needs, search needs, simp length-set long, line_step l.longer.bytes text long l.at l.i (omega arith) (omega arith) ∙ l.invariant.3)
+    (search rules, search rules, simp length-set long, line_step l.longer.bytes text long l.at l.i (omega arith) (omega arith) ∙ l.invariant.3)
 
 returns : tie.Need-returns invariant-loop decreases-loop
 returns c =
@@ -44,9 +44,9 @@ with_text_spec =
     (tie.spec
     invariant-loop
     decreases-loop
-    (λ c κs. search needs)
+    (λ c κs. search rules)
     loop-holds
-    (λ c. search needs) (λ c. search needs) (λ c. search needs) (λ c. search needs) (λ c. search needs)
+    (λ c. search rules) (λ c. search rules) (λ c. search rules) (λ c. search rules) (λ c. search rules)
     loop-again
     returns
     returns-2)

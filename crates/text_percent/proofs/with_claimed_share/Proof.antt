@@ -1,5 +1,5 @@
 -- `text_percent::with_claimed_share` meets its contract: with percent where the number is a part of the paths.
-use Rattle.model.proofs.Prelude.{needs}
+use Rattle.model.proofs.Prelude.{rules}
 use Rattle.text_line.proofs.LineLaws.{then-part, as_part}
 use Rattle.text_percent.proofs.ShareCases.{some-paths-there, part-there, claimed_part, claimed_over}
 use Rattle.text_percent.proofs.with_claimed_share.Statement.{statement}
@@ -46,9 +46,9 @@ pub with_claimed_share_spec : {M : Type 1} → statement M
 with_claimed_share_spec =
     tie.close
     (tie.spec
-    (λ c κs. search needs) (λ c. search needs) (λ c κs. search needs)
+    (λ c κs. search rules) (λ c. search rules) (λ c κs. search rules)
     with-percent-requires
-    (λ c. search needs) (λ c κs. search needs) (λ c κs. search needs) (λ c. search needs) (λ c κs. search needs)
+    (λ c. search rules) (λ c κs. search rules) (λ c κs. search rules) (λ c. search rules) (λ c κs. search rules)
     returns
-    (λ c. search needs) (λ c κs. search needs) (λ c κs. search needs) (λ c. search needs) (λ c κs. search needs)
+    (λ c. search rules) (λ c κs. search rules) (λ c κs. search rules) (λ c. search rules) (λ c κs. search rules)
     returns-2)

@@ -1,5 +1,5 @@
 -- `text_percent::with_count` meets its contract: the number, then `path` or `paths`.
-use Rattle.model.proofs.Prelude.{arith, needs}
+use Rattle.model.proofs.Prelude.{arith, rules}
 use Rattle.text_line.proofs.LineLaws.{then-part, as_part}
 use Rattle.text_percent.proofs.ShareCases.{count-one, count-more}
 use Rattle.text_percent.proofs.with_count.Statement.{statement}
@@ -19,7 +19,7 @@ pub with_count_spec : {M : Type 1} → statement M
 with_count_spec =
     tie.close
     (tie.spec
-    (λ c κs. search needs) (λ c. search needs) (λ c κs. search needs)
+    (λ c κs. search rules) (λ c. search rules) (λ c κs. search rules)
     returns
-    (λ c. search needs) (λ c κs. search needs)
+    (λ c. search rules) (λ c κs. search rules)
     returns-2)

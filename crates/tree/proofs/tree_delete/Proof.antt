@@ -1,12 +1,12 @@
 -- `tree::tree_delete` meets its contract: the checks come first, in their order, and write nothing.
-use Rattle.model.proofs.Prelude.{needs}
+use Rattle.model.proofs.Prelude.{rules}
 use Rattle.tree.proofs.ChangeCallCases.{delete_absent, delete_bad, delete_deletes, delete_range, delete_short, delete_taken}
 use Rattle.tree.proofs.TreeCallCases.{sound-tree}
 use Rattle.tree.proofs.tree_delete.Statement.{statement}
 use Rattle.tree.proofs.tree_delete.Tie as tie
 
 returns-4 : tie.Need-returns-4
-returns-4 c = search (delete_absent, needs)
+returns-4 c = search (delete_absent, rules)
 
 delete-run-requires : tie.Need-delete-run-requires
 delete-run-requires c κs =
@@ -23,14 +23,14 @@ pub tree_delete_spec : {M : Type 1} → statement M
 tree_delete_spec =
     tie.close
     (tie.spec
-    (λ c. search (delete_short, needs))
-    (λ c κs. search needs) (λ c. search needs)
-    (λ c. search (delete_bad, needs))
-    (λ c κs. search needs) (λ c. search needs)
-    (λ c. search (delete_range, needs))
-    (λ c κs. search (sound-tree, needs))
-    (λ c. search needs)
+    (λ c. search (delete_short, rules))
+    (λ c κs. search rules) (λ c. search rules)
+    (λ c. search (delete_bad, rules))
+    (λ c κs. search rules) (λ c. search rules)
+    (λ c. search (delete_range, rules))
+    (λ c κs. search (sound-tree, rules))
+    (λ c. search rules)
     returns-4
     delete-run-requires
-    (λ c. search needs)
-    (λ c. search (delete_taken, needs)))
+    (λ c. search rules)
+    (λ c. search (delete_taken, rules)))

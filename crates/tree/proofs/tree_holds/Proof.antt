@@ -1,5 +1,5 @@
 -- `tree::tree_holds` meets its contract: the checks come first, in their order.
-use Rattle.model.proofs.Prelude.{needs}
+use Rattle.model.proofs.Prelude.{rules}
 use Rattle.tree.proofs.TreeCallCases.{holds-short, holds-bad, sound-tree, holds-zero, holds-high, holds-yes, holds-no}
 use Rattle.tree.proofs.tree_holds.Statement.{statement}
 use Rattle.tree.proofs.tree_holds.Tie as tie
@@ -14,11 +14,11 @@ pub tree_holds_spec : {M : Type 1} → statement M
 tree_holds_spec =
     tie.close
     (tie.spec
-    (λ c. search (holds-short, needs))
-    (λ c κs. search needs)
-    (λ c. search (holds-bad, needs))
-    (λ c. search (holds-zero, needs))
-    (λ c. search (holds-high, needs))
+    (λ c. search (holds-short, rules))
+    (λ c κs. search rules)
+    (λ c. search (holds-bad, rules))
+    (λ c. search (holds-zero, rules))
+    (λ c. search (holds-high, rules))
     visit-root-requires
-    (λ c. search (holds-yes, needs))
-    (λ c. search (holds-no, needs)))
+    (λ c. search (holds-yes, rules))
+    (λ c. search (holds-no, rules)))

@@ -1,5 +1,5 @@
 -- `tree::tree_insert` meets its contract: the checks come first, in their order, and write nothing.
-use Rattle.model.proofs.Prelude.{needs}
+use Rattle.model.proofs.Prelude.{rules}
 use Rattle.tree.proofs.ChangeCallCases.{insert_bad, insert_full, insert_inserts, insert_range, insert_short, insert_taken}
 use Rattle.tree.proofs.TreeCallCases.{sound-tree}
 use Rattle.tree.proofs.SearchCases.{legal-low, legal-both, legal-high}
@@ -12,7 +12,7 @@ is-full-requires c κs =
     let m2 = m1.before in
     let legal = m2.run-legal.ensures in
     let passed = m1.if3.false in
-    (search (sound-tree, needs), legal-low _ _ _ legal passed, legal-both _ _ _ legal passed, legal-high _ _ _ legal passed)
+    (search (sound-tree, rules), legal-low _ _ _ legal passed, legal-both _ _ _ legal passed, legal-high _ _ _ legal passed)
 
 insert-run-requires : tie.Need-insert-run-requires
 insert-run-requires c κs =
@@ -29,14 +29,14 @@ pub tree_insert_spec : {M : Type 1} → statement M
 tree_insert_spec =
     tie.close
     (tie.spec
-    (λ c. search (insert_short, needs))
-    (λ c κs. search needs) (λ c. search needs)
-    (λ c. search (insert_bad, needs))
-    (λ c κs. search needs) (λ c. search needs)
-    (λ c. search (insert_range, needs))
+    (λ c. search (insert_short, rules))
+    (λ c κs. search rules) (λ c. search rules)
+    (λ c. search (insert_bad, rules))
+    (λ c κs. search rules) (λ c. search rules)
+    (λ c. search (insert_range, rules))
     is-full-requires
-    (λ c. search needs)
-    (λ c. search (insert_full, needs))
+    (λ c. search rules)
+    (λ c. search (insert_full, rules))
     insert-run-requires
-    (λ c. search needs)
-    (λ c. search (insert_taken, needs)))
+    (λ c. search rules)
+    (λ c. search (insert_taken, rules)))

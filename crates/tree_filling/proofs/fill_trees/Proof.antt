@@ -1,5 +1,5 @@
 -- `tree_filling::fill_trees` meets its contract: lent memory, the netlist, then what stands on its number of paths.
-use Rattle.model.proofs.Prelude.{needs}
+use Rattle.model.proofs.Prelude.{rules}
 use Rattle.tree_filling.proofs.TreeFillCases.{trees-cases}
 use Rattle.tree_filling.proofs.fill_trees.Statement.{statement}
 use Rattle.tree_filling.proofs.fill_trees.Tie as tie
@@ -11,8 +11,8 @@ fill_trees_spec =
     (λ c. search trees-cases)
     (λ c. search trees-cases)
     (λ c. search trees-cases)
-    (λ c κs. search needs) (λ c. search needs) (λ c. search needs)
+    (λ c κs. search rules) (λ c. search rules) (λ c. search rules)
     (λ c κs. search trees-cases)
     (λ c. search trees-cases)
-    (λ c. search needs) (λ c. search needs)
+    (λ c. search rules) (λ c. search rules)
     (λ c. search trees-cases))

@@ -1,5 +1,5 @@
 -- `viewer::viewer_runs` meets its contract: either store of another length, then the rest.
-use Rattle.model.proofs.Prelude.{needs}
+use Rattle.model.proofs.Prelude.{rules}
 use Rattle.viewer.proofs.ViewCases.{view-cases}
 use Rattle.viewer.proofs.viewer_runs.Statement.{statement}
 use Rattle.viewer.proofs.viewer_runs.Tie as tie
@@ -10,5 +10,5 @@ viewer_runs_spec =
     (tie.spec
     (λ c. search view-cases)
     (λ c. search view-cases)
-    (λ c. search needs) (λ c. search needs) (λ c. search needs) (λ c κs. search needs) (λ c. search needs)
-    (λ c. search needs))
+    (λ c. search rules) (λ c. search rules) (λ c. search rules) (λ c κs. search rules) (λ c. search rules)
+    (λ c. search rules))

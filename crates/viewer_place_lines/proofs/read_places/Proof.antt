@@ -1,5 +1,5 @@
 -- `viewer_place_lines::read_places` meets its contract: the lines that are left, after the places so far, give the whole.
-use Rattle.model.proofs.Prelude.{◌≤◌, ◌-◌, length, needs}
+use Rattle.model.proofs.Prelude.{◌≤◌, ◌-◌, length, rules}
 use Rattle.bench_lines.proofs.TextLineLaws.{line_low, line-stop-in, line-less, line-counted}
 use Rattle.viewer_place_lines.proofs.PlaceListLaws.{PlacesSoFar, text-cases}
 use Rattle.viewer_place_lines.proofs.read_places.Statement.{statement}
@@ -20,17 +20,17 @@ read_places_spec =
     (tie.spec
     invariant-loop
     decreases-loop
-    (λ c κs. search needs)
-    (λ c. (search text-cases, search needs))
-    (λ c κs. search needs)
-    (λ c. search (line_low, needs))
-    (λ c. search (line_low, line-stop-in, needs))
-    (λ c. search (line_low, line-stop-in, needs))
-    (λ c κs. search needs) (λ c. search needs) (λ c. search needs)
+    (λ c κs. search rules)
+    (λ c. (search text-cases, search rules))
+    (λ c κs. search rules)
+    (λ c. search (line_low, rules))
+    (λ c. search (line_low, line-stop-in, rules))
+    (λ c. search (line_low, line-stop-in, rules))
+    (λ c κs. search rules) (λ c. search rules) (λ c. search rules)
     returns
-    (λ c. search needs)
+    (λ c. search rules)
     (λ c κs. search text-cases)
-    (λ c. search needs)
-    (λ c. search (line-less, needs))
-    (λ c. (search text-cases, search (line-counted, needs)))
+    (λ c. search rules)
+    (λ c. search (line-less, rules))
+    (λ c. (search text-cases, search (line-counted, rules)))
     (λ c. (search text-cases, search text-cases)))

@@ -1,5 +1,5 @@
 -- `viewer_text::put_view` meets its contract: the lines of the viewer's answer and of the second store are his text.
-use Rattle.model.proofs.Prelude.{needs}
+use Rattle.model.proofs.Prelude.{rules}
 use Rattle.viewer_text.proofs.ShownViewCases.{answer-sound, view-put, view-answer}
 use Rattle.viewer_text.proofs.put_view.Statement.{statement}
 use Rattle.viewer_text.proofs.put_view.Tie as tie
@@ -31,7 +31,7 @@ pub put_view_spec : {M : Type 1} → statement M
 put_view_spec =
     tie.close
     (tie.spec
-    (λ c κs. search needs) (λ c. search needs) (λ c κs. search needs) (λ c. search needs)
+    (λ c κs. search rules) (λ c. search rules) (λ c κs. search rules) (λ c. search rules)
     put-answer-requires
-    (λ c. search needs)
+    (λ c. search rules)
     returns)

@@ -1,5 +1,5 @@
 -- `ask_text::inner::put_answers` meets its contract. The invariant, `AnsweringPiece`: what is put, with the answers to what is left, is the whole.
-use Rattle.model.proofs.Prelude.{◌-◌, length, needs}
+use Rattle.model.proofs.Prelude.{◌-◌, length, rules}
 use Rattle.ask_text.proofs.AnswerSteps.{AnsweringPiece, piece-start, piece-ready, piece-next, piece-done}
 use Rattle.ask_text.proofs.inner.put_answers.Statement.{statement}
 use Rattle.ask_text.proofs.inner.put_answers.Tie as tie
@@ -30,9 +30,9 @@ put_answers_spec =
     invariant-loop
     decreases-loop
     (λ c. piece-start _ _ _ _ _ _ c.before.before.before.before.requires)
-    (λ c. search needs)
+    (λ c. search rules)
     take-byte-requires
-    (λ c. search needs) (λ c. search needs)
+    (λ c. search rules) (λ c. search rules)
     loop-again
-    (λ c. search needs)
+    (λ c. search rules)
     (λ c. piece-done _ _ _ _ _ _ c.before.loop.invariant c.loop-test.false))

@@ -1,5 +1,5 @@
 -- `ask_text::inner::put_last` meets its contract: no text where the last line has no byte, else its answer.
-use Rattle.model.proofs.Prelude.{needs}
+use Rattle.model.proofs.Prelude.{rules}
 use Rattle.ask_text.proofs.AnswerSteps.{last-cases}
 use Rattle.ask_text.proofs.inner.put_last.Statement.{statement}
 use Rattle.ask_text.proofs.inner.put_last.Tie as tie
@@ -8,9 +8,9 @@ pub put_last_spec : {M : Type 1} → statement M
 put_last_spec =
     tie.close
     (tie.spec
-    (λ c. search needs) (λ c. search needs) (λ c κs. search needs) (λ c. search needs) (λ c κs. search needs)
+    (λ c. search rules) (λ c. search rules) (λ c κs. search rules) (λ c. search rules) (λ c κs. search rules)
     (λ c. search last-cases)
-    (λ c. search needs)
+    (λ c. search rules)
     (λ c. search last-cases)
-    (λ c. search needs)
+    (λ c. search rules)
     (λ c. search last-cases))

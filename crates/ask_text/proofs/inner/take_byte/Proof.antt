@@ -1,5 +1,5 @@
 -- `ask_text::inner::take_byte` meets its contract: the end of a line brings its answer, another byte goes on with the line.
-use Rattle.model.proofs.Prelude.{arith, needs}
+use Rattle.model.proofs.Prelude.{arith, rules}
 use Rattle.ask_text.proofs.AnswerSteps.{byte-end, byte-other}
 use Rattle.ask_text.proofs.inner.take_byte.Statement.{statement}
 use Rattle.ask_text.proofs.inner.take_byte.Tie as tie
@@ -25,4 +25,4 @@ returns-2 c =
 pub take_byte_spec : {M : Type 1} → statement M
 take_byte_spec =
     tie.close
-    (tie.spec (λ c κs. search needs) (λ c. search needs) (λ c. search needs) returns (λ c κs. search needs) returns-2)
+    (tie.spec (λ c κs. search rules) (λ c. search rules) (λ c. search rules) returns (λ c κs. search rules) returns-2)

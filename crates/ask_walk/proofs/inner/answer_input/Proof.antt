@@ -1,5 +1,5 @@
 -- `ask_walk::inner::answer_input` meets its contract: the input is taken, then what stands after its last end of a line is answered.
-use Rattle.model.proofs.Prelude.{sym, length-take-le, needs}
+use Rattle.model.proofs.Prelude.{sym, length-take-le, rules}
 use Rattle.ask_walk.proofs.InputSteps.{last-ready, input-broken, input-answered}
 use Rattle.ask_walk.proofs.inner.answer_input.Statement.{statement}
 use Rattle.ask_walk.proofs.inner.answer_input.Tie as tie
@@ -25,10 +25,10 @@ pub answer_input_spec : {M : Type 1} → statement M
 answer_input_spec =
     tie.close
     (tie.spec
-    (λ c κs. search needs) (λ c. search needs) (λ c. search needs)
+    (λ c κs. search rules) (λ c. search rules) (λ c. search rules)
     (λ c. input-broken c.before.before.before.before.before.before.take-input.ensures _ _ _ _)
     put-last-requires
-    (λ c. search needs)
+    (λ c. search rules)
     slice-aggregate-write-answers
-    (λ c κs. search needs) (λ c. search needs) (λ c. search needs)
+    (λ c κs. search rules) (λ c. search rules) (λ c. search rules)
     returns-2)

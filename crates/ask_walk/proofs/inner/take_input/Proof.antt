@@ -1,5 +1,5 @@
 -- `ask_walk::inner::take_input` meets its contract. The invariant, `TakingInput`: the state is that after what was read so far.
-use Rattle.model.proofs.Prelude.{◌-◌, sym, length-take-le, arith, needs}
+use Rattle.model.proofs.Prelude.{◌-◌, sym, length-take-le, arith, rules}
 use Rattle.ask_walk.proofs.InputSteps.{TakingInput, input-start, read-few, piece-ready, input-next, input-end}
 use Rattle.ask_walk.proofs.inner.take_input.Statement.{statement}
 use Rattle.ask_walk.proofs.inner.take_input.Tie as tie
@@ -80,18 +80,18 @@ take_input_spec =
     invariant-loop
     decreases-loop
     (λ c. input-start _ _)
-    (λ c κs. search needs) (λ c. search needs)
+    (λ c κs. search rules) (λ c. search rules)
     (λ c. c.before.before.before.before.before.before.before.loop.invariant.same_out)
     (λ c. input-end c.before.before.before.before.before.before.before.loop.invariant _)
-    (λ c. search needs) (λ c. search needs)
+    (λ c. search rules) (λ c. search rules)
     put-answers-requires
     (λ c. c.before.before.put-answers.ensures.text.inside)
     slice-aggregate-write-answers
-    (λ c κs. search needs) (λ c κs. search needs)
+    (λ c κs. search rules) (λ c κs. search rules)
     add-so-far
     loop-less
     loop-again
-    (λ c. search needs) (λ c. search needs)
+    (λ c. search rules) (λ c. search rules)
     (λ c. input-end c.before.loop.invariant _)
-    (λ c. search needs) (λ c. search needs)
+    (λ c. search rules) (λ c. search rules)
     returns-3)

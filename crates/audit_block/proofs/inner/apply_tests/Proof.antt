@@ -1,5 +1,5 @@
 -- `audit_block::inner::apply_tests` meets its contract: the tests of a block are marked from their vectors, and applied.
-use Rattle.model.proofs.Prelude.{refl, needs}
+use Rattle.model.proofs.Prelude.{refl, rules}
 use Rattle.audit_block.proofs.VectorCases.{tests-tables, marked-ready, tests-taken}
 use Rattle.audit_block.proofs.inner.apply_tests.Statement.{statement}
 use Rattle.audit_block.proofs.inner.apply_tests.Tie as tie
@@ -29,5 +29,5 @@ apply_tests_spec =
     (tie.spec
     fill-block-requires
     apply-block-requires
-    (λ c. search needs) (λ c. search needs) (λ c. search needs) (λ c. search needs)
+    (λ c. search rules) (λ c. search rules) (λ c. search rules) (λ c. search rules)
     returns)

@@ -1,5 +1,5 @@
 -- `audit_block::inner::take_block` meets its contract: the records of a block are read and their tests applied, and each end is one case.
-use Rattle.model.proofs.Prelude.{needs}
+use Rattle.model.proofs.Prelude.{rules}
 use Rattle.audit_block.proofs.BlockTakeCases.{read-ready, block_refused, block-next, block-onward, take_cases}
 use Rattle.audit_block.proofs.inner.take_block.Statement.{statement}
 use Rattle.audit_block.proofs.inner.take_block.Tie as tie
@@ -11,7 +11,7 @@ apply-tests-requires c κs =
     read-ready start.requires read.read-block.ensures.1
 
 enum_told : tie.Need-enum-told
-enum_told c = search needs
+enum_told c = search rules
 
 returns : tie.Need-returns
 returns c =
@@ -40,12 +40,12 @@ take_block_spec =
     (tie.spec
     (λ c κs. search take_cases)
     apply-tests-requires
-    (λ c. search needs)
+    (λ c. search rules)
     enum_told
-    (λ c. search needs) (λ c. search needs) (λ c. search needs) (λ c. search needs) (λ c. search needs)
-    (λ c. search needs)
+    (λ c. search rules) (λ c. search rules) (λ c. search rules) (λ c. search rules) (λ c. search rules)
+    (λ c. search rules)
     returns
-    (λ c. search needs) (λ c. search needs) (λ c. search needs) (λ c. search needs)
+    (λ c. search rules) (λ c. search rules) (λ c. search rules) (λ c. search rules)
     returns-2
-    (λ c. search needs) (λ c. search needs) (λ c. search needs) (λ c. search needs)
+    (λ c. search rules) (λ c. search rules) (λ c. search rules) (λ c. search rules)
     returns-3)

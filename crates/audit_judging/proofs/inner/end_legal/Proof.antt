@@ -1,5 +1,5 @@
 -- `audit_judging::inner::end_legal` meets its contract: each return is one case of the end on a legal netlist.
-use Rattle.model.proofs.Prelude.{needs}
+use Rattle.model.proofs.Prelude.{rules}
 use Rattle.audit_judging.proofs.JudgingCases.{legal-cases}
 use Rattle.audit_judging.proofs.inner.end_legal.Statement.{statement}
 use Rattle.audit_judging.proofs.inner.end_legal.Tie as tie
@@ -20,12 +20,12 @@ pub end_legal_spec : {M : Type 1} → statement M
 end_legal_spec =
     tie.close
     (tie.spec
-    (λ c κs. search needs) (λ c κs. search needs) (λ c κs. search needs)
+    (λ c κs. search rules) (λ c κs. search rules) (λ c κs. search rules)
     returns
     returns-2
-    (λ c κs. search needs) (λ c. search needs) (λ c κs. search needs) (λ c. search needs) (λ c. search needs)
+    (λ c κs. search rules) (λ c. search rules) (λ c κs. search rules) (λ c. search rules) (λ c. search rules)
     (λ c κs. search legal-cases)
-    (λ c. search needs) (λ c. search needs) (λ c κs. search needs)
+    (λ c. search rules) (λ c. search rules) (λ c κs. search rules)
     returns-3
     returns-4
     (λ c. search legal-cases))

@@ -1,5 +1,5 @@
 -- `audit_piece_steps::inner::begin` meets its contract: each return is one case of the beginning.
-use Rattle.model.proofs.Prelude.{needs}
+use Rattle.model.proofs.Prelude.{rules}
 use Rattle.audit_piece_steps.proofs.StepCases.{begin-cases}
 use Rattle.audit_piece_steps.proofs.inner.begin.Statement.{statement}
 use Rattle.audit_piece_steps.proofs.inner.begin.Tie as tie
@@ -14,12 +14,12 @@ pub begin_spec : {M : Type 1} → statement M
 begin_spec =
     tie.close
     (tie.spec
-    (λ c κs. search needs)
+    (λ c κs. search rules)
     (λ c. search begin-cases)
     returns-2
-    (λ c κs. search needs) (λ c. search needs) (λ c. search needs) (λ c κs. search needs) (λ c. search needs)
+    (λ c κs. search rules) (λ c. search rules) (λ c. search rules) (λ c κs. search rules) (λ c. search rules)
     returns-3
-    (λ c. search needs)
+    (λ c. search rules)
     (λ c. search begin-cases)
-    (λ c. search needs)
+    (λ c. search rules)
     (λ c. search begin-cases))

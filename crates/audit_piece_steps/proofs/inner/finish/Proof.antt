@@ -1,5 +1,5 @@
 -- `audit_piece_steps::inner::finish` meets its contract: each return is one case of the end.
-use Rattle.model.proofs.Prelude.{needs}
+use Rattle.model.proofs.Prelude.{rules}
 use Rattle.audit_piece_steps.proofs.StepCases.{end-cases}
 use Rattle.audit_piece_steps.proofs.inner.finish.Statement.{statement}
 use Rattle.audit_piece_steps.proofs.inner.finish.Tie as tie
@@ -9,11 +9,11 @@ finish_spec =
     tie.close
     (tie.spec
     (λ c κs. search end-cases)
-    (λ c κs. search needs) (λ c κs. search needs) (λ c. search needs)
+    (λ c κs. search rules) (λ c κs. search rules) (λ c. search rules)
     (λ c. search end-cases)
-    (λ c. search needs) (λ c κs. search needs) (λ c. search needs) (λ c. search needs)
+    (λ c. search rules) (λ c κs. search rules) (λ c. search rules) (λ c. search rules)
     (λ c κs. search end-cases)
-    (λ c. search needs)
+    (λ c. search rules)
     (λ c. search end-cases)
-    (λ c. search needs)
+    (λ c. search rules)
     (λ c. search end-cases))

@@ -1,5 +1,5 @@
 -- `audit_records::inner::apply_blocks` meets its contract. The invariant, `TakingBlocks`: the records that are left, from the store so far, give the whole.
-use Rattle.model.proofs.Prelude.{◌-◌, length, arith, needs}
+use Rattle.model.proofs.Prelude.{◌-◌, length, arith, rules}
 use Rattle.audit_records.proofs.FileBlockSteps.{TakingBlocks, block-fits, taking_less, blocks-cases}
 use Rattle.audit_records.proofs.inner.apply_blocks.Statement.{statement}
 use Rattle.audit_records.proofs.inner.apply_blocks.Tie as tie
@@ -15,7 +15,7 @@ returns : tie.Need-returns invariant-loop decreases-loop
 returns c = search blocks-cases
 
 enum_told : tie.Need-enum-told invariant-loop decreases-loop
-enum_told c = search needs
+enum_told c = search rules
 
 mul_at : tie.Need-overflow-mul-at invariant-loop decreases-loop
 mul_at c =
@@ -50,11 +50,11 @@ apply_blocks_spec =
     decreases-loop
     (λ c κs. search blocks-cases)
     (λ c. search blocks-cases)
-    (λ c. search needs) (λ c. search needs) (λ c. search needs) (λ c. search needs)
+    (λ c. search rules) (λ c. search rules) (λ c. search rules) (λ c. search rules)
     (λ c κs. search blocks-cases)
-    (λ c. search needs) (λ c κs. search needs)
+    (λ c. search rules) (λ c κs. search rules)
     (λ c. search blocks-cases)
-    (λ c. search needs) (λ c. search needs) (λ c. search needs) (λ c. search needs)
+    (λ c. search rules) (λ c. search rules) (λ c. search rules) (λ c. search rules)
     returns
     enum_told
     mul_at
@@ -62,5 +62,5 @@ apply_blocks_spec =
     (λ c. search blocks-cases)
     loop-less
     (λ c. search blocks-cases)
-    (λ c. search needs) (λ c. search needs) (λ c. search needs) (λ c. search needs)
+    (λ c. search rules) (λ c. search rules) (λ c. search rules) (λ c. search rules)
     returns-2)

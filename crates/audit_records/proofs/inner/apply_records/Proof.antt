@@ -1,5 +1,5 @@
 -- `audit_records::inner::apply_records` meets its contract: the tables of the netlist are made, then the blocks taken on them.
-use Rattle.model.proofs.Prelude.{refl, needs}
+use Rattle.model.proofs.Prelude.{refl, rules}
 use Rattle.audit_records.proofs.FileTableCases.{stage-tables, stage-blocks, stage-file}
 use Rattle.audit_records.proofs.inner.apply_records.Statement.{statement}
 use Rattle.audit_records.proofs.inner.apply_records.Tie as tie
@@ -27,7 +27,7 @@ apply_records_spec =
     tie.close
     (tie.spec
     fill-tables-requires
-    (λ c. search needs) (λ c. search needs)
+    (λ c. search rules) (λ c. search rules)
     apply-blocks-requires
-    (λ c. search needs) (λ c. search needs)
+    (λ c. search rules) (λ c. search rules)
     returns)

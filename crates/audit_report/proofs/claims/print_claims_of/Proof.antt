@@ -1,5 +1,5 @@
 -- `audit_report::claims::print_claims_of` is safe: lists are compared only where all ascend.
-use Rattle.model.proofs.Prelude.{needs}
+use Rattle.model.proofs.Prelude.{rules}
 use Rattle.report_runs.proofs.AscendLaws.{ascends-of}
 use Rattle.audit_report.proofs.claims.print_claims_of.Statement.{statement}
 use Rattle.audit_report.proofs.claims.print_claims_of.Tie as tie
@@ -14,6 +14,6 @@ pub print_claims_of_spec : {M : Type 1} → statement M
 print_claims_of_spec =
     tie.close
     (tie.spec
-    (λ c κs. search needs) (λ c. search needs) (λ c κs. search needs) (λ c κs. search needs) (λ c κs. search needs)
+    (λ c κs. search rules) (λ c. search rules) (λ c κs. search rules) (λ c κs. search rules) (λ c κs. search rules)
     print-split-requires
-    (λ c. search needs) (λ c. search needs) (λ c. search needs) (λ c. search needs))
+    (λ c. search rules) (λ c. search rules) (λ c. search rules) (λ c. search rules))

@@ -1,5 +1,5 @@
 -- `audit_report::claims::print_edge` is safe: lists are compared only where both ascend.
-use Rattle.model.proofs.Prelude.{needs}
+use Rattle.model.proofs.Prelude.{rules}
 use Rattle.report_runs.proofs.AscendLaws.{ascends-of}
 use Rattle.audit_report.proofs.claims.print_edge.Statement.{statement}
 use Rattle.audit_report.proofs.claims.print_edge.Tie as tie
@@ -12,6 +12,6 @@ pub print_edge_spec : {M : Type 1} → statement M
 print_edge_spec =
     tie.close
     (tie.spec
-    (λ c κs. search needs) (λ c κs. search needs)
+    (λ c κs. search rules) (λ c κs. search rules)
     print-pieces-requires
-    (λ c. search needs) (λ c. search needs) (λ c. search needs))
+    (λ c. search rules) (λ c. search rules) (λ c. search rules))

@@ -1,6 +1,6 @@
 -- `audit_report::claims::print_pieces` is safe and ends: each range ends at a higher number. The invariant: the runs before the places end
 -- before the number.
-use Rattle.model.proofs.Prelude.{◌-◌, ◌^◌, needs}
+use Rattle.model.proofs.Prelude.{◌-◌, ◌^◌, rules}
 use Rattle.report_differences.specs.Differences.{Passed}
 use Rattle.audit_report.proofs.ClaimCases.{walk-cases}
 use Rattle.audit_report.proofs.claims.print_pieces.Statement.{statement}
@@ -20,7 +20,7 @@ print_pieces_spec =
     decreases-loop
     (λ c. search walk-cases)
     (λ c κs. c.loop.invariant)
-    (λ c. search needs) (λ c. search needs) (λ c. search needs) (λ c κs. search needs) (λ c κs. search needs)
-    (λ c. search needs) (λ c. search needs)
+    (λ c. search rules) (λ c. search rules) (λ c. search rules) (λ c κs. search rules) (λ c κs. search rules)
+    (λ c. search rules) (λ c. search rules)
     (λ c. search walk-cases)
     (λ c. search walk-cases))

@@ -1,5 +1,5 @@
 -- `bench_names::inner::net_at` meets its contract: the key of the name, and its net.
-use Rattle.model.proofs.Prelude.{needs}
+use Rattle.model.proofs.Prelude.{rules}
 use Rattle.bench_names.proofs.NameNetLaws.{net-of}
 use Rattle.bench_names.proofs.inner.net_at.Statement.{statement}
 use Rattle.bench_names.proofs.inner.net_at.Tie as tie
@@ -8,5 +8,5 @@ pub net_at_spec : {M : Type 1} → statement M
 net_at_spec =
     tie.close
     (tie.spec
-    (λ c κs. search needs) (λ c κs. search needs)
-    (λ c. search (net-of, needs)))
+    (λ c κs. search rules) (λ c κs. search rules)
+    (λ c. search (net-of, rules)))

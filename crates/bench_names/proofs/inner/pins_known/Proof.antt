@@ -1,5 +1,5 @@
 -- `bench_names::inner::pins_known` meets its contract: the pins so far are looked up, those that are left are to be.
-use Rattle.model.proofs.Prelude.{◌-◌, length, needs}
+use Rattle.model.proofs.Prelude.{◌-◌, length, rules}
 use Rattle.bench_names.proofs.NameNetLaws.{KnownSoFar, known_start, known-inside, known-end, known-stop, known-again}
 use Rattle.bench_lines.proofs.PinWalkLaws.{pin-name, pin-less}
 use Rattle.bench_names.proofs.inner.pins_known.Statement.{statement}
@@ -13,7 +13,7 @@ abbrev decreases-loop : tie.decreases-loop
 decreases-loop line at inputs input-count gates gate-count nets place₀ more₀ known₀ place more known = length line - place
 
 loop-again : tie.Need-loop-preserved invariant-loop decreases-loop
-loop-again c = search (known-again, needs)
+loop-again c = search (known-again, rules)
 
 pub pins_known_spec : {M : Type 1} → statement M
 pins_known_spec =
@@ -21,14 +21,14 @@ pins_known_spec =
     (tie.spec
     invariant-loop
     decreases-loop
-    (λ c. search needs)
-    (λ c. search (known_start, needs))
-    (λ c κs. search (known-inside, needs))
-    (λ c. search needs)
-    (λ c. search (known-stop, needs))
-    (λ c. search needs)
-    (λ c κs. search (pin-name, needs))
-    (λ c κs. search needs)
-    (λ c. search (pin-less, needs))
+    (λ c. search rules)
+    (λ c. search (known_start, rules))
+    (λ c κs. search (known-inside, rules))
+    (λ c. search rules)
+    (λ c. search (known-stop, rules))
+    (λ c. search rules)
+    (λ c κs. search (pin-name, rules))
+    (λ c κs. search rules)
+    (λ c. search (pin-less, rules))
     loop-again
-    (λ c. search (known-end, needs)))
+    (λ c. search (known-end, rules)))

@@ -1,5 +1,5 @@
 -- `bench_net_names::filling::fill_judged` meets its contract: refused at the end, or the names are copied.
-use Rattle.model.proofs.Prelude.{needs}
+use Rattle.model.proofs.Prelude.{rules}
 use Rattle.bench_net_names.proofs.FillCases.{fill-cases}
 use Rattle.bench_net_names.proofs.filling.fill_judged.Statement.{statement}
 use Rattle.bench_net_names.proofs.filling.fill_judged.Tie as tie
@@ -16,11 +16,11 @@ pub fill_judged_spec : {M : Type 1} → statement M
 fill_judged_spec =
     tie.close
     (tie.spec
-    (λ c κs. search needs) (λ c. search needs) (λ c. search needs)
+    (λ c κs. search rules) (λ c. search rules) (λ c. search rules)
     (λ c. search fill-cases)
     (λ c. search fill-cases)
     (λ c κs. search fill-cases)
     copy-words-requires-2
     (λ c. search fill-cases)
-    (λ c. search needs)
+    (λ c. search rules)
     returns-2)

@@ -1,5 +1,5 @@
 -- `bench_net_names::words::copy_words` meets its contract: so many words are copied.
-use Rattle.model.proofs.Prelude.{◌-◌, needs}
+use Rattle.model.proofs.Prelude.{◌-◌, rules}
 use Rattle.bench_net_names.proofs.WordLaws.{Copied, copy_start, copy_again, copy_place, copy_same, copy_end}
 use Rattle.bench_net_names.proofs.words.copy_words.Statement.{statement}
 use Rattle.bench_net_names.proofs.words.copy_words.Tie as tie
@@ -16,10 +16,10 @@ copy_words_spec =
     (tie.spec
     invariant-loop
     decreases-loop
-    (λ c. search (copy_start, needs))
-    (λ c. search needs) (λ c. search needs) (λ c. search needs) (λ c. search needs)
-    (λ c. search (copy_place, needs))
-    (λ c. search needs) (λ c. search needs)
-    (λ c. search (copy_again, needs))
-    (λ c. search (copy_same, needs))
-    (λ c. search (copy_end, needs)))
+    (λ c. search (copy_start, rules))
+    (λ c. search rules) (λ c. search rules) (λ c. search rules) (λ c. search rules)
+    (λ c. search (copy_place, rules))
+    (λ c. search rules) (λ c. search rules)
+    (λ c. search (copy_again, rules))
+    (λ c. search (copy_same, rules))
+    (λ c. search (copy_end, rules)))

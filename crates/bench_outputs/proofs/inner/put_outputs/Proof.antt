@@ -1,5 +1,5 @@
 -- `bench_outputs::inner::put_outputs` meets its contract: the names that are left, written from here on, give the whole.
-use Rattle.model.proofs.Prelude.{needs}
+use Rattle.model.proofs.Prelude.{rules}
 use Rattle.bench_outputs.proofs.OutputFileLaws.{OutputsLeft, outputs-start, outputs-same, outputs-end, outputs-room, outputs-again}
 use Rattle.bench_outputs.proofs.inner.put_outputs.Statement.{statement}
 use Rattle.bench_outputs.proofs.inner.put_outputs.Tie as tie
@@ -12,7 +12,7 @@ abbrev decreases-loop : tie.decreases-loop
 decreases-loop out₀ to-place words n first outputs output-count write₀ left₀ at₀ net₀ out write left at net = left
 
 put-output-requires : tie.Need-put-output-requires invariant-loop decreases-loop
-put-output-requires c κs = search (outputs-room, needs)
+put-output-requires c κs = search (outputs-room, rules)
 
 loop-again : tie.Need-loop-preserved invariant-loop decreases-loop
 loop-again c =
@@ -31,11 +31,11 @@ put_outputs_spec =
     (tie.spec
     invariant-loop
     decreases-loop
-    (λ c. search (outputs-start, needs))
-    (λ c. search needs) (λ c. search needs) (λ c. search needs) (λ c. search needs) (λ c. search needs)
-    (λ c κs. search needs)
+    (λ c. search (outputs-start, rules))
+    (λ c. search rules) (λ c. search rules) (λ c. search rules) (λ c. search rules) (λ c. search rules)
+    (λ c κs. search rules)
     put-output-requires
-    (λ c. search needs) (λ c. search needs) (λ c. search needs) (λ c. search needs)
+    (λ c. search rules) (λ c. search rules) (λ c. search rules) (λ c. search rules)
     loop-again
-    (λ c. search (outputs-same, needs))
-    (λ c. search (outputs-end, needs)))
+    (λ c. search (outputs-same, rules))
+    (λ c. search (outputs-end, rules)))

@@ -1,5 +1,5 @@
 -- `bench_text::writing::put_gate` meets its contract: its fields one after the other.
-use Rattle.model.proofs.Prelude.{arith, needs}
+use Rattle.model.proofs.Prelude.{arith, rules}
 use Rattle.bench_text.proofs.GateLaws.{gate-put}
 use Rattle.bench_text.proofs.writing.put_gate.Statement.{statement}
 use Rattle.bench_text.proofs.writing.put_gate.Tie as tie
@@ -17,8 +17,8 @@ pub put_gate_spec : {M : Type 1} → statement M
 put_gate_spec =
     tie.close
     (tie.spec
-    (λ c κs. search needs) (λ c. search needs) (λ c κs. search needs) (λ c. search needs) (λ c κs. search needs)
-    (λ c. search needs)
+    (λ c κs. search rules) (λ c. search rules) (λ c κs. search rules) (λ c. search rules) (λ c κs. search rules)
+    (λ c. search rules)
     put-pins-requires
-    (λ c. search needs)
-    (λ c. search (gate-put, needs)))
+    (λ c. search rules)
+    (λ c. search (gate-put, rules)))

@@ -1,5 +1,5 @@
 -- `bench_text::writing::put_netlist` meets its contract: part by part.
-use Rattle.model.proofs.Prelude.{needs}
+use Rattle.model.proofs.Prelude.{rules}
 use Rattle.bench_text.proofs.NetlistFileCases.{file-room, file-inputs, file-gates, file-outputs, file-first, file-second, file-few, room-lines, room-inputs, room-gates, file-written}
 use Rattle.bench_text.proofs.writing.put_netlist.Statement.{statement}
 use Rattle.bench_text.proofs.writing.put_netlist.Tie as tie
@@ -17,15 +17,15 @@ put-outputs-requires-2 c κs =
     let inputs = third.put-outputs in
     let after-lines = room-gates a.text.now a.netlist.now a.inputs.now a.gates.now a.outputs.now a.counts
     entry.requires.0 entry.requires.1 header.new.0 header.ensures lines.result lines.new.0 lines.ensures in
-    ((search (file-gates, needs), search (file-outputs, needs), search (file-second, needs)), after-lines inputs.result inputs.new.0 inputs.ensures)
+    ((search (file-gates, rules), search (file-outputs, rules), search (file-second, rules)), after-lines inputs.result inputs.new.0 inputs.ensures)
 
 pub put_netlist_spec : {M : Type 1} → statement M
 put_netlist_spec =
     tie.close
     (tie.spec
-    (λ c κs. search needs)
-    (λ c κs. search (file-room, file-few, room-lines, needs))
-    (λ c κs. search (file-inputs, file-outputs, file-first, room-inputs, needs))
+    (λ c κs. search rules)
+    (λ c κs. search (file-room, file-few, room-lines, rules))
+    (λ c κs. search (file-inputs, file-outputs, file-first, room-inputs, rules))
     put-outputs-requires-2
-    (λ c. search needs)
-    (λ c. search (file-written, needs)))
+    (λ c. search rules)
+    (λ c. search (file-written, rules)))

@@ -1,5 +1,5 @@
 -- `bench_text::writing::put_pins` meets its contract: the pins so far are written, those that are left are to be.
-use Rattle.model.proofs.Prelude.{◌-◌, length, needs}
+use Rattle.model.proofs.Prelude.{◌-◌, length, rules}
 use Rattle.bench_text.proofs.GateLaws.{PutSoFar, put-start, put-inside, put-length, put-end, put-room, put-fits, put-stop, put-again}
 use Rattle.bench_lines.proofs.PinWalkLaws.{pin-name, pin-less}
 use Rattle.bench_text.proofs.writing.put_pins.Statement.{statement}
@@ -19,16 +19,16 @@ put_pins_spec =
     (tie.spec
     invariant-loop
     decreases-loop
-    (λ c. search (put-start, needs))
-    (λ c κs. search (put-inside, needs))
-    (λ c. search needs)
-    (λ c. search (put-length, needs))
-    (λ c. search (put-stop, needs))
-    (λ c. search needs)
-    (λ c κs. search (pin-name, needs))
-    (λ c κs. search (put-room, needs))
-    (λ c. search (put-fits, needs))
-    (λ c. search (pin-less, needs))
-    (λ c. search (put-again, needs))
-    (λ c. search (put-length, needs))
-    (λ c. search (put-end, needs)))
+    (λ c. search (put-start, rules))
+    (λ c κs. search (put-inside, rules))
+    (λ c. search rules)
+    (λ c. search (put-length, rules))
+    (λ c. search (put-stop, rules))
+    (λ c. search rules)
+    (λ c κs. search (pin-name, rules))
+    (λ c κs. search (put-room, rules))
+    (λ c. search (put-fits, rules))
+    (λ c. search (pin-less, rules))
+    (λ c. search (put-again, rules))
+    (λ c. search (put-length, rules))
+    (λ c. search (put-end, rules)))

@@ -1,18 +1,8 @@
 -- `block_counting::inner::count_block` meets its contract. The invariant, `CountingBlock`: the answers of the tests before test t, on the store after them.
-use Rattle.model.proofs.Prelude.{◌-◌, refl, arith, needs}
+use Rattle.model.proofs.Prelude.{◌-◌, refl, arith, rules}
 use Rattle.block_stage.proofs.BlockSteps.{block_in, block-begun, block-inputs, block-few, up-inside, down-inside}
 use Rattle.block_stage.proofs.RecordEdgeLaws.{listed-inputs}
-use Rattle.block_counting.proofs.CountSteps.{
-  CountingBlock,
-  block-sound,
-  counting-start,
-  some-handed,
-  some-counted,
-  counting-next,
-  counted-kept-memory,
-  counted-all,
-  counted-few,
-}
+use Rattle.block_counting.proofs.CountSteps.{CountingBlock, block-sound, counting-start, some-handed, some-counted, counting-next, counted-kept-memory, counted-all, counted-few, }
 use Rattle.block_counting.proofs.inner.count_block.Statement.{statement}
 use Rattle.block_counting.proofs.inner.count_block.Tie as tie
 
@@ -144,22 +134,22 @@ count_block_spec =
     begin-spans-requires
     totals-of-requires
     loop-holds
-    (λ c. search needs) (λ c. search needs) (λ c. search needs) (λ c. search needs)
+    (λ c. search rules) (λ c. search rules) (λ c. search rules) (λ c. search rules)
     add-up-2
-    (λ c. search needs) (λ c. search needs) (λ c. search needs)
+    (λ c. search rules) (λ c. search rules) (λ c. search rules)
     (λ c. up-inside c.before.before.loop.invariant.block c.before.loop-test.true)
-    (λ c. search needs) (λ c. search needs) (λ c. search needs)
+    (λ c. search rules) (λ c. search rules) (λ c. search rules)
     add-down-2
-    (λ c. search needs) (λ c. search needs) (λ c. search needs)
+    (λ c. search rules) (λ c. search rules) (λ c. search rules)
     part-down-end
-    (λ c κs. search needs)
+    (λ c κs. search rules)
     cover-listed-requires
     count-both-requires
-    (λ c κs. search needs) (λ c κs. search needs)
+    (λ c κs. search rules) (λ c κs. search rules)
     put-answer-requires
     renew-sections-requires
     add-t
     loop-less
     loop-again
-    (λ c. search needs) (λ c. search needs)
+    (λ c. search rules) (λ c. search rules)
     returns)

@@ -1,5 +1,5 @@
 -- `block_counting::inner::count_both` meets its contract: a stage that keeps the runs leaves the totals of before, another is counted again.
-use Rattle.model.proofs.Prelude.{◌∙◌, sym, needs}
+use Rattle.model.proofs.Prelude.{◌∙◌, sym, rules}
 use Rattle.block_counting.proofs.CountBothLaws.{some-made, counted-kept, counted-some, counted-again}
 use Rattle.block_counting.proofs.inner.count_both.Statement.{statement}
 use Rattle.block_counting.proofs.inner.count_both.Tie as tie
@@ -26,8 +26,8 @@ count_both_spec =
     tie.close
     (tie.spec
     (λ c κs. some-made c.before.before.before.requires)
-    (λ c κs. search needs) (λ c κs. search needs) (λ c. search needs)
+    (λ c κs. search rules) (λ c κs. search rules) (λ c. search rules)
     returns
     count-answer-requires
-    (λ c. search needs)
+    (λ c. search rules)
     returns-2)

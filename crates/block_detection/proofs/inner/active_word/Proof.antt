@@ -1,5 +1,5 @@
 -- `block_detection::inner::active_word` meets its contract: what the gate's pins show, at one pin.
-use Rattle.model.proofs.Prelude.{needs}
+use Rattle.model.proofs.Prelude.{rules}
 use Rattle.block_detection.proofs.ActiveLaws.{there-cases}
 use Rattle.block_detection.proofs.inner.active_word.Statement.{statement}
 use Rattle.block_detection.proofs.inner.active_word.Tie as tie
@@ -11,10 +11,10 @@ active_word_spec =
     (λ c κs. search there-cases)
     (λ c κs. search there-cases)
     (λ c κs. search there-cases)
-    (λ c. search needs)
+    (λ c. search rules)
     (λ c. search there-cases)
     (λ c. search there-cases)
-    (λ c. search needs)
+    (λ c. search rules)
     (λ c. search there-cases)
     (λ c. search there-cases)
     (λ c. search there-cases)

@@ -1,5 +1,5 @@
 -- `block_detection::inner::block_word` meets its contract: it has no loop of its own.
-use Rattle.model.proofs.Prelude.{◌∙◌, arith, needs}
+use Rattle.model.proofs.Prelude.{◌∙◌, arith, rules}
 use Rattle.block_detection.proofs.BlockWordCases.{block-inputs, block-ready, block-word}
 use Rattle.block_detection.proofs.inner.block_word.Statement.{statement}
 use Rattle.block_detection.proofs.inner.block_word.Tie as tie
@@ -33,7 +33,7 @@ block_word_spec =
     (λ c κs. let given = c.before.before.requires in (omega arith, given.1, block-inputs given.0))
     (λ c κs. let given = c.before.before.before.requires in (omega arith, given.1, block-inputs given.0))
     input-words-requires
-    (λ c κs. search needs)
+    (λ c κs. search rules)
     fault-word-requires
-    (λ c. search needs)
+    (λ c. search rules)
     returns)

@@ -1,5 +1,5 @@
 -- `block_intervals::inner::listed_spans` meets its contract: the runs of the listed nets, counted with those of the inputs.
-use Rattle.model.proofs.Prelude.{length-set, arith, needs}
+use Rattle.model.proofs.Prelude.{length-set, arith, rules}
 use Rattle.block_intervals.proofs.ListedLaws.{listed-spans, listed-full, listed-over, listed-fits, listed-cases}
 use Rattle.block_intervals.proofs.inner.listed_spans.Statement.{statement}
 use Rattle.block_intervals.proofs.inner.listed_spans.Tie as tie
@@ -10,7 +10,7 @@ slice-write-words-2 c =
     omega (arith, length-set start.args.words.now 0 1, start.requires.at-list.room)
 
 enum_told : tie.Need-enum-told
-enum_told c = search needs
+enum_told c = search rules
 
 returns : tie.Need-returns
 returns c =
@@ -39,11 +39,11 @@ pub listed_spans_spec : {M : Type 1} → statement M
 listed_spans_spec =
     tie.close
     (tie.spec
-    (λ c. search needs)
+    (λ c. search rules)
     slice-write-words-2
     (λ c κs. search listed-cases)
     enum_told
-    (λ c. search needs)
+    (λ c. search rules)
     (λ c κs. search listed-cases)
     (λ c. search listed-cases)
     returns

@@ -1,5 +1,5 @@
 -- `block_intervals::nets::net_span` meets its contract.
-use Rattle.model.proofs.Prelude.{needs}
+use Rattle.model.proofs.Prelude.{rules}
 use Rattle.block_intervals.proofs.SpanCases.{low-place, low-ready, low-before, span-cases}
 use Rattle.block_intervals.proofs.nets.net_span.Statement.{statement}
 use Rattle.block_intervals.proofs.nets.net_span.Tie as tie
@@ -14,14 +14,14 @@ pub net_span_spec : {M : Type 1} → statement M
 net_span_spec =
     tie.close
     (tie.spec
-    (λ c. search needs) (λ c. search needs) (λ c. search needs) (λ c. search needs)
+    (λ c. search rules) (λ c. search rules) (λ c. search rules) (λ c. search rules)
     (λ c. search span-cases)
     (λ c. search span-cases)
     one-pin-requires
     (λ c. search span-cases)
-    (λ c κs. search needs) (λ c. search needs)
+    (λ c κs. search rules) (λ c. search rules)
     (λ c. search span-cases)
-    (λ c κs. search needs) (λ c. search needs) (λ c. search needs)
+    (λ c κs. search rules) (λ c. search rules) (λ c. search rules)
     (λ c. search span-cases)
-    (λ c. search needs)
+    (λ c. search rules)
     (λ c. search span-cases))

@@ -1,5 +1,5 @@
 -- `block_stage::covering::cover_edge` meets its contract: no edge, too many working runs, nothing new, or the detected runs joined to the held ones.
-use Rattle.model.proofs.Prelude.{◌∙◌, needs}
+use Rattle.model.proofs.Prelude.{◌∙◌, rules}
 use Rattle.block_stage.proofs.CoverEdgeLaws.{edge_none, edge-over, edge-outputs, edge-held, edge-joins, edge-joined, some-spans, some-base, some-ascending}
 use Rattle.block_stage.proofs.covering.cover_edge.Statement.{statement}
 use Rattle.block_stage.proofs.covering.cover_edge.Tie as tie
@@ -8,7 +8,7 @@ returns : tie.Need-returns
 returns c = let start = c.before.before.before.before in (start.requires.ready.listed.input_spans, λ K h. edge_none h c.if1.true)
 
 enum_told : tie.Need-enum-told
-enum_told c = search needs
+enum_told c = search rules
 
 outputs-inside-requires : tie.Need-outputs-inside-requires
 outputs-inside-requires c κs =
@@ -65,15 +65,15 @@ cover_edge_spec =
     tie.close
     (tie.spec
     returns
-    (λ c κs. search (some-spans, needs))
+    (λ c κs. search (some-spans, rules))
     enum_told
-    (λ c. search needs)
+    (λ c. search rules)
     outputs-inside-requires
-    (λ c. search needs)
+    (λ c. search rules)
     returns-2
     out-runs-requires
     join-edge-requires
-    (λ c. search needs)
+    (λ c. search rules)
     returns-3
-    (λ c. search needs)
+    (λ c. search rules)
     returns-4)

@@ -1,5 +1,5 @@
 -- `block_stage::inner::apply_block` meets its contract. The invariant, `Applying`: the tests that are left, from the store so far, give the whole.
-use Rattle.model.proofs.Prelude.{◌-◌, refl, arith, needs}
+use Rattle.model.proofs.Prelude.{◌-◌, refl, arith, rules}
 use Rattle.block_stage.proofs.BlockSteps.{Applying, block_in, block-begun, block-inputs, ended-kept, ended, up-inside, down-inside, some-listed, refused-kept, refused-here}
 use Rattle.block_stage.proofs.BlockSteps.{record_taken, block-few, block-cases}
 use Rattle.block_stage.proofs.inner.apply_block.Statement.{statement}
@@ -55,7 +55,7 @@ returns c =
     (refused-kept so_far more edges stage.ensures.1 why, λ N tests b m. refused-here so_far more edges stage.ensures.1 why N tests (block_in b m))
 
 enum_told : tie.Need-enum-told invariant-loop decreases-loop
-enum_told c = search needs
+enum_told c = search rules
 
 loop-again : tie.Need-loop-preserved invariant-loop decreases-loop
 loop-again c =
@@ -78,20 +78,20 @@ apply_block_spec =
     decreases-loop
     begin-spans-requires
     (λ c. search block-cases)
-    (λ c. search needs) (λ c. search needs) (λ c. search needs) (λ c. search needs)
+    (λ c. search rules) (λ c. search rules) (λ c. search rules) (λ c. search rules)
     add-up-2
-    (λ c. search needs) (λ c. search needs) (λ c. search needs)
+    (λ c. search rules) (λ c. search rules) (λ c. search rules)
     (λ c. up-inside c.before.before.loop.invariant.block c.before.loop-test.true)
-    (λ c. search needs) (λ c. search needs) (λ c. search needs)
+    (λ c. search rules) (λ c. search rules) (λ c. search rules)
     add-down-2
-    (λ c. search needs) (λ c. search needs) (λ c. search needs)
+    (λ c. search rules) (λ c. search rules) (λ c. search rules)
     part-down-end
-    (λ c κs. search needs)
+    (λ c κs. search rules)
     apply-listed-requires
-    (λ c. search needs) (λ c. search needs) (λ c. search needs)
+    (λ c. search rules) (λ c. search rules) (λ c. search rules)
     returns
     enum_told
-    (λ c. search needs) (λ c. search needs)
+    (λ c. search rules) (λ c. search rules)
     loop-again
-    (λ c. search needs) (λ c. search needs)
+    (λ c. search rules) (λ c. search rules)
     returns-2)

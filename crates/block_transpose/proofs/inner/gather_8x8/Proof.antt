@@ -1,5 +1,5 @@
 -- `block_transpose::inner::gather_8x8` meets its contract. The loop's invariant: the records from t on stand in the lowest bits of each byte.
-use Rattle.model.proofs.Prelude.{arith, needs}
+use Rattle.model.proofs.Prelude.{arith, rules}
 use Rattle.block_transpose.proofs.Gather8x8Cases.{Gathering, gather_start, gather_step, gather_end, byte_fits}
 use Rattle.block_transpose.proofs.inner.gather_8x8.Statement.{statement}
 use Rattle.block_transpose.proofs.inner.gather_8x8.Tie as tie
@@ -25,7 +25,7 @@ gather_8x8_spec =
     (λ c. omega (arith, c.before.before.requires, c.before.loop.invariant.within))
     (λ c. omega (arith, c.before.before.requires, c.before.loop.invariant.within, c.loop-test.true))
     (λ c. omega (arith, c.before.before.before.requires))
-    (λ c κs. search (byte_fits, needs))
+    (λ c κs. search (byte_fits, rules))
     (λ c. omega (arith, c.before.before.loop-test.true))
     loop-again
     (λ c. gather_end c.before.loop.invariant c.loop-test.false))

@@ -1,5 +1,5 @@
 -- `c_answer_words::inner::put_counts` meets its contract: the counts so far are stored.
-use Rattle.model.proofs.Prelude.{◌≤◌, ◌-◌, ◌≡◌, length, take, sets, needs}
+use Rattle.model.proofs.Prelude.{◌≤◌, ◌-◌, ◌≡◌, length, take, sets, rules}
 use Rattle.c_answer_words.proofs.StoredLaws.{stored-cases}
 use Rattle.c_answer_words.proofs.inner.put_counts.Statement.{statement}
 use Rattle.c_answer_words.proofs.inner.put_counts.Tie as tie
@@ -19,7 +19,7 @@ put_counts_spec =
     (tie.spec
     invariant-loop
     decreases-loop
-    (λ c. search needs) (λ c. search needs) (λ c. search needs) (λ c. search needs) (λ c. search needs)
-    (λ c. search needs) (λ c. search needs) (λ c. search needs)
+    (λ c. search rules) (λ c. search rules) (λ c. search rules) (λ c. search rules) (λ c. search rules)
+    (λ c. search rules) (λ c. search rules) (λ c. search rules)
     loop-again
     (λ c. search stored-cases))

@@ -1,5 +1,5 @@
 -- `c_answer_words::inner::put_row` meets its contract: the numbers so far are stored.
-use Rattle.model.proofs.Prelude.{◌≤◌, ◌-◌, ◌≡◌, length, take, sets, needs}
+use Rattle.model.proofs.Prelude.{◌≤◌, ◌-◌, ◌≡◌, length, take, sets, rules}
 use Rattle.c_answer_words.proofs.StoredLaws.{stored-cases}
 use Rattle.c_answer_words.proofs.inner.put_row.Statement.{statement}
 use Rattle.c_answer_words.proofs.inner.put_row.Tie as tie
@@ -17,7 +17,7 @@ put_row_spec =
     (tie.spec
     invariant-loop
     decreases-loop
-    (λ c. search needs) (λ c. search needs) (λ c. search needs) (λ c. search needs) (λ c. search needs)
-    (λ c. search needs) (λ c. search needs) (λ c. search needs)
+    (λ c. search rules) (λ c. search rules) (λ c. search rules) (λ c. search rules) (λ c. search rules)
+    (λ c. search rules) (λ c. search rules) (λ c. search rules)
     (λ c. search stored-cases)
     (λ c. search stored-cases))

@@ -1,5 +1,5 @@
 -- `c_answer_words::inner::put_rows` meets its contract: the second row stands behind the first.
-use Rattle.model.proofs.Prelude.{ℕ, List, [], get_or, length-append, arith, needs}
+use Rattle.model.proofs.Prelude.{ℕ, List, [], get_or, length-append, arith, rules}
 use Rattle.c_answer_words.proofs.StoredLaws.{row-long, stored-both}
 use Rattle.c_answer_words.proofs.inner.put_rows.Statement.{statement}
 use Rattle.c_answer_words.proofs.inner.put_rows.Tie as tie
@@ -7,12 +7,12 @@ use Rattle.c_answer_words.proofs.inner.put_rows.Tie as tie
 put-row-requires : tie.Need-put-row-requires
 put-row-requires c κs =
     let start = c.before.before.before.before in
-    (row-long start.args.t1 start.well-formed.0.0 _ start.well-formed.0.1.1 (omega (arith, start.well-formed.0.1.0.1)), search needs)
+    (row-long start.args.t1 start.well-formed.0.0 _ start.well-formed.0.1.1 (omega (arith, start.well-formed.0.1.0.1)), search rules)
 
 put-row-requires-2 : tie.Need-put-row-requires-2
 put-row-requires-2 c κs =
     let start = c.before.before.before.before.before.before.before in
-    (row-long start.args.t1 start.well-formed.0.0 _ start.well-formed.0.1.1 (omega (arith, start.well-formed.0.1.0.1)), search needs)
+    (row-long start.args.t1 start.well-formed.0.0 _ start.well-formed.0.1.1 (omega (arith, start.well-formed.0.1.0.1)), search rules)
 
 returns : tie.Need-returns
 returns c =
@@ -26,4 +26,4 @@ returns c =
     )
 
 pub put_rows_spec : {M : Type 1} → statement M
-put_rows_spec = tie.close (tie.spec (λ c. search needs) (λ c. search needs) put-row-requires (λ c. search needs) put-row-requires-2 returns)
+put_rows_spec = tie.close (tie.spec (λ c. search rules) (λ c. search rules) put-row-requires (λ c. search rules) put-row-requires-2 returns)

@@ -1,5 +1,5 @@
 -- `case_script::answers::print_numbers` is safe and ends: the place stays below the eight numbers.
-use Rattle.model.proofs.Prelude.{◌≤◌, ◌-◌, needs}
+use Rattle.model.proofs.Prelude.{◌≤◌, ◌-◌, rules}
 use Rattle.case_script.proofs.answers.print_numbers.Statement.{statement}
 use Rattle.case_script.proofs.answers.print_numbers.Tie as tie
 
@@ -15,6 +15,6 @@ print_numbers_spec =
     (tie.spec
     invariant-loop
     decreases-loop
-    (λ c. search needs) (λ c. search needs) (λ c. search needs) (λ c κs. search needs) (λ c. search needs)
-    (λ c. search needs) (λ c κs. search needs) (λ c. search needs) (λ c. search needs) (λ c. search needs)
-    (λ c. search needs))
+    (λ c. search rules) (λ c. search rules) (λ c. search rules) (λ c κs. search rules) (λ c. search rules)
+    (λ c. search rules) (λ c κs. search rules) (λ c. search rules) (λ c. search rules) (λ c. search rules)
+    (λ c. search rules))

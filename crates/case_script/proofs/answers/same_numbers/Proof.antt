@@ -1,5 +1,5 @@
 -- `case_script::answers::same_numbers` is safe and ends: the place stays below the eight numbers.
-use Rattle.model.proofs.Prelude.{◌≤◌, ◌-◌, needs}
+use Rattle.model.proofs.Prelude.{◌≤◌, ◌-◌, rules}
 use Rattle.case_script.proofs.answers.same_numbers.Statement.{statement}
 use Rattle.case_script.proofs.answers.same_numbers.Tie as tie
 
@@ -15,6 +15,6 @@ same_numbers_spec =
     (tie.spec
     invariant-loop
     decreases-loop
-    (λ c. search needs) (λ c. search needs) (λ c. search needs) (λ c. search needs) (λ c. search needs)
-    (λ c. search needs) (λ c. search needs) (λ c. search needs) (λ c. search needs) (λ c. search needs)
-    (λ c. search needs))
+    (λ c. search rules) (λ c. search rules) (λ c. search rules) (λ c. search rules) (λ c. search rules)
+    (λ c. search rules) (λ c. search rules) (λ c. search rules) (λ c. search rules) (λ c. search rules)
+    (λ c. search rules))

@@ -1,5 +1,5 @@
 -- `case_script::cells::put_numbers` is safe and ends: the place stays below the number of numbers.
-use Rattle.model.proofs.Prelude.{◌≤◌, ◌-◌, ◌≡◌, length, needs}
+use Rattle.model.proofs.Prelude.{◌≤◌, ◌-◌, ◌≡◌, length, rules}
 use Rattle.case_script.proofs.cells.put_numbers.Statement.{statement}
 use Rattle.case_script.proofs.cells.put_numbers.Tie as tie
 
@@ -15,6 +15,6 @@ put_numbers_spec =
     (tie.spec
     invariant-loop
     decreases-loop
-    (λ c. search needs) (λ c κs. search needs) (λ c κs. search needs) (λ c. search needs) (λ c. search needs)
-    (λ c κs. search needs) (λ c κs. search needs) (λ c. search needs) (λ c. search needs) (λ c. search needs)
-    (λ c. search needs) (λ c. search needs) (λ c. search needs) (λ c. search needs))
+    (λ c. search rules) (λ c κs. search rules) (λ c κs. search rules) (λ c. search rules) (λ c. search rules)
+    (λ c κs. search rules) (λ c κs. search rules) (λ c. search rules) (λ c. search rules) (λ c. search rules)
+    (λ c. search rules) (λ c. search rules) (λ c. search rules) (λ c. search rules))

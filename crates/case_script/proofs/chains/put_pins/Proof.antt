@@ -1,5 +1,5 @@
 -- `case_script::chains::put_pins` is safe and ends: the pins that are left only fall.
-use Rattle.model.proofs.Prelude.{◌≤◌, ◌≡◌, length, needs}
+use Rattle.model.proofs.Prelude.{◌≤◌, ◌≡◌, length, rules}
 use Rattle.case_script.proofs.chains.put_pins.Statement.{statement}
 use Rattle.case_script.proofs.chains.put_pins.Tie as tie
 
@@ -15,5 +15,5 @@ put_pins_spec =
     (tie.spec
     invariant-loop
     decreases-loop
-    (λ c. search needs) (λ c κs. search needs) (λ c. search needs) (λ c. search needs) (λ c. search needs)
-    (λ c. search needs) (λ c. search needs))
+    (λ c. search rules) (λ c κs. search rules) (λ c. search rules) (λ c. search rules) (λ c. search rules)
+    (λ c. search rules) (λ c. search rules))

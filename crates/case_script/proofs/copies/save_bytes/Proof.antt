@@ -1,5 +1,5 @@
 -- `case_script::copies::save_bytes` is safe and ends: the place stays in the bytes.
-use Rattle.model.proofs.Prelude.{◌≤◌, ◌-◌, ◌≡◌, length, needs}
+use Rattle.model.proofs.Prelude.{◌≤◌, ◌-◌, ◌≡◌, length, rules}
 use Rattle.case_script.proofs.copies.save_bytes.Statement.{statement}
 use Rattle.case_script.proofs.copies.save_bytes.Tie as tie
 
@@ -15,6 +15,6 @@ save_bytes_spec =
     (tie.spec
     invariant-loop
     decreases-loop
-    (λ c. search needs) (λ c. search needs) (λ c. search needs) (λ c. search needs) (λ c κs. search needs)
-    (λ c. search needs) (λ c. search needs) (λ c. search needs) (λ c. search needs) (λ c. search needs)
-    (λ c. search needs) (λ c. search needs))
+    (λ c. search rules) (λ c. search rules) (λ c. search rules) (λ c. search rules) (λ c κs. search rules)
+    (λ c. search rules) (λ c. search rules) (λ c. search rules) (λ c. search rules) (λ c. search rules)
+    (λ c. search rules) (λ c. search rules))

@@ -1,5 +1,5 @@
 -- `case_script::numbers::numbers_in` is safe and ends: the place stays in the part.
-use Rattle.model.proofs.Prelude.{◌≤◌, ◌-◌, length, needs}
+use Rattle.model.proofs.Prelude.{◌≤◌, ◌-◌, length, rules}
 use Rattle.case_script.proofs.numbers.numbers_in.Statement.{statement}
 use Rattle.case_script.proofs.numbers.numbers_in.Tie as tie
 
@@ -15,5 +15,5 @@ numbers_in_spec =
     (tie.spec
     invariant-loop
     decreases-loop
-    (λ c. search needs) (λ c. search needs) (λ c κs. search needs) (λ c. search needs) (λ c. search needs)
-    (λ c. search needs) (λ c. search needs))
+    (λ c. search rules) (λ c. search rules) (λ c κs. search rules) (λ c. search rules) (λ c. search rules)
+    (λ c. search rules) (λ c. search rules))

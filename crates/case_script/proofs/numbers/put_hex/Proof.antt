@@ -1,5 +1,5 @@
 -- `case_script::numbers::put_hex` is safe and ends: the place stays in the part.
-use Rattle.model.proofs.Prelude.{◌≤◌, ◌-◌, ◌≡◌, length, needs}
+use Rattle.model.proofs.Prelude.{◌≤◌, ◌-◌, ◌≡◌, length, rules}
 use Rattle.case_script.proofs.numbers.put_hex.Statement.{statement}
 use Rattle.case_script.proofs.numbers.put_hex.Tie as tie
 
@@ -15,6 +15,6 @@ put_hex_spec =
     (tie.spec
     invariant-loop
     decreases-loop
-    (λ c κs. search needs) (λ c. search needs) (λ c. search needs) (λ c κs. search needs) (λ c. search needs)
-    (λ c. search needs) (λ c. search needs) (λ c κs. search needs) (λ c. search needs) (λ c. search needs)
-    (λ c. search needs) (λ c. search needs))
+    (λ c κs. search rules) (λ c. search rules) (λ c. search rules) (λ c κs. search rules) (λ c. search rules)
+    (λ c. search rules) (λ c. search rules) (λ c κs. search rules) (λ c. search rules) (λ c. search rules)
+    (λ c. search rules) (λ c. search rules))

@@ -1,5 +1,5 @@
 -- `case_script::words::find_byte` is safe and ends, and its result lies between the start and the end of the text, or is the start.
-use Rattle.model.proofs.Prelude.{◌≤◌, ◌-◌, max, length, needs}
+use Rattle.model.proofs.Prelude.{◌≤◌, ◌-◌, max, length, rules}
 use Rattle.case_script.proofs.words.find_byte.Statement.{statement}
 use Rattle.case_script.proofs.words.find_byte.Tie as tie
 
@@ -15,5 +15,5 @@ find_byte_spec =
     (tie.spec
     invariant-loop
     decreases-loop
-    (λ c. search needs) (λ c. search needs) (λ c. search needs) (λ c. search needs) (λ c. search needs)
-    (λ c. search needs) (λ c. search needs))
+    (λ c. search rules) (λ c. search rules) (λ c. search rules) (λ c. search rules) (λ c. search rules)
+    (λ c. search rules) (λ c. search rules))

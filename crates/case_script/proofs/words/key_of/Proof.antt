@@ -1,5 +1,5 @@
 -- `case_script::words::key_of` is safe and ends: the place stays in the text.
-use Rattle.model.proofs.Prelude.{◌≤◌, ◌-◌, length, needs}
+use Rattle.model.proofs.Prelude.{◌≤◌, ◌-◌, length, rules}
 use Rattle.case_script.proofs.words.key_of.Statement.{statement}
 use Rattle.case_script.proofs.words.key_of.Tie as tie
 
@@ -15,5 +15,5 @@ key_of_spec =
     (tie.spec
     invariant-loop
     decreases-loop
-    (λ c. search needs) (λ c. search needs) (λ c. search needs) (λ c. search needs) (λ c κs. search needs)
-    (λ c. search needs) (λ c. search needs) (λ c. search needs) (λ c. search needs))
+    (λ c. search rules) (λ c. search rules) (λ c. search rules) (λ c. search rules) (λ c κs. search rules)
+    (λ c. search rules) (λ c. search rules) (λ c. search rules) (λ c. search rules))

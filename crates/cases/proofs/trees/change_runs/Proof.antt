@@ -1,5 +1,5 @@
 -- `cases::trees::change_runs` is safe and ends: the runs left fall.
-use Rattle.model.proofs.Prelude.{◌≡◌, length, needs}
+use Rattle.model.proofs.Prelude.{◌≡◌, length, rules}
 use Rattle.cases.proofs.trees.change_runs.Statement.{statement}
 use Rattle.cases.proofs.trees.change_runs.Tie as tie
 
@@ -15,6 +15,6 @@ change_runs_spec =
     (tie.spec
     invariant-loop
     decreases-loop
-    (λ c. search needs) (λ c κs. search needs) (λ c. search needs) (λ c. search needs) (λ c κs. search needs)
-    (λ c κs. search needs) (λ c. search needs) (λ c. search needs) (λ c. search needs) (λ c κs. search needs)
-    (λ c. search needs) (λ c. search needs))
+    (λ c. search rules) (λ c κs. search rules) (λ c. search rules) (λ c. search rules) (λ c κs. search rules)
+    (λ c κs. search rules) (λ c. search rules) (λ c. search rules) (λ c. search rules) (λ c κs. search rules)
+    (λ c. search rules) (λ c. search rules))

@@ -1,5 +1,5 @@
 -- `detection_fault::walking::detects_path` meets its contract: the open pins of the record's vectors along the path.
-use Rattle.model.proofs.Prelude.{needs}
+use Rattle.model.proofs.Prelude.{rules}
 use Rattle.detection_fault.proofs.OpenPathLaws.{asked-cases, asked-detects}
 use Rattle.detection_fault.proofs.walking.detects_path.Statement.{statement}
 use Rattle.detection_fault.proofs.walking.detects_path.Tie as tie
@@ -18,5 +18,5 @@ detects_path_spec =
     (tie.spec
     (λ c κs. search asked-cases)
     (λ c κs. search asked-cases)
-    (λ c κs. search needs) (λ c κs. search needs) (λ c κs. search needs)
+    (λ c κs. search rules) (λ c κs. search rules) (λ c κs. search rules)
     returns)

@@ -1,5 +1,5 @@
 -- `exhaust::pairs::apply_all_pairs` meets its contract. The invariant, `TakingPairs`: the pairs of the V1 that are left, from the store so far, give the whole.
-use Rattle.model.proofs.Prelude.{◌-◌, needs}
+use Rattle.model.proofs.Prelude.{◌-◌, rules}
 use Rattle.exhaust.proofs.PairCases.{TakingPairs, taking_ready, taking_below, taking_next, all-cases}
 use Rattle.exhaust.proofs.pairs.apply_all_pairs.Statement.{statement}
 use Rattle.exhaust.proofs.pairs.apply_all_pairs.Tie as tie
@@ -22,7 +22,7 @@ apply-pairs-with-requires c κs =
     (ready, (start.requires.1, taking_below _ _ _ _ _ _ _ ec l.loop.invariant start.requires.0 tested.loop-test.true))
 
 enum_told : tie.Need-enum-told invariant-loop decreases-loop
-enum_told c = search needs
+enum_told c = search rules
 
 loop-again : tie.Need-loop-preserved invariant-loop decreases-loop
 loop-again c =
@@ -40,16 +40,16 @@ apply_all_pairs_spec =
     (tie.spec
     invariant-loop
     decreases-loop
-    (λ c κs. search needs)
+    (λ c κs. search rules)
     (λ c. search all-cases)
     apply-pairs-with-requires
-    (λ c. search needs) (λ c κs. search needs) (λ c. search needs) (λ c. search needs) (λ c. search needs)
-    (λ c. search needs)
+    (λ c. search rules) (λ c κs. search rules) (λ c. search rules) (λ c. search rules) (λ c. search rules)
+    (λ c. search rules)
     (λ c. search all-cases)
     enum_told
-    (λ c. search needs) (λ c. search needs)
+    (λ c. search rules) (λ c. search rules)
     loop-again
-    (λ c. search needs) (λ c. search needs)
+    (λ c. search rules) (λ c. search rules)
     (λ c. search all-cases)
-    (λ c. search needs)
+    (λ c. search rules)
     (λ c. search all-cases))

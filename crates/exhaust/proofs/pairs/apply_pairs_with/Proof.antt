@@ -1,5 +1,5 @@
 -- `exhaust::pairs::apply_pairs_with` meets its contract: the pairs of a V1 are put into words, and applied as a block of tests.
-use Rattle.model.proofs.Prelude.{needs}
+use Rattle.model.proofs.Prelude.{rules}
 use Rattle.exhaust.proofs.PairCases.{pairs-ready, pairs-with}
 use Rattle.exhaust.proofs.pairs.apply_pairs_with.Statement.{statement}
 use Rattle.exhaust.proofs.pairs.apply_pairs_with.Tie as tie
@@ -23,7 +23,7 @@ pub apply_pairs_with_spec : {M : Type 1} → statement M
 apply_pairs_with_spec =
     tie.close
     (tie.spec
-    (λ c κs. search needs)
+    (λ c κs. search rules)
     apply-tests-requires
-    (λ c. search needs) (λ c. search needs) (λ c. search needs) (λ c. search needs)
+    (λ c. search rules) (λ c. search rules) (λ c. search rules) (λ c. search rules)
     returns)

@@ -1,5 +1,5 @@
 -- `exhaust_pairs::inner::vectors_of` meets its contract: the shifted 1 does not leave the word.
-use Rattle.model.proofs.Prelude.{◌≤◌, sym, subst, arith, needs}
+use Rattle.model.proofs.Prelude.{◌≤◌, sym, subst, arith, rules}
 use lib.Pow.{pow_mono}
 use Rattle.record_bytes.proofs.BitLaws.{one_shifted}
 use Rattle.exhaust_pairs.proofs.inner.vectors_of.Statement.{statement}
@@ -11,4 +11,4 @@ returns c =
     (is, subst (λ k. k ≤ 64) (sym is) (pow_mono {i = c.args.inputs} {j = 6} c.requires))
 
 pub vectors_of_spec : {M : Type 1} → statement M
-vectors_of_spec = tie.close (tie.spec (λ c. search needs) returns)
+vectors_of_spec = tie.close (tie.spec (λ c. search rules) returns)

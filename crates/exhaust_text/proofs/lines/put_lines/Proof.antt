@@ -1,5 +1,5 @@
 -- `exhaust_text::lines::put_lines` meets its contract: the lines of the store, then the line on what it does not hold.
-use Rattle.model.proofs.Prelude.{needs}
+use Rattle.model.proofs.Prelude.{rules}
 use Rattle.exhaust_text.proofs.StoreLineCases.{line-cases}
 use Rattle.exhaust_text.proofs.lines.put_lines.Statement.{statement}
 use Rattle.exhaust_text.proofs.lines.put_lines.Tie as tie
@@ -12,7 +12,7 @@ put_lines_spec =
     tie.close
     (tie.spec
     (λ c κs. (search line-cases, search line-cases))
-    (λ c κs. search needs) (λ c κs. search needs)
+    (λ c κs. search rules) (λ c κs. search rules)
     (λ c κs. search line-cases)
-    (λ c. search needs)
+    (λ c. search rules)
     returns)

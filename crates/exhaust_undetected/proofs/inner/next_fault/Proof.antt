@@ -1,5 +1,5 @@
 -- `exhaust_undetected::inner::next_fault` meets its contract: the lower one of the first faults of each edge that are not held.
-use Rattle.model.proofs.Prelude.{needs}
+use Rattle.model.proofs.Prelude.{rules}
 use Rattle.exhaust_undetected.proofs.FirstLaws.{first-cases}
 use Rattle.exhaust_undetected.proofs.inner.next_fault.Statement.{statement}
 use Rattle.exhaust_undetected.proofs.inner.next_fault.Tie as tie
@@ -14,7 +14,7 @@ pub next_fault_spec : {M : Type 1} → statement M
 next_fault_spec =
     tie.close
     (tie.spec
-    (λ c κs. search needs) (λ c κs. search needs) (λ c κs. search needs) (λ c κs. search needs) (λ c κs. search needs)
+    (λ c κs. search rules) (λ c κs. search rules) (λ c κs. search rules) (λ c κs. search rules) (λ c κs. search rules)
     returns
-    (λ c κs. search needs)
+    (λ c κs. search rules)
     returns-2)

@@ -1,5 +1,5 @@
 -- `gate_logic::inner::gate_steady` meets its contract: the `or` of two bits.
-use Rattle.model.proofs.Prelude.{not, eqb, needs}
+use Rattle.model.proofs.Prelude.{not, eqb, rules}
 use lib.Bits.{bit_and}
 use Rattle.gate_logic.proofs.StateLaws.{either}
 use Rattle.gate_logic.proofs.inner.gate_steady.Statement.{statement}
@@ -12,4 +12,4 @@ returns c =
     c.before.one-where.ensures.0 c.one-where2.ensures.0
 
 pub gate_steady_spec : {M : Type 1} → statement M
-gate_steady_spec = tie.close (tie.spec (λ c κs. search needs) (λ c κs. search needs) returns)
+gate_steady_spec = tie.close (tie.spec (λ c κs. search rules) (λ c κs. search rules) returns)

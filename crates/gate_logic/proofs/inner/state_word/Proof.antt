@@ -1,5 +1,5 @@
 -- `gate_logic::inner::state_word` meets its contract: three bits, a byte apart.
-use Rattle.model.proofs.Prelude.{ℕ, ◌+◌, ◌*◌, ◌≡◌, refl, arith, needs}
+use Rattle.model.proofs.Prelude.{ℕ, ◌+◌, ◌*◌, ◌≡◌, refl, arith, rules}
 use Rattle.gate_logic.proofs.inner.state_word.Statement.{statement}
 use Rattle.gate_logic.proofs.inner.state_word.Tie as tie
 
@@ -16,10 +16,10 @@ pub state_word_spec : {M : Type 1} → statement M
 state_word_spec =
     tie.close
     (tie.spec
-    (λ c κs. search needs) (λ c κs. search needs)
+    (λ c κs. search rules) (λ c κs. search rules)
     (λ c. omega (arith, c.one-where2.ensures.1))
     (λ c. omega (arith, c.one-where2.ensures.1, c.before.one-where.ensures.1))
-    (λ c κs. search needs)
+    (λ c κs. search rules)
     (λ c. omega (arith, c.one-where3.ensures.1))
     add-result-2
     returns)

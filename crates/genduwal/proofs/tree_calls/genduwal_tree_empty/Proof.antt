@@ -1,5 +1,5 @@
 -- `genduwal::tree_calls::genduwal_tree_empty` meets its contract: code and words are those of the answer of the call beneath.
-use Rattle.model.proofs.Prelude.{◌∙◌, needs}
+use Rattle.model.proofs.Prelude.{◌∙◌, rules}
 use Rattle.genduwal.proofs.tree_calls.genduwal_tree_empty.Statement.{statement}
 use Rattle.genduwal.proofs.tree_calls.genduwal_tree_empty.Tie as tie
 
@@ -9,4 +9,4 @@ returns c =
     (c.emptied-code.ensures ∙ called.answer, called.words)
 
 pub genduwal_tree_empty_spec : {M : Type 1} → statement M
-genduwal_tree_empty_spec = tie.close (tie.spec (λ c κs. search needs) (λ c κs. search needs) (λ c. search needs) returns)
+genduwal_tree_empty_spec = tie.close (tie.spec (λ c κs. search rules) (λ c κs. search rules) (λ c. search rules) returns)

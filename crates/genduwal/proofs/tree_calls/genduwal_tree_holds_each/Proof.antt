@@ -1,5 +1,5 @@
 -- `genduwal::tree_calls::genduwal_tree_holds_each` meets its contract: code and words are those of the answer of the call beneath.
-use Rattle.model.proofs.Prelude.{needs}
+use Rattle.model.proofs.Prelude.{rules}
 use Rattle.c_answer_words.proofs.CodeLaws.{answered-by}
 use Rattle.genduwal.proofs.tree_calls.genduwal_tree_holds_each.Statement.{statement}
 use Rattle.genduwal.proofs.tree_calls.genduwal_tree_holds_each.Tie as tie
@@ -10,4 +10,4 @@ returns c =
     (answered-by called.answer c.each-code.ensures, called.words)
 
 pub genduwal_tree_holds_each_spec : {M : Type 1} → statement M
-genduwal_tree_holds_each_spec = tie.close (tie.spec (λ c κs. search needs) (λ c κs. search needs) (λ c. search needs) returns)
+genduwal_tree_holds_each_spec = tie.close (tie.spec (λ c κs. search rules) (λ c κs. search rules) (λ c. search rules) returns)

@@ -1,5 +1,5 @@
 -- `length_coverage::counting::count_rows` meets its contract: the rows of the nets, then the rows from them.
-use Rattle.model.proofs.Prelude.{refl, needs}
+use Rattle.model.proofs.Prelude.{refl, rules}
 use Rattle.length_coverage.proofs.CountingCases.{some-circuit, rows-known}
 use Rattle.length_coverage.proofs.counting.count_rows.Statement.{statement}
 use Rattle.length_coverage.proofs.counting.count_rows.Tie as tie
@@ -10,4 +10,4 @@ rows-by-net-requires c κs =
     rows-known filled.before.before.before.before.requires filled.fill-rows.ensures
 
 pub count_rows_spec : {M : Type 1} → statement M
-count_rows_spec = tie.close (tie.spec (λ c κs. (some-circuit c.before.before.before.requires, refl)) rows-by-net-requires (λ c. search needs))
+count_rows_spec = tie.close (tie.spec (λ c κs. (some-circuit c.before.before.before.requires, refl)) rows-by-net-requires (λ c. search rules))

@@ -1,5 +1,5 @@
 -- `length_coverage::counting::rows_by_net` meets its contract: the paths' row adds up to T, or one path is too long; the held rows are those of the runs.
-use Rattle.model.proofs.Prelude.{needs}
+use Rattle.model.proofs.Prelude.{rules}
 use Rattle.model.specs.Path.{rising, falling}
 use Rattle.length_coverage.proofs.CountingCases.{total-ranked, edge-ranked, paths-long, paths-fit, one-too_long, all-counted}
 use Rattle.length_coverage.proofs.counting.rows_by_net.Statement.{statement}
@@ -48,13 +48,13 @@ pub rows_by_net_spec : {M : Type 1} → statement M
 rows_by_net_spec =
     tie.close
     (tie.spec
-    (λ c κs. search (total-ranked, needs))
+    (λ c κs. search (total-ranked, rules))
     row-sum-requires
-    (λ c κs. search needs)
+    (λ c κs. search rules)
     returns
-    (λ c κs. search needs)
+    (λ c κs. search rules)
     held-row-requires
-    (λ c κs. search needs)
+    (λ c κs. search rules)
     held-row-requires-2
-    (λ c κs. search needs)
+    (λ c κs. search rules)
     returns-2)

@@ -1,5 +1,5 @@
 -- `length_text::columns::row_line` meets its contract: the columns one after the other, and the line holds them all.
-use Rattle.model.proofs.Prelude.{◌∙◌, ap, needs}
+use Rattle.model.proofs.Prelude.{◌∙◌, ap, rules}
 use Rattle.text_line.specs.Lines.{text_of}
 use Rattle.text_line.proofs.LineLaws.{first_part, then-part, as_part, on_line-alone}
 use Rattle.length_text.specs.LengthTable.{aligned, row_text}
@@ -32,6 +32,6 @@ pub row_line_spec : {M : Type 1} → statement M
 row_line_spec =
     tie.close
     (tie.spec
-    (λ c κs. search needs) (λ c κs. search needs) (λ c κs. search needs) (λ c κs. search needs) (λ c κs. search needs)
-    (λ c κs. search needs) (λ c κs. search needs) (λ c κs. search needs) (λ c κs. search needs) (λ c κs. search needs)
+    (λ c κs. search rules) (λ c κs. search rules) (λ c κs. search rules) (λ c κs. search rules) (λ c κs. search rules)
+    (λ c κs. search rules) (λ c κs. search rules) (λ c κs. search rules) (λ c κs. search rules) (λ c κs. search rules)
     returns)

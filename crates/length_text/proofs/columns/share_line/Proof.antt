@@ -1,5 +1,5 @@
 -- `length_text::columns::share_line` meets its contract: percent where the numbers can be a circuit's, else `-`.
-use Rattle.model.proofs.Prelude.{◌+◌, ◌*◌, ◌∙◌, sym, arith, needs}
+use Rattle.model.proofs.Prelude.{◌+◌, ◌*◌, ◌∙◌, sym, arith, rules}
 use Rattle.text_line.specs.Lines.{ascii}
 use Rattle.text_line.proofs.LineLaws.{first_part, on_line-alone}
 use Rattle.text_percent.specs.Shares.{percent_text}
@@ -53,10 +53,10 @@ pub share_line_spec : {M : Type 1} → statement M
 share_line_spec =
     tie.close
     (tie.spec
-    (λ c κs. search needs) (λ c κs. search needs)
+    (λ c κs. search rules) (λ c κs. search rules)
     add-with-percent
     mul-with-percent
     with-percent-requires
     returns
-    (λ c κs. search needs) (λ c. search needs) (λ c κs. search needs)
+    (λ c κs. search rules) (λ c. search rules) (λ c κs. search rules)
     returns-2)

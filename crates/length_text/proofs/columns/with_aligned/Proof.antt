@@ -1,5 +1,5 @@
 -- `length_text::columns::with_aligned` meets its contract: as many blanks as the text leaves of the column, then the text.
-use Rattle.model.proofs.Prelude.{◌≡◌, sym, length, replicate, length-take-le, arith, needs}
+use Rattle.model.proofs.Prelude.{◌≡◌, sym, length, replicate, length-take-le, arith, rules}
 use Rattle.text_line.proofs.LineLaws.{then-part, as_part}
 use Rattle.length_text.proofs.ColumnLaws.{aligned-made}
 use Rattle.length_text.proofs.columns.with_aligned.Statement.{statement}
@@ -15,14 +15,14 @@ array-share-prefix-bytes : tie.Need-array-share-prefix-bytes
 array-share-prefix-bytes c =
     let at_count = c.before.before.before.before in
     let text = at_count.before.args.text in
-    let long : length text.bytes ≡ 128 = search needs in
+    let long : length text.bytes ≡ 128 = search rules in
     omega (arith, at_count.line-length.ensures.1)
 
 slice-aggregate-with-text-2 : tie.Need-slice-aggregate-with-text-2
 slice-aggregate-with-text-2 c =
     let at_count = c.before.before.before.before.before in
     let text = at_count.before.args.text in
-    let long : length text.bytes ≡ 128 = search needs in
+    let long : length text.bytes ≡ 128 = search rules in
     sym (length-take-le at_count.line-length.result text.bytes (omega (arith, at_count.line-length.ensures.1)))
 
 returns : tie.Need-returns
@@ -42,10 +42,10 @@ pub with_aligned_spec : {M : Type 1} → statement M
 with_aligned_spec =
     tie.close
     (tie.spec
-    (λ c κs. search needs) (λ c κs. search needs) (λ c. search needs)
+    (λ c κs. search rules) (λ c κs. search rules) (λ c. search rules)
     slice-aggregate-with-text
-    (λ c κs. search needs)
+    (λ c κs. search rules)
     array-share-prefix-bytes
     slice-aggregate-with-text-2
-    (λ c κs. search needs)
+    (λ c κs. search rules)
     returns)

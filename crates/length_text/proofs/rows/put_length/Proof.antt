@@ -1,5 +1,5 @@
 -- `length_text::rows::put_length` meets its contract: a line where there is a path.
-use Rattle.model.proofs.Prelude.{ℕ, ◌≤◌, ◌∙◌, ap, List, length, arith, needs}
+use Rattle.model.proofs.Prelude.{ℕ, ◌≤◌, ◌∙◌, ap, List, length, arith, rules}
 use Rattle.text_line.specs.Lines.{text_of}
 use Rattle.text_line.proofs.DecimalLaws.{at-most-20}
 use Rattle.text_buffer.specs.Written.{plain_line}
@@ -33,4 +33,4 @@ returns-2 c =
 
 pub put_length_spec : {M : Type 1} → statement M
 put_length_spec =
-    tie.close (tie.spec returns (λ c κs. search needs) put-row-requires (λ c. search needs) returns-2)
+    tie.close (tie.spec returns (λ c κs. search rules) put-row-requires (λ c. search rules) returns-2)

@@ -1,5 +1,5 @@
 -- `length_text::rows::put_row` meets its contract: the line that was put together.
-use Rattle.model.proofs.Prelude.{ap, needs}
+use Rattle.model.proofs.Prelude.{ap, rules}
 use Rattle.text_buffer.specs.Written.{plain_line}
 use Rattle.text_buffer.proofs.WrittenLaws.{written_as}
 use Rattle.length_text.proofs.rows.put_row.Statement.{statement}
@@ -12,4 +12,4 @@ returns c =
     (written_as (ap plain_line at-line.row_Line.ensures) put.ensures.0, put.ensures.1)
 
 pub put_row_spec : {M : Type 1} → statement M
-put_row_spec = tie.close (tie.spec (λ c κs. search needs) (λ c κs. search needs) (λ c. search needs) returns)
+put_row_spec = tie.close (tie.spec (λ c κs. search rules) (λ c κs. search rules) (λ c. search rules) returns)

@@ -1,5 +1,5 @@
 -- `length_text::rows::put_rows` meets its contract. The invariant: the lines of the lengths below `i` are written, of at most 129 bytes each.
-use Rattle.model.proofs.Prelude.{◌≤◌, ◌+◌, ◌-◌, ◌*◌, ◌≡◌, ap, arith, needs}
+use Rattle.model.proofs.Prelude.{◌≤◌, ◌+◌, ◌-◌, ◌*◌, ◌≡◌, ap, arith, rules}
 use Rattle.text_buffer.specs.Written.{Written, each_below_of}
 use Rattle.text_buffer.proofs.WrittenLaws.{none_below, one-more-below, written_as, written-length}
 use Rattle.length_text.specs.LengthTable.{row_at}
@@ -48,10 +48,10 @@ put_rows_spec =
     invariant-loop
     decreases-loop
     loop-holds
-    (λ c. search needs) (λ c. search needs) (λ c. search needs) (λ c. search needs) (λ c. search needs)
-    (λ c. search needs)
+    (λ c. search rules) (λ c. search rules) (λ c. search rules) (λ c. search rules) (λ c. search rules)
+    (λ c. search rules)
     put-length-requires
-    (λ c. search needs) (λ c. search needs)
+    (λ c. search rules) (λ c. search rules)
     loop-again
     (λ c. written-length c.before.loop.invariant.2)
     returns)

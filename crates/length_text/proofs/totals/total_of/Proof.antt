@@ -1,5 +1,5 @@
 -- `length_text::totals::total_of` meets its contract. The invariant: the sum is that of the numbers before place `i`.
-use Rattle.model.proofs.Prelude.{◌≤◌, ◌-◌, ◌≡◌, take, arith, needs}
+use Rattle.model.proofs.Prelude.{◌≤◌, ◌-◌, ◌≡◌, take, arith, rules}
 use Rattle.model.specs.Base.{sum_of}
 use Rattle.length_text.specs.LengthTable.{capped}
 use Rattle.length_text.proofs.TotalLaws.{total-next, total-is}
@@ -32,6 +32,6 @@ total_of_spec =
     invariant-loop
     decreases-loop
     (λ c. (omega arith, omega arith))
-    (λ c. search needs) (λ c. search needs) (λ c κs. search needs) (λ c. search needs) (λ c. search needs)
+    (λ c. search rules) (λ c. search rules) (λ c κs. search rules) (λ c. search rules) (λ c. search rules)
     loop-again
     returns)

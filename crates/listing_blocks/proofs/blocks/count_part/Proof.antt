@@ -1,5 +1,5 @@
 -- `listing_blocks::blocks::count_part` meets its contract: the records of a block are read, marked and counted, and each end is one case.
-use Rattle.model.proofs.Prelude.{refl, arith, needs}
+use Rattle.model.proofs.Prelude.{refl, arith, rules}
 use Rattle.audit_block.proofs.VectorCases.{tests-tables, marked-ready}
 use Rattle.audit_block.proofs.BlockTakeCases.{block-some, block-few, read-ready}
 use Rattle.listing_blocks.proofs.PartCases.{part-fits, whole-bytes, part-ended, part-more}
@@ -97,7 +97,7 @@ add-lines c =
     omega (arith, (at_next.before.before.next-answer.ensures.some _ refused).0)
 
 enum_told : tie.Need-enum-told
-enum_told c = search needs
+enum_told c = search rules
 
 mul-used : tie.Need-overflow-mul-used
 mul-used c =
@@ -154,7 +154,7 @@ count_part_spec =
     count-block-requires
     record-length-requires
     mul-next-answer
-    (λ c κs. search needs) (λ c. search needs) (λ c κs. search needs) (λ c. search needs)
+    (λ c κs. search rules) (λ c. search rules) (λ c κs. search rules) (λ c. search rules)
     add-answers
     mul-answers
     array-write-answers
@@ -163,7 +163,7 @@ count_part_spec =
     add-lines
     enum_told
     mul-used
-    (λ c. search needs) (λ c. search needs) (λ c. search needs) (λ c. search needs)
+    (λ c. search rules) (λ c. search rules) (λ c. search rules) (λ c. search rules)
     returns
-    (λ c. search needs) (λ c. search needs) (λ c. search needs) (λ c. search needs)
+    (λ c. search rules) (λ c. search rules) (λ c. search rules) (λ c. search rules)
     returns-2)

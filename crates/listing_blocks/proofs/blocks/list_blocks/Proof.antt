@@ -1,17 +1,6 @@
 -- `listing_blocks::blocks::list_blocks` meets its contract. The invariant, `Listing`: the lines in the buffer, then those of the records that are left, give the whole.
-use Rattle.model.proofs.Prelude.{◌-◌, refl, length, arith, needs}
-use Rattle.listing_blocks.proofs.PieceSteps.{
-  Listing,
-  listing_start,
-  listing_ready,
-  listing_end,
-  listing_full,
-  block_within,
-  block_room,
-  block-places,
-  block-less,
-  listing_next,
-}
+use Rattle.model.proofs.Prelude.{◌-◌, refl, length, arith, rules}
+use Rattle.listing_blocks.proofs.PieceSteps.{Listing, listing_start, listing_ready, listing_end, listing_full, block_within, block_room, block-places, block-less, listing_next, }
 use Rattle.listing_blocks.proofs.blocks.list_blocks.Statement.{statement}
 use Rattle.listing_blocks.proofs.blocks.list_blocks.Tie as tie
 
@@ -83,14 +72,14 @@ list_blocks_spec =
     invariant-loop
     decreases-loop
     (λ c. listing_start c.before.before.before.before.requires refl refl)
-    (λ c. search needs) (λ c. search needs) (λ c. search needs) (λ c. search needs)
+    (λ c. search rules) (λ c. search rules) (λ c. search rules) (λ c. search rules)
     (λ c. listing_full c.before.before.loop.invariant c.if1.true)
-    (λ c. search needs) (λ c. search needs) (λ c. search needs) (λ c. search needs) (λ c. search needs)
+    (λ c. search rules) (λ c. search rules) (λ c. search rules) (λ c. search rules) (λ c. search rules)
     count-part-requires
     put-lines-requires
     add-place
     add-used
     loop-less
     loop-again
-    (λ c. search needs) (λ c. search needs) (λ c. search needs)
+    (λ c. search rules) (λ c. search rules) (λ c. search rules)
     (λ c. listing_end c.before.loop.invariant c.loop-test.false))

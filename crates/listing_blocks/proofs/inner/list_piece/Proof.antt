@@ -1,5 +1,5 @@
 -- `listing_blocks::inner::list_piece` meets its contract: the tables that are made are those of the netlist, and its blocks are listed with them.
-use Rattle.model.proofs.Prelude.{refl, needs}
+use Rattle.model.proofs.Prelude.{refl, rules}
 use Rattle.listing_blocks.proofs.PieceSteps.{piece-tables, piece-blocks, piece-listed}
 use Rattle.listing_blocks.proofs.inner.list_piece.Statement.{statement}
 use Rattle.listing_blocks.proofs.inner.list_piece.Tie as tie
@@ -28,5 +28,5 @@ list_piece_spec =
     (tie.spec
     fill-tables-requires
     list-blocks-requires
-    (λ c. search needs) (λ c. search needs) (λ c. search needs)
+    (λ c. search rules) (λ c. search rules) (λ c. search rules)
     returns)

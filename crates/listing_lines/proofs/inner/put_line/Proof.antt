@@ -1,5 +1,5 @@
 -- `listing_lines::inner::put_line` meets its contract: the place and a space, then two numbers or the refusal.
-use Rattle.model.proofs.Prelude.{arith, needs}
+use Rattle.model.proofs.Prelude.{arith, rules}
 use Rattle.text_line.proofs.DecimalLaws.{at-most-20}
 use Rattle.listing_lines.proofs.ListingLineLaws.{line_taken, line_refused}
 use Rattle.listing_lines.proofs.inner.put_line.Statement.{statement}
@@ -54,12 +54,12 @@ pub put_line_spec : {M : Type 1} → statement M
 put_line_spec =
     tie.close
     (tie.spec
-    (λ c κs. search needs) (λ c. search needs)
+    (λ c κs. search rules) (λ c. search rules)
     put-text-requires
     put-pair-requires
-    (λ c. search needs)
+    (λ c. search rules)
     returns
-    (λ c. search needs) (λ c. search needs)
+    (λ c. search rules) (λ c. search rules)
     put-numbered-requires
-    (λ c. search needs)
+    (λ c. search rules)
     returns-2)

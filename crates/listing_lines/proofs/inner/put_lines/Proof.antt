@@ -1,5 +1,5 @@
 -- `listing_lines::inner::put_lines` meets its contract. The invariant, `PuttingLines`: the lines of the first t answers are put.
-use Rattle.model.proofs.Prelude.{◌-◌, arith, needs}
+use Rattle.model.proofs.Prelude.{◌-◌, arith, rules}
 use Rattle.listing_lines.proofs.ListingLineLaws.{PuttingLines, lines_start, lines-most, lines_next, lines-done}
 use Rattle.listing_lines.proofs.inner.put_lines.Statement.{statement}
 use Rattle.listing_lines.proofs.inner.put_lines.Tie as tie
@@ -37,11 +37,11 @@ put_lines_spec =
     invariant-loop
     decreases-loop
     (λ c. lines_start _ _ _ _ _ (omega (arith, c.before.requires.1)))
-    (λ c. search needs) (λ c. search needs) (λ c. search needs) (λ c. search needs) (λ c. search needs)
-    (λ c. search needs) (λ c. search needs) (λ c. search needs)
+    (λ c. search rules) (λ c. search rules) (λ c. search rules) (λ c. search rules) (λ c. search rules)
+    (λ c. search rules) (λ c. search rules) (λ c. search rules)
     put-line-requires
     add-place
-    (λ c. search needs) (λ c. search needs)
+    (λ c. search rules) (λ c. search rules)
     loop-again
-    (λ c. search needs)
+    (λ c. search rules)
     (λ c. lines-done _ _ _ _ _ c.before.loop.invariant c.loop-test.false))

@@ -1,5 +1,5 @@
 -- `listing_lines::inner::put_pair` meets its contract: two numbers of at most 20 digits, a space between them and the end of the line.
-use Rattle.model.proofs.Prelude.{arith, needs}
+use Rattle.model.proofs.Prelude.{arith, rules}
 use Rattle.text_line.proofs.DecimalLaws.{at-most-20}
 use Rattle.listing_lines.proofs.ListingLineLaws.{pair_put}
 use Rattle.listing_lines.proofs.inner.put_pair.Statement.{statement}
@@ -46,10 +46,10 @@ pub put_pair_spec : {M : Type 1} → statement M
 put_pair_spec =
     tie.close
     (tie.spec
-    (λ c κs. search needs) (λ c. search needs)
+    (λ c κs. search rules) (λ c. search rules)
     put-text-requires
     put-number-requires-2
-    (λ c. search needs)
+    (λ c. search rules)
     put-text-requires-2
-    (λ c. search needs)
+    (λ c. search rules)
     returns)

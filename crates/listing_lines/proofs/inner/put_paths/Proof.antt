@@ -1,5 +1,5 @@
 -- `listing_lines::inner::put_paths` meets its contract: the word `paths` and a number.
-use Rattle.model.proofs.Prelude.{needs}
+use Rattle.model.proofs.Prelude.{rules}
 use Rattle.listing_lines.specs.ListingLines.{paths_line}
 use Rattle.listing_lines.proofs.inner.put_paths.Statement.{statement}
 use Rattle.listing_lines.proofs.inner.put_paths.Tie as tie
@@ -10,4 +10,4 @@ returns c = c.before.before.put-numbered.ensures.0
 
 pub put_paths_spec : {M : Type 1} → statement M
 put_paths_spec =
-    tie.close (tie.spec (λ c. search needs) (λ c. search needs) (λ c κs. search needs) (λ c. search needs) returns)
+    tie.close (tie.spec (λ c. search rules) (λ c. search rules) (λ c κs. search rules) (λ c. search rules) returns)

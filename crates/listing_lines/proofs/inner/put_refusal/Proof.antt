@@ -1,5 +1,5 @@
 -- `listing_lines::inner::put_refusal` meets its contract: the word `refused` and the number of the refusal.
-use Rattle.model.proofs.Prelude.{needs}
+use Rattle.model.proofs.Prelude.{rules}
 use Rattle.listing_lines.proofs.ListingLineLaws.{refusal-put}
 use Rattle.listing_lines.proofs.inner.put_refusal.Statement.{statement}
 use Rattle.listing_lines.proofs.inner.put_refusal.Tie as tie
@@ -18,6 +18,6 @@ pub put_refusal_spec : {M : Type 1} → statement M
 put_refusal_spec =
     tie.close
     (tie.spec
-    (λ c. search needs) (λ c κs. search needs) (λ c. search needs) (λ c. search needs) (λ c κs. search needs)
-    (λ c. search needs)
+    (λ c. search rules) (λ c κs. search rules) (λ c. search rules) (λ c. search rules) (λ c κs. search rules)
+    (λ c. search rules)
     returns)

@@ -1,6 +1,6 @@
 -- `listing_piece::inner::list_read` meets its contract. The invariant, `Reading`: what was written, what waits in the buffer, and the lines of the records that
 -- are left give the whole.
-use Rattle.model.proofs.Prelude.{◌-◌, length, needs}
+use Rattle.model.proofs.Prelude.{◌-◌, length, rules}
 use Rattle.listing_piece.proofs.ReadSteps.{Reading, reading_start, reading_ready, reading_end, more-inside, more_room, reading_next, reading_less}
 use Rattle.listing_piece.proofs.inner.list_read.Statement.{statement}
 use Rattle.listing_piece.proofs.inner.list_read.Tie as tie
@@ -54,5 +54,5 @@ list_read_spec =
     write-full-requires
     loop-less
     loop-again
-    (λ c. search needs) (λ c. search needs) (λ c. search needs)
+    (λ c. search rules) (λ c. search rules) (λ c. search rules)
     returns)

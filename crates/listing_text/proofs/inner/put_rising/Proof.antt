@@ -1,5 +1,5 @@
 -- `listing_text::inner::put_rising` meets its contract: a store's rising runs are those of the words that it hands out for that edge.
-use Rattle.model.proofs.Prelude.{needs}
+use Rattle.model.proofs.Prelude.{rules}
 use Rattle.listing_text.proofs.RunSteps.{edge-cases}
 use Rattle.listing_text.proofs.inner.put_rising.Statement.{statement}
 use Rattle.listing_text.proofs.inner.put_rising.Tie as tie
@@ -8,7 +8,7 @@ pub put_rising_spec : {M : Type 1} → statement M
 put_rising_spec =
     tie.close
     (tie.spec
-    (λ c. search needs) (λ c κs. search needs)
-    (λ c κs. (search needs, search edge-cases))
-    (λ c. search needs)
+    (λ c. search rules) (λ c κs. search rules)
+    (λ c κs. (search rules, search edge-cases))
+    (λ c. search rules)
     (λ c. (search edge-cases, search edge-cases)))

@@ -1,5 +1,5 @@
 -- `listing_text::inner::put_runs` meets its contract. The invariant: the lines that are left, written from here, give the whole, and there is room for them.
-use Rattle.model.proofs.Prelude.{ℕ, ◌≤◌, ◌+◌, ◌*◌, ◌/◌, ◌≡◌, ◌∙◌, ap, sym, List, length, sets, arith, needs}
+use Rattle.model.proofs.Prelude.{ℕ, ◌≤◌, ◌+◌, ◌*◌, ◌/◌, ◌≡◌, ◌∙◌, ap, sym, List, length, sets, arith, rules}
 use Rattle.text_buffer.proofs.WrittenLaws.{written-length}
 use Rattle.listing_text.proofs.RunSteps.{runs_left, run_length, runs-step, runs-bytes, runs-end}
 use Rattle.listing_text.proofs.inner.put_runs.Statement.{statement}
@@ -51,10 +51,10 @@ put_runs_spec =
     (tie.spec
     invariant-loop
     decreases-loop
-    (λ c. (search needs, search needs, search needs, search needs, search needs))
-    (λ c. search needs) (λ c. search needs) (λ c. search needs) (λ c. search needs) (λ c. search needs)
+    (λ c. (search rules, search rules, search rules, search rules, search rules))
+    (λ c. search rules) (λ c. search rules) (λ c. search rules) (λ c. search rules) (λ c. search rules)
     (λ c κs. omega arith)
-    (λ c. search needs) (λ c. search needs) (λ c. search needs)
+    (λ c. search rules) (λ c. search rules) (λ c. search rules)
     loop-again
-    (λ c. search needs)
+    (λ c. search rules)
     returns)

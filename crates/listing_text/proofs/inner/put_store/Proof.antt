@@ -1,5 +1,5 @@
 -- `listing_text::inner::put_store` meets its contract: the lines of the rising runs, then those of the falling ones, then the totals.
-use Rattle.model.proofs.Prelude.{needs}
+use Rattle.model.proofs.Prelude.{rules}
 use Rattle.listing_text.proofs.StoreTextLaws.{store-put}
 use Rattle.listing_text.proofs.inner.put_store.Statement.{statement}
 use Rattle.listing_text.proofs.inner.put_store.Tie as tie
@@ -13,4 +13,4 @@ returns c =
     store-put _ _ _ _ _ _ _ _ rising.ensures.0 falling.ensures.0 totals.ensures
 
 pub put_store_spec : {M : Type 1} → statement M
-put_store_spec = tie.close (tie.spec (λ c κs. search needs) (λ c κs. search needs) (λ c κs. search needs) (λ c. search needs) returns)
+put_store_spec = tie.close (tie.spec (λ c κs. search rules) (λ c κs. search rules) (λ c κs. search rules) (λ c. search rules) returns)

@@ -1,5 +1,5 @@
 -- `listing_text::inner::put_totals` meets its contract: the line of the rising faults, then that of the falling ones.
-use Rattle.model.proofs.Prelude.{arith, needs}
+use Rattle.model.proofs.Prelude.{arith, rules}
 use Rattle.text_buffer.proofs.WrittenLaws.{written-length}
 use Rattle.listing_text.proofs.StoreTextLaws.{totals-put}
 use Rattle.listing_text.proofs.inner.put_totals.Statement.{statement}
@@ -26,8 +26,8 @@ pub put_totals_spec : {M : Type 1} → statement M
 put_totals_spec =
     tie.close
     (tie.spec
-    (λ c κs. search needs) (λ c. search needs) (λ c. search needs) (λ c κs. search needs) (λ c. search needs)
-    (λ c. search needs)
+    (λ c κs. search rules) (λ c. search rules) (λ c. search rules) (λ c κs. search rules) (λ c. search rules)
+    (λ c. search rules)
     put-numbered-requires-2
-    (λ c. search needs)
+    (λ c. search rules)
     returns)

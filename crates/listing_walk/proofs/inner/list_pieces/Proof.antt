@@ -1,5 +1,5 @@
 -- `listing_walk::inner::list_pieces` meets its contract. The invariant, `ListedSoFar`: what was read so far is whole records, and they were listed.
-use Rattle.model.proofs.Prelude.{◌-◌, ◌≡◌, length, arith, needs}
+use Rattle.model.proofs.Prelude.{◌-◌, ◌≡◌, length, arith, rules}
 use Rattle.listing_walk.proofs.ListingCases.{ListedSoFar, list-inputs, listing-cases}
 use Rattle.listing_walk.proofs.inner.list_pieces.Statement.{statement}
 use Rattle.listing_walk.proofs.inner.list_pieces.Tie as tie
@@ -36,16 +36,16 @@ list_pieces_spec =
     invariant-loop
     decreases-loop
     record-length-requires
-    (λ c κs. search needs) (λ c κs. search needs) (λ c κs. search needs)
-    (λ c. (search listing-cases, search needs, search needs, search needs, search needs))
+    (λ c κs. search rules) (λ c κs. search rules) (λ c κs. search rules)
+    (λ c. (search listing-cases, search rules, search rules, search rules, search rules))
     (λ c κs. search listing-cases)
-    (λ c. search needs) (λ c. search needs)
+    (λ c. search rules) (λ c. search rules)
     (λ c κs. search listing-cases)
     add-so-far
-    (λ c κs. search needs) (λ c κs. search needs) (λ c. search needs) (λ c. search needs) (λ c. search needs)
-    (λ c. search needs)
+    (λ c κs. search rules) (λ c κs. search rules) (λ c. search rules) (λ c. search rules) (λ c. search rules)
+    (λ c. search rules)
     (λ c. search listing-cases)
-    (λ c κs. search needs) (λ c. search needs)
-    (λ c. (search listing-cases, search needs, search needs, search needs, search needs))
-    (λ c. search needs) (λ c. search needs) (λ c. search needs) (λ c. search needs)
+    (λ c κs. search rules) (λ c. search rules)
+    (λ c. (search listing-cases, search rules, search rules, search rules, search rules))
+    (λ c. search rules) (λ c. search rules) (λ c. search rules) (λ c. search rules)
     (λ c. search listing-cases))

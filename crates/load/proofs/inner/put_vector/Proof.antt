@@ -1,6 +1,6 @@
 -- `load::inner::put_vector` meets its contract. The invariant: what is written, and the records of the inputs that are left, written from here on, give
 -- the whole.
-use Rattle.model.proofs.Prelude.{◌-◌, ◌∙◌, needs}
+use Rattle.model.proofs.Prelude.{◌-◌, ◌∙◌, rules}
 use Rattle.load.proofs.VectorSteps.{Writing, write_last, write_next, write-cases}
 use Rattle.load.proofs.inner.put_vector.Statement.{statement}
 use Rattle.load.proofs.inner.put_vector.Tie as tie
@@ -46,16 +46,16 @@ put_vector_spec =
     (tie.spec
     invariant-loop
     decreases-loop
-    (λ c κs. search needs) (λ c κs. search needs) (λ c. search needs) (λ c. search needs)
+    (λ c κs. search rules) (λ c κs. search rules) (λ c. search rules) (λ c. search rules)
     (λ c. search write-cases)
-    (λ c κs. search needs) (λ c κs. search needs)
-    (λ c. search write-cases)
-    (λ c κs. search write-cases)
+    (λ c κs. search rules) (λ c κs. search rules)
     (λ c. search write-cases)
     (λ c κs. search write-cases)
-    (λ c. search needs)
     (λ c. search write-cases)
-    (λ c. search needs) (λ c. search needs)
+    (λ c κs. search write-cases)
+    (λ c. search rules)
+    (λ c. search write-cases)
+    (λ c. search rules) (λ c. search rules)
     loop-again
-    (λ c. search needs)
+    (λ c. search rules)
     returns)

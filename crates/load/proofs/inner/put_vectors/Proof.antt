@@ -1,6 +1,6 @@
 -- `load::inner::put_vectors` meets its contract. The invariant: what is written, and the records of the vectors that are left, drawn and written from
 -- here on, give the whole.
-use Rattle.model.proofs.Prelude.{needs}
+use Rattle.model.proofs.Prelude.{rules}
 use Rattle.load.proofs.LoadCallCases.{Gathering, gather-cases}
 use Rattle.load.proofs.inner.put_vectors.Statement.{statement}
 use Rattle.load.proofs.inner.put_vectors.Tie as tie
@@ -18,11 +18,11 @@ put_vectors_spec =
     (tie.spec
     invariant-loop
     decreases-loop
-    (λ c κs. search needs)
+    (λ c κs. search rules)
     (λ c. search gather-cases)
     (λ c κs. search gather-cases)
     (λ c. search gather-cases)
-    (λ c. search needs) (λ c. search needs)
+    (λ c. search rules) (λ c. search rules)
     (λ c. search gather-cases)
-    (λ c. search needs)
+    (λ c. search rules)
     (λ c. search gather-cases))

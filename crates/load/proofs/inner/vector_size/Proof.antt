@@ -1,5 +1,5 @@
 -- `load::inner::vector_size` meets its contract: at most 64 inputs of at most 36 bytes.
-use Rattle.model.proofs.Prelude.{refl, arith, needs}
+use Rattle.model.proofs.Prelude.{refl, arith, rules}
 use Rattle.load.proofs.SizeLaws.{size_small}
 use Rattle.load.proofs.inner.vector_size.Statement.{statement}
 use Rattle.load.proofs.inner.vector_size.Tie as tie
@@ -15,4 +15,4 @@ returns c =
 pub vector_size_spec : {M : Type 1} → statement M
 vector_size_spec =
     tie.close
-    (tie.spec (λ c κs. search needs) (λ c. search needs) (λ c. search needs) (λ c. search needs) mul-result-3 returns)
+    (tie.spec (λ c κs. search rules) (λ c. search rules) (λ c. search rules) (λ c. search rules) mul-result-3 returns)

@@ -1,5 +1,5 @@
 -- `load_records::inner::put_test` meets its contract: mark, V1 and V2, one after the other.
-use Rattle.model.proofs.Prelude.{needs}
+use Rattle.model.proofs.Prelude.{rules}
 use Rattle.load_records.proofs.TestPutLaws.{test-put-cases}
 use Rattle.load_records.proofs.inner.put_test.Statement.{statement}
 use Rattle.load_records.proofs.inner.put_test.Tie as tie
@@ -11,6 +11,6 @@ pub put_test_spec : {M : Type 1} → statement M
 put_test_spec =
     tie.close
     (tie.spec
-    (λ c κs. search needs) (λ c. search needs) (λ c κs. search needs) (λ c. search needs) (λ c. search needs)
-    (λ c κs. search needs) (λ c. search needs)
+    (λ c κs. search rules) (λ c. search rules) (λ c κs. search rules) (λ c. search rules) (λ c. search rules)
+    (λ c κs. search rules) (λ c. search rules)
     returns)

@@ -1,5 +1,5 @@
 -- `load_vectors::inner::draw_vector` meets its contract. The invariant: the values drawn so far, and those that are left to draw from here, give the vector.
-use Rattle.model.proofs.Prelude.{◌-◌, needs}
+use Rattle.model.proofs.Prelude.{◌-◌, rules}
 use Rattle.load_vectors.proofs.DrawSteps.{Drawing, draw-cases}
 use Rattle.load_vectors.proofs.inner.draw_vector.Statement.{statement}
 use Rattle.load_vectors.proofs.inner.draw_vector.Tie as tie
@@ -20,8 +20,8 @@ draw_vector_spec =
     invariant-loop
     decreases-loop
     (λ c. search draw-cases)
-    (λ c κs. search needs) (λ c κs. search needs)
+    (λ c κs. search rules) (λ c κs. search rules)
     (λ c. search draw-cases)
-    (λ c. search needs) (λ c. search needs)
+    (λ c. search rules) (λ c. search rules)
     loop-again
     (λ c. search draw-cases))

@@ -1,6 +1,6 @@
 -- `netlist_gates::inner::pin_sum` meets its contract: the sum so far and the sum over the pins that are left make the whole, and the test by
 -- subtraction keeps the sum so far at most 2^62.
-use Rattle.model.proofs.Prelude.{◌≤◌, ◌+◌, ◌*◌, ◌^◌, ◌≡◌, true, length, needs}
+use Rattle.model.proofs.Prelude.{◌≤◌, ◌+◌, ◌*◌, ◌^◌, ◌≡◌, true, length, rules}
 use Rattle.netlist_gates.specs.GateReading.{pins_lower_of, pin_sum_of}
 use Rattle.netlist_gates.proofs.PinSteps.{lower-first, lower-rest, sum-again, sum-stop, sum-end, sum_fits, two-lower-still, sum-as_two}
 use Rattle.netlist_gates.proofs.inner.pin_sum.Statement.{statement}
@@ -17,10 +17,10 @@ abbrev decreases-loop : tie.decreases-loop
 decreases-loop part pins counts left₀ at₀ sum₀ left at sum = left
 
 returns-2 : tie.Need-returns-2 invariant-loop decreases-loop
-returns-2 c = search (sum-stop, needs)
+returns-2 c = search (sum-stop, rules)
 
 loop-again : tie.Need-loop-preserved invariant-loop decreases-loop
-loop-again c = search (lower-rest, sum-again, needs)
+loop-again c = search (lower-rest, sum-again, rules)
 
 pub pin_sum_spec : {M : Type 1} → statement M
 pin_sum_spec =
@@ -28,12 +28,12 @@ pin_sum_spec =
     (tie.spec
     invariant-loop
     decreases-loop
-    (λ c κs. search (two-lower-still, needs))
-    (λ c. search (sum-as_two, needs))
-    (λ c. search needs) (λ c κs. search needs) (λ c. search needs)
-    (λ c. search (lower-first, needs))
-    (λ c. search needs)
+    (λ c κs. search (two-lower-still, rules))
+    (λ c. search (sum-as_two, rules))
+    (λ c. search rules) (λ c κs. search rules) (λ c. search rules)
+    (λ c. search (lower-first, rules))
+    (λ c. search rules)
     returns-2
-    (λ c. search needs) (λ c. search needs) (λ c. search needs) (λ c. search needs)
+    (λ c. search rules) (λ c. search rules) (λ c. search rules) (λ c. search rules)
     loop-again
-    (λ c. search (sum-end, sum_fits, needs)))
+    (λ c. search (sum-end, sum_fits, rules)))

@@ -1,5 +1,5 @@
 -- `netlist_gates::inner::pins_lower` meets its contract: whether the pins that are left are lower says it of all pins.
-use Rattle.model.proofs.Prelude.{◌≤◌, ◌+◌, ◌*◌, ◌≡◌, length, needs}
+use Rattle.model.proofs.Prelude.{◌≤◌, ◌+◌, ◌*◌, ◌≡◌, length, rules}
 use Rattle.netlist_gates.specs.GateReading.{pins_lower_of}
 use Rattle.netlist_gates.proofs.PinSteps.{lower-again, lower-stop, lower-end, lower-as_two}
 use Rattle.netlist_gates.proofs.inner.pins_lower.Statement.{statement}
@@ -18,10 +18,10 @@ pins_lower_spec =
     (tie.spec
     invariant-loop
     decreases-loop
-    (λ c κs. search needs)
-    (λ c. search (lower-as_two, needs))
-    (λ c. search needs) (λ c κs. search needs)
-    (λ c. search (lower-stop, needs))
-    (λ c. search needs) (λ c. search needs) (λ c. search needs)
-    (λ c. search (lower-again, needs))
-    (λ c. search (lower-end, needs)))
+    (λ c κs. search rules)
+    (λ c. search (lower-as_two, rules))
+    (λ c. search rules) (λ c κs. search rules)
+    (λ c. search (lower-stop, rules))
+    (λ c. search rules) (λ c. search rules) (λ c. search rules)
+    (λ c. search (lower-again, rules))
+    (λ c. search (lower-end, rules)))

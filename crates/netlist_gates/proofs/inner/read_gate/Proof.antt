@@ -1,5 +1,5 @@
 -- `netlist_gates::inner::read_gate` meets its contract: each return is a case of the gate, by what was read before it.
-use Rattle.model.proofs.Prelude.{needs}
+use Rattle.model.proofs.Prelude.{rules}
 use Rattle.netlist_gates.proofs.GateCases.{gate-cases, lower-more}
 use Rattle.netlist_gates.proofs.inner.read_gate.Statement.{statement}
 use Rattle.netlist_gates.proofs.inner.read_gate.Tie as tie
@@ -11,21 +11,21 @@ pub read_gate_spec : {M : Type 1} → statement M
 read_gate_spec =
     tie.close
     (tie.spec
-    (λ c κs. search needs)
+    (λ c κs. search rules)
     (λ c. search gate-cases)
     (λ c. search gate-cases)
-    (λ c κs. search needs)
+    (λ c κs. search rules)
     (λ c. search gate-cases)
-    (λ c κs. search needs)
+    (λ c κs. search rules)
     (λ c. search gate-cases)
     (λ c. search gate-cases)
-    (λ c κs. search needs)
+    (λ c κs. search rules)
     (λ c. search gate-cases)
-    (λ c. search needs) (λ c. search needs)
+    (λ c. search rules) (λ c. search rules)
     (λ c. search gate-cases)
-    (λ c κs. search needs)
+    (λ c κs. search rules)
     returns-6
     (λ c κs. search (lower-more, gate-cases))
-    (λ c. search needs) (λ c. search needs)
+    (λ c. search rules) (λ c. search rules)
     (λ c. search gate-cases)
     (λ c. search gate-cases))

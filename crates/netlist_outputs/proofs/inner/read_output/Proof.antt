@@ -1,5 +1,5 @@
 -- `netlist_outputs::inner::read_output` meets its contract: each return is a case of the output, by what was read before it.
-use Rattle.model.proofs.Prelude.{needs}
+use Rattle.model.proofs.Prelude.{rules}
 use Rattle.netlist_outputs.proofs.OutputCases.{output-cases}
 use Rattle.netlist_outputs.proofs.inner.read_output.Statement.{statement}
 use Rattle.netlist_outputs.proofs.inner.read_output.Tie as tie
@@ -14,12 +14,12 @@ pub read_output_spec : {M : Type 1} → statement M
 read_output_spec =
     tie.close
     (tie.spec
-    (λ c κs. search needs)
+    (λ c κs. search rules)
     (λ c. search output-cases)
     (λ c κs. search output-cases)
     (λ c. search output-cases)
     (λ c. search output-cases)
-    (λ c κs. search needs) (λ c. search needs)
+    (λ c κs. search rules) (λ c. search rules)
     returns-4
-    (λ c. search needs)
+    (λ c. search rules)
     returns-5)

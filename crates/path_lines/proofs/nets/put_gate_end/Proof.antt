@@ -1,5 +1,5 @@
 -- `path_lines::nets::put_gate_end` meets its contract: its parts, one after the other.
-use Rattle.model.proofs.Prelude.{needs}
+use Rattle.model.proofs.Prelude.{rules}
 use Rattle.path_lines.proofs.PartCases.{end-put}
 use Rattle.path_lines.proofs.nets.put_gate_end.Statement.{statement}
 use Rattle.path_lines.proofs.nets.put_gate_end.Tie as tie
@@ -15,12 +15,12 @@ returns c =
     let number = middle.before.before.before.before.before in
     let start = number.before.before.before.before in
     let put = end-put _ _ _ start.put-part.ensures.0 number.put-decimal.ensures.0 middle.put-part2.ensures.0 in
-    (put net.put-net.ensures.0 last.put-part3.ensures.0, search needs)
+    (put net.put-net.ensures.0 last.put-part3.ensures.0, search rules)
 
 pub put_gate_end_spec : {M : Type 1} → statement M
 put_gate_end_spec =
     tie.close
     (tie.spec
-    (λ c. search needs) (λ c κs. search needs) (λ c κs. search needs) (λ c. search needs) (λ c κs. search needs)
-    (λ c κs. search needs) (λ c. search needs) (λ c κs. search needs) (λ c. search needs)
+    (λ c. search rules) (λ c κs. search rules) (λ c κs. search rules) (λ c. search rules) (λ c κs. search rules)
+    (λ c κs. search rules) (λ c. search rules) (λ c κs. search rules) (λ c. search rules)
     returns)

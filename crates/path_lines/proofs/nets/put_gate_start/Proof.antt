@@ -1,5 +1,5 @@
 -- `path_lines::nets::put_gate_start` meets its contract: its parts, one after the other.
-use Rattle.model.proofs.Prelude.{needs}
+use Rattle.model.proofs.Prelude.{rules}
 use Rattle.path_lines.proofs.PartCases.{start-put}
 use Rattle.path_lines.proofs.nets.put_gate_start.Statement.{statement}
 use Rattle.path_lines.proofs.nets.put_gate_start.Tie as tie
@@ -13,12 +13,12 @@ returns c =
     let colon = kind.before.before.before.before in
     let net = colon.before.before.before.before.before in
     let start = net.before.before.before.before in
-    (start-put _ _ _ start.put-part.ensures.0 net.put-net.ensures.0 colon.put-part2.ensures.0 kind.put-kind.ensures.0, search needs)
+    (start-put _ _ _ start.put-part.ensures.0 net.put-net.ensures.0 colon.put-part2.ensures.0 kind.put-kind.ensures.0, search rules)
 
 pub put_gate_start_spec : {M : Type 1} → statement M
 put_gate_start_spec =
     tie.close
     (tie.spec
-    (λ c. search needs) (λ c κs. search needs) (λ c κs. search needs) (λ c. search needs) (λ c κs. search needs)
-    (λ c κs. search needs) (λ c. search needs)
+    (λ c. search rules) (λ c κs. search rules) (λ c κs. search rules) (λ c. search rules) (λ c κs. search rules)
+    (λ c κs. search rules) (λ c. search rules)
     returns)

@@ -1,5 +1,5 @@
 -- `path_lines::nets::put_in_brackets` meets its contract.
-use Rattle.model.proofs.Prelude.{needs}
+use Rattle.model.proofs.Prelude.{rules}
 use Rattle.path_lines.proofs.PartCases.{bracket-cases}
 use Rattle.path_lines.proofs.nets.put_in_brackets.Statement.{statement}
 use Rattle.path_lines.proofs.nets.put_in_brackets.Tie as tie
@@ -9,6 +9,6 @@ pub put_in_brackets_spec : {M : Type 1} → statement M
 put_in_brackets_spec =
     tie.close
     (tie.spec
-    (λ c. search needs) (λ c κs. search needs) (λ c κs. search needs) (λ c. search needs) (λ c κs. search needs)
-    (λ c. search needs)
+    (λ c. search rules) (λ c κs. search rules) (λ c κs. search rules) (λ c. search rules) (λ c κs. search rules)
+    (λ c. search rules)
     (λ c. search bracket-cases))

@@ -1,5 +1,5 @@
 -- `path_lines::nets::put_input` meets its contract: its parts, one after the other.
-use Rattle.model.proofs.Prelude.{needs}
+use Rattle.model.proofs.Prelude.{rules}
 use Rattle.path_lines.proofs.PartCases.{line-cases}
 use Rattle.path_lines.proofs.nets.put_input.Statement.{statement}
 use Rattle.path_lines.proofs.nets.put_input.Tie as tie
@@ -10,6 +10,6 @@ pub put_input_spec : {M : Type 1} → statement M
 put_input_spec =
     tie.close
     (tie.spec
-    (λ c. search needs) (λ c κs. search needs) (λ c κs. search needs) (λ c. search needs) (λ c κs. search needs)
-    (λ c. search needs)
+    (λ c. search rules) (λ c κs. search rules) (λ c κs. search rules) (λ c. search rules) (λ c κs. search rules)
+    (λ c. search rules)
     (λ c. search line-cases))

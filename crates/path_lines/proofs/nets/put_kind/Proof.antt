@@ -1,5 +1,5 @@
 -- `path_lines::nets::put_kind` meets its contract, kind by kind.
-use Rattle.model.proofs.Prelude.{needs}
+use Rattle.model.proofs.Prelude.{rules}
 use Rattle.path_lines.proofs.PartCases.{kind-cases}
 use Rattle.path_lines.proofs.nets.put_kind.Statement.{statement}
 use Rattle.path_lines.proofs.nets.put_kind.Tie as tie
@@ -12,22 +12,22 @@ pub put_kind_spec : {M : Type 1} → statement M
 put_kind_spec =
     tie.close
     (tie.spec
-    (λ c. search needs) (λ c κs. search needs) (λ c. search needs) (λ c κs. search needs) (λ c. search needs)
-    (λ c κs. search needs) (λ c. search needs) (λ c κs. search needs) (λ c. search needs) (λ c κs. search needs)
-    (λ c. search needs) (λ c κs. search needs) (λ c. search needs) (λ c κs. search needs) (λ c. search needs)
-    (λ c κs. search needs) (λ c. search needs)
+    (λ c. search rules) (λ c κs. search rules) (λ c. search rules) (λ c κs. search rules) (λ c. search rules)
+    (λ c κs. search rules) (λ c. search rules) (λ c κs. search rules) (λ c. search rules) (λ c κs. search rules)
+    (λ c. search rules) (λ c κs. search rules) (λ c. search rules) (λ c κs. search rules) (λ c. search rules)
+    (λ c κs. search rules) (λ c. search rules)
     (λ c. search kind-cases)
-    (λ c. search needs)
+    (λ c. search rules)
     (λ c. search kind-cases)
-    (λ c. search needs)
+    (λ c. search rules)
     returns-3
-    (λ c. search needs)
+    (λ c. search rules)
     (λ c. search kind-cases)
-    (λ c. search needs)
+    (λ c. search rules)
     (λ c. search kind-cases)
-    (λ c. search needs)
+    (λ c. search rules)
     (λ c. search kind-cases)
-    (λ c. search needs)
+    (λ c. search rules)
     (λ c. search kind-cases)
-    (λ c. search needs)
+    (λ c. search rules)
     (λ c. search kind-cases))

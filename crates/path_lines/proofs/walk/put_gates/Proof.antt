@@ -1,5 +1,5 @@
 -- `path_lines::walk::put_gates` meets its contract: what is put so far, with the lines of the gates that are left, is the whole.
-use Rattle.model.proofs.Prelude.{needs}
+use Rattle.model.proofs.Prelude.{rules}
 use Rattle.bench_net_names.specs.Table.{name_in_of}
 use Rattle.path_lines.proofs.WalkCases.{Walking, walk-cases, walk-place, walk-room, walk-kind-low, walk-kind-high}
 use Rattle.path_lines.proofs.walk.put_gates.Statement.{statement}
@@ -44,16 +44,16 @@ put_gates_spec =
     decreases-loop
     (λ c. search walk-cases)
     (λ c κs. search walk-cases)
-    (λ c. search needs) (λ c. search needs)
+    (λ c. search rules) (λ c. search rules)
     (λ c. search walk-cases)
-    (λ c κs. search needs)
+    (λ c κs. search rules)
     (λ c. search walk-cases)
-    (λ c κs. search needs)
+    (λ c κs. search rules)
     (λ c. search walk-cases)
     (λ c. search walk-cases)
     put-gate-requires
     pin-net-requires
-    (λ c. search needs)
+    (λ c. search rules)
     (λ c. search walk-cases)
     (λ c. search walk-cases)
     (λ c κs. search walk-cases)

@@ -1,5 +1,5 @@
 -- `path_lines::walk::put_walk` meets its contract: the output's line, then those of the gates.
-use Rattle.model.proofs.Prelude.{needs}
+use Rattle.model.proofs.Prelude.{rules}
 use Rattle.path_lines.proofs.WalkCases.{output-cases}
 use Rattle.path_lines.proofs.walk.put_walk.Statement.{statement}
 use Rattle.path_lines.proofs.walk.put_walk.Tie as tie
@@ -13,15 +13,15 @@ pub put_walk_spec : {M : Type 1} → statement M
 put_walk_spec =
     tie.close
     (tie.spec
-    (λ c. search needs) (λ c κs. search needs)
+    (λ c. search rules) (λ c κs. search rules)
     (λ c. search output-cases)
     (λ c κs. search output-cases)
-    (λ c. search needs)
+    (λ c. search rules)
     (λ c. search output-cases)
     (λ c. search output-cases)
-    (λ c. search needs)
+    (λ c. search rules)
     (λ c κs. search output-cases)
-    (λ c κs. search needs)
+    (λ c κs. search rules)
     (λ c κs. search output-cases)
-    (λ c. search needs)
+    (λ c. search rules)
     (λ c. search output-cases))

@@ -1,5 +1,5 @@
 -- `path_of_number::writing::write_path` meets its contract: output, pins and number of pins, over zeros, are the words of the path.
-use Rattle.model.proofs.Prelude.{needs}
+use Rattle.model.proofs.Prelude.{rules}
 use Rattle.path_of_number.proofs.PathWordLaws.{end-room, same-words}
 use Rattle.path_of_number.proofs.WritingCases.{writing-cases, picked_pin, end_back, end_fits}
 use Rattle.path_of_number.proofs.writing.write_path.Statement.{statement}
@@ -49,9 +49,9 @@ write_path_spec =
     (tie.spec
     (λ c κs. search writing-cases)
     (λ c κs. search writing-cases)
-    (λ c κs. search needs)
+    (λ c κs. search rules)
     cast-path
-    (λ c. search needs)
+    (λ c. search rules)
     (λ c κs. search writing-cases)
     sub-path
     cast-path-2

@@ -1,5 +1,5 @@
 -- `path_to_number::reading::read_path` meets its contract: each return is a case of the words.
-use Rattle.model.proofs.Prelude.{needs}
+use Rattle.model.proofs.Prelude.{rules}
 use Rattle.path_to_number.proofs.PathReadingCases.{reading-cases}
 use Rattle.path_to_number.proofs.reading.read_path.Statement.{statement}
 use Rattle.path_to_number.proofs.reading.read_path.Tie as tie
@@ -18,17 +18,17 @@ read_path_spec =
     tie.close
     (tie.spec
     returns
-    (λ c. search needs) (λ c κs. search needs) (λ c. search needs)
+    (λ c. search rules) (λ c κs. search rules) (λ c. search rules)
     returns-2
-    (λ c. search needs) (λ c κs. search needs)
+    (λ c. search rules) (λ c κs. search rules)
     returns-3
     (λ c κs. search reading-cases)
-    (λ c. search needs)
+    (λ c. search rules)
     (λ c. search reading-cases)
     (λ c. search reading-cases)
-    (λ c. search needs)
+    (λ c. search rules)
     (λ c κs. search reading-cases)
-    (λ c. search needs) (λ c. search needs) (λ c. search needs)
+    (λ c. search rules) (λ c. search rules) (λ c. search rules)
     (λ c κs. search reading-cases)
     (λ c. search reading-cases)
     (λ c κs. search reading-cases)

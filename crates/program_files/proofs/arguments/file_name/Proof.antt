@@ -1,5 +1,5 @@
 -- `program_files::arguments::file_name` meets its contract: an argument, or the usual name.
-use Rattle.model.proofs.Prelude.{needs}
+use Rattle.model.proofs.Prelude.{rules}
 use Rattle.program_files.proofs.NameLaws.{told-cases}
 use Rattle.program_files.proofs.arguments.file_name.Statement.{statement}
 use Rattle.program_files.proofs.arguments.file_name.Tie as tie
@@ -8,7 +8,7 @@ pub file_name_spec : {M : Type 1} → statement M
 file_name_spec =
     tie.close
     (tie.spec
-    (λ c κs. search needs) (λ c κs. search needs) (λ c. search needs)
-    (λ c. (search needs, search told-cases))
-    (λ c κs. search needs) (λ c. search needs)
-    (λ c. (search needs, search told-cases)))
+    (λ c κs. search rules) (λ c κs. search rules) (λ c. search rules)
+    (λ c. (search rules, search told-cases))
+    (λ c κs. search rules) (λ c. search rules)
+    (λ c. (search rules, search told-cases)))

@@ -1,5 +1,5 @@
 -- `program_files::arguments::is_argument` meets its contract: the argument is what was read to the space.
-use Rattle.model.proofs.Prelude.{arith, needs}
+use Rattle.model.proofs.Prelude.{arith, rules}
 use Rattle.program_files.proofs.TextLaws.{argument_told}
 use Rattle.program_files.proofs.arguments.is_argument.Statement.{statement}
 use Rattle.program_files.proofs.arguments.is_argument.Tie as tie
@@ -16,6 +16,6 @@ pub is_argument_spec : {M : Type 1} → statement M
 is_argument_spec =
     tie.close
     (tie.spec
-    (λ c κs. search needs) (λ c. search needs) (λ c κs. search needs) (λ c. search needs) (λ c. search needs)
-    (λ c κs. search needs)
+    (λ c κs. search rules) (λ c. search rules) (λ c κs. search rules) (λ c. search rules) (λ c. search rules)
+    (λ c κs. search rules)
     returns)

@@ -1,5 +1,5 @@
 -- `program_files::arguments::put_usual` meets its contract: the usual name is put at the start of the space, or does not fit it.
-use Rattle.model.proofs.Prelude.{needs}
+use Rattle.model.proofs.Prelude.{rules}
 use Rattle.program_files.proofs.NameLaws.{name-cases}
 use Rattle.program_files.proofs.arguments.put_usual.Statement.{statement}
 use Rattle.program_files.proofs.arguments.put_usual.Tie as tie
@@ -9,5 +9,5 @@ put_usual_spec =
     tie.close
     (tie.spec
     (λ c. search name-cases)
-    (λ c κs. search needs) (λ c. search needs)
+    (λ c κs. search rules) (λ c. search rules)
     (λ c. search name-cases))

@@ -1,5 +1,5 @@
 -- `program_files::same_text` meets its contract. The invariant: the texts are as long, and what is left to compare gives the whole answer.
-use Rattle.model.proofs.Prelude.{◌≤◌, ◌-◌, ◌≡◌, length, drop, needs}
+use Rattle.model.proofs.Prelude.{◌≤◌, ◌-◌, ◌≡◌, length, drop, rules}
 use Rattle.model.specs.Report.{same_bytes}
 use Rattle.program_files.proofs.TextLaws.{same_cases}
 use Rattle.program_files.proofs.arguments.same_text.Statement.{statement}
@@ -18,8 +18,8 @@ same_text_spec =
     invariant-loop
     decreases-loop
     (λ c. search same_cases)
-    (λ c. search needs) (λ c. search needs) (λ c. search needs)
+    (λ c. search rules) (λ c. search rules) (λ c. search rules)
     (λ c. search same_cases)
-    (λ c. search needs) (λ c. search needs)
+    (λ c. search rules) (λ c. search rules)
     (λ c. search same_cases)
     (λ c. search same_cases))

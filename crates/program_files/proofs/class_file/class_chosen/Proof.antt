@@ -1,5 +1,5 @@
 -- `program_files::class_file::class_chosen` meets its contract: each return is one case of a class file.
-use Rattle.model.proofs.Prelude.{needs}
+use Rattle.model.proofs.Prelude.{rules}
 use Rattle.program_files.proofs.ClassLaws.{Class-cases}
 use Rattle.program_files.proofs.class_file.class_chosen.Statement.{statement}
 use Rattle.program_files.proofs.class_file.class_chosen.Tie as tie
@@ -15,4 +15,4 @@ returns-4 c = search Class-cases
 
 pub class_chosen_spec : {M : Type 1} → statement M
 class_chosen_spec =
-    tie.close (tie.spec (λ c. search Class-cases) returns-2 (λ c. search needs) returns-3 returns-4 (λ c. search Class-cases))
+    tie.close (tie.spec (λ c. search Class-cases) returns-2 (λ c. search rules) returns-3 returns-4 (λ c. search Class-cases))

@@ -1,5 +1,5 @@
 -- `program_files::files::at_end` meets its contract: the numbers are those that the system gave.
-use Rattle.model.proofs.Prelude.{needs}
+use Rattle.model.proofs.Prelude.{rules}
 use mir.Syntax.{w64}
 use mir.Val.{to_z, of_z}
 use Rattle.program_files.proofs.JudgeLaws.{end-told}
@@ -16,5 +16,5 @@ pub at_end_spec : {M : Type 1} → statement M
 at_end_spec =
     tie.close
     (tie.spec
-    (λ c. search needs) (λ c κs. search needs) (λ c κs. search needs) (λ c κs. search needs)
+    (λ c. search rules) (λ c κs. search rules) (λ c κs. search rules) (λ c κs. search rules)
     returns)

@@ -1,5 +1,5 @@
 -- `program_files::files::close_file` meets its contract: missing, not opened, or read.
-use Rattle.model.proofs.Prelude.{needs}
+use Rattle.model.proofs.Prelude.{rules}
 use Rattle.program_files.proofs.JudgeLaws.{judged-unopened, judged-read}
 use Rattle.program_files.proofs.files.close_file.Statement.{statement}
 use Rattle.program_files.proofs.files.close_file.Tie as tie
@@ -29,8 +29,8 @@ pub close_file_spec : {M : Type 1} → statement M
 close_file_spec =
     tie.close
     (tie.spec
-    (λ c. search needs) (λ c κs. search needs)
+    (λ c. search rules) (λ c κs. search rules)
     returns-2
-    (λ c κs. search needs) (λ c κs. search needs) (λ c. search needs) (λ c κs. search needs)
+    (λ c κs. search rules) (λ c κs. search rules) (λ c. search rules) (λ c κs. search rules)
     returns-3
     returns-4)

@@ -1,5 +1,5 @@
 -- `program_sentences::line_from_outputs` meets its contract: in each arm of the match the case is known, and its sentence is the definition's; the last hands on the cases from 22 on.
-use Rattle.model.proofs.Prelude.{ap, ◌++◌, needs}
+use Rattle.model.proofs.Prelude.{ap, ◌++◌, rules}
 use denote.Enum.Declared.{tag_of}
 use Rattle.model.specs.contracts.Refusal as enum
 use Rattle.model_refusals.proofs.LaterTags.{tags_from}
@@ -17,13 +17,13 @@ pub line_from_outputs_spec : {M : Type 1} → statement M
 line_from_outputs_spec =
     tie.close
     (tie.spec
-    (λ c. search needs) (λ c. search needs) (λ c κs. search needs) (λ c. search needs) (λ c. search needs)
-    (λ c κs. search needs) (λ c. search needs) (λ c. search needs) (λ c κs. search needs) (λ c. search needs)
-    (λ c. search needs) (λ c κs. search needs) (λ c. search needs) (λ c. search needs) (λ c κs. search needs)
-    (λ c. search needs) (λ c. search needs) (λ c κs. search needs) (λ c. search needs) (λ c. search needs)
-    (λ c κs. search needs) (λ c. search needs) (λ c. search needs) (λ c κs. search needs) (λ c. search needs)
-    (λ c. search needs) (λ c κs. search needs) (λ c. search needs) (λ c. search needs) (λ c κs. search needs)
-    (λ c. search needs) (λ c. search needs) (λ c κs. search needs) (λ c κs. search needs)
+    (λ c. search rules) (λ c. search rules) (λ c κs. search rules) (λ c. search rules) (λ c. search rules)
+    (λ c κs. search rules) (λ c. search rules) (λ c. search rules) (λ c κs. search rules) (λ c. search rules)
+    (λ c. search rules) (λ c κs. search rules) (λ c. search rules) (λ c. search rules) (λ c κs. search rules)
+    (λ c. search rules) (λ c. search rules) (λ c κs. search rules) (λ c. search rules) (λ c. search rules)
+    (λ c κs. search rules) (λ c. search rules) (λ c. search rules) (λ c κs. search rules) (λ c. search rules)
+    (λ c. search rules) (λ c κs. search rules) (λ c. search rules) (λ c. search rules) (λ c κs. search rules)
+    (λ c. search rules) (λ c. search rules) (λ c κs. search rules) (λ c κs. search rules)
     (λ c. λ t. said _ _ _ c.alone.ensures tt (ap condition_text c.before.before.enum_told.given.1))
     (λ c. λ t. said _ _ _ c.alone2.ensures tt (ap condition_text c.before.before.enum-told2.given.1))
     (λ c. λ t. said _ _ _ c.alone3.ensures tt (ap condition_text c.before.before.enum-told3.given.1))

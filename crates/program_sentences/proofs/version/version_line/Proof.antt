@@ -1,5 +1,5 @@
 -- `program_sentences::version::version_line` meets its contract: the text has room on a line.
-use Rattle.model.proofs.Prelude.{refl, needs}
+use Rattle.model.proofs.Prelude.{refl, rules}
 use Rattle.program_sentences.proofs.ConditionLaws.{said}
 use Rattle.program_sentences.proofs.version.version_line.Statement.{statement}
 use Rattle.program_sentences.proofs.version.version_line.Tie as tie
@@ -8,4 +8,4 @@ returns : tie.Need-returns
 returns c = said _ _ _ c.alone.ensures tt refl
 
 pub version_line_spec : {M : Type 1} → statement M
-version_line_spec = tie.close (tie.spec (λ c. search needs) (λ c κs. search needs) returns)
+version_line_spec = tie.close (tie.spec (λ c. search rules) (λ c κs. search rules) returns)

@@ -1,5 +1,5 @@
 -- `record_test::inner::read_vectors` meets its contract: each word has the bits of its part of the record.
-use Rattle.model.proofs.Prelude.{arith, needs}
+use Rattle.model.proofs.Prelude.{arith, rules}
 use Rattle.record_test.proofs.RecordCases.{vectors-true}
 use Rattle.record_test.proofs.inner.read_vectors.Statement.{statement}
 use Rattle.record_test.proofs.inner.read_vectors.Tie as tie
@@ -15,6 +15,6 @@ pub read_vectors_spec : {M : Type 1} → statement M
 read_vectors_spec =
     tie.close
     (tie.spec
-    (λ c κs. search needs) (λ c. search needs) (λ c. search needs) (λ c. search needs) (λ c κs. search needs)
-    (λ c. search needs) (λ c. search needs) (λ c. search needs) (λ c. search needs) (λ c κs. search needs)
+    (λ c κs. search rules) (λ c. search rules) (λ c. search rules) (λ c. search rules) (λ c κs. search rules)
+    (λ c. search rules) (λ c. search rules) (λ c. search rules) (λ c. search rules) (λ c κs. search rules)
     returns)

@@ -1,5 +1,5 @@
 -- `record_test::inner::some_change` meets its contract. The loop's invariant: the bytes before k are equal.
-use Rattle.model.proofs.Prelude.{◌≤◌, ◌-◌, arith, needs}
+use Rattle.model.proofs.Prelude.{◌≤◌, ◌-◌, arith, rules}
 use Rattle.record_test.proofs.ChangeLaws.{EqualBefore, equal-more, no_change, changed-byte}
 use Rattle.record_test.proofs.inner.some_change.Statement.{statement}
 use Rattle.record_test.proofs.inner.some_change.Tie as tie
@@ -23,7 +23,7 @@ loop-again : tie.Need-loop-preserved invariant-loop decreases-loop
 loop-again c =
     let start = c.before.before.before.before.before.before.before.before in
     let l = c.before.before.before.before.loop in
-    (search needs, equal-more start.args.v1.now start.args.v2.now l.k l.invariant.1 c.if1.false)
+    (search rules, equal-more start.args.v1.now start.args.v2.now l.k l.invariant.1 c.if1.false)
 
 returns-2 : tie.Need-returns-2 invariant-loop decreases-loop
 returns-2 c =
@@ -38,10 +38,10 @@ some_change_spec =
     (tie.spec
     invariant-loop
     decreases-loop
-    (λ c κs. search needs)
+    (λ c κs. search rules)
     (λ c. (omega arith, λ i h. absurd (omega arith)))
-    (λ c. search needs) (λ c. search needs)
+    (λ c. search rules) (λ c. search rules)
     returns
-    (λ c. search needs) (λ c. search needs)
+    (λ c. search rules) (λ c. search rules)
     loop-again
     returns-2)

@@ -1,5 +1,5 @@
 -- `record_test::inner::word_of` meets its contract. The loop's invariant: the bytes from k on are read.
-use Rattle.model.proofs.Prelude.{arith, needs}
+use Rattle.model.proofs.Prelude.{arith, rules}
 use Rattle.record_test.proofs.RecordCases.{Reading, read-start, read-room, read_step, read_done}
 use Rattle.record_test.proofs.inner.word_of.Statement.{statement}
 use Rattle.record_test.proofs.inner.word_of.Tie as tie
@@ -30,7 +30,7 @@ loop-again c =
 returns : tie.Need-returns invariant-loop decreases-loop
 returns c =
     let a = c.before.before.before in
-    read_done a.requires.0 a.requires.1 c.before.loop.invariant (search needs)
+    read_done a.requires.0 a.requires.1 c.before.loop.invariant (search rules)
 
 pub word_of_spec : {M : Type 1} → statement M
 word_of_spec =
@@ -39,11 +39,11 @@ word_of_spec =
     invariant-loop
     decreases-loop
     (λ c. read-start c.before.args.part.now c.before.args.bytes)
-    (λ c. search needs)
+    (λ c. search rules)
     mul-word
     (λ c. omega (arith, c.before.before.loop.invariant.within, c.before.before.before.before.requires.1))
-    (λ c κs. search needs)
+    (λ c κs. search rules)
     add-word
-    (λ c. search needs)
+    (λ c. search rules)
     loop-again
     returns)

@@ -1,5 +1,5 @@
 -- `report::inner::same_report` meets its contract: the first part that differs decides.
-use Rattle.model.proofs.Prelude.{arith, needs}
+use Rattle.model.proofs.Prelude.{arith, rules}
 use Rattle.model.specs.Path.{rising, falling}
 use Rattle.report.proofs.ReportPartLaws.{edge_few}
 use Rattle.report.proofs.ReportCases.{report-cases}
@@ -18,13 +18,13 @@ pub same_report_spec : {M : Type 1} → statement M
 same_report_spec =
     tie.close
     (tie.spec
-    (λ c κs. search needs) (λ c κs. search needs) (λ c κs. search needs) (λ c. search needs) (λ c. search needs)
-    (λ c. search needs)
+    (λ c κs. search rules) (λ c κs. search rules) (λ c κs. search rules) (λ c. search rules) (λ c. search rules)
+    (λ c. search rules)
     add-if1
     (λ c. search report-cases)
-    (λ c κs. search needs)
+    (λ c κs. search rules)
     (λ c. search report-cases)
-    (λ c κs. search needs)
+    (λ c κs. search rules)
     (λ c. search report-cases)
-    (λ c κs. search needs)
+    (λ c κs. search rules)
     returns-4)

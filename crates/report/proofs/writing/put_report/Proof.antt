@@ -1,5 +1,5 @@
 -- `report::writing::put_report` meets its contract: the head, then the words of both edges' runs.
-use Rattle.model.proofs.Prelude.{needs}
+use Rattle.model.proofs.Prelude.{rules}
 use Rattle.report.proofs.WriterCases.{report-put, put-report-cases}
 use Rattle.report.proofs.writing.put_report.Statement.{statement}
 use Rattle.report.proofs.writing.put_report.Tie as tie
@@ -24,11 +24,11 @@ pub put_report_spec : {M : Type 1} → statement M
 put_report_spec =
     tie.close
     (tie.spec
-    (λ c κs. search needs) (λ c κs. search needs) (λ c κs. search needs) (λ c κs. search needs) (λ c. search needs)
-    (λ c. search needs)
+    (λ c κs. search rules) (λ c κs. search rules) (λ c κs. search rules) (λ c κs. search rules) (λ c. search rules)
+    (λ c. search rules)
     (λ c κs. search put-report-cases)
     put-words-requires-2
-    (λ c. search needs)
+    (λ c. search rules)
     (λ c. search put-report-cases)
-    (λ c. search needs)
+    (λ c. search rules)
     returns)

@@ -1,5 +1,5 @@
 -- `report_runs::inner::head_of` meets its contract: each field is read at its place.
-use Rattle.model.proofs.Prelude.{needs}
+use Rattle.model.proofs.Prelude.{rules}
 use Rattle.report_runs.proofs.EightByteLaws.{head_read}
 use Rattle.report_runs.proofs.inner.head_of.Statement.{statement}
 use Rattle.report_runs.proofs.inner.head_of.Tie as tie
@@ -18,6 +18,6 @@ pub head_of_spec : {M : Type 1} → statement M
 head_of_spec =
     tie.close
     (tie.spec
-    (λ c κs. search needs) (λ c. search needs) (λ c κs. search needs) (λ c. search needs) (λ c. search needs)
-    (λ c κs. search needs) (λ c κs. search needs) (λ c κs. search needs) (λ c κs. search needs) (λ c κs. search needs)
+    (λ c κs. search rules) (λ c. search rules) (λ c κs. search rules) (λ c. search rules) (λ c. search rules)
+    (λ c κs. search rules) (λ c κs. search rules) (λ c κs. search rules) (λ c κs. search rules) (λ c κs. search rules)
     returns)

@@ -1,5 +1,5 @@
 -- `report_runs::inner::runs_from` meets its contract: the part lies within the report.
-use Rattle.model.proofs.Prelude.{ℕ, ◌+◌, ◌-◌, ◌*◌, ◌≡◌, ◌∙◌, ap, drop, take, arith, needs}
+use Rattle.model.proofs.Prelude.{ℕ, ◌+◌, ◌-◌, ◌*◌, ◌≡◌, ◌∙◌, ap, drop, take, arith, rules}
 use Rattle.report_runs.proofs.inner.runs_from.Statement.{statement}
 use Rattle.report_runs.proofs.inner.runs_from.Tie as tie
 
@@ -14,6 +14,6 @@ pub runs_from_spec : {M : Type 1} → statement M
 runs_from_spec =
     tie.close
     (tie.spec
-    (λ c. search needs) (λ c κs. search needs) (λ c. search needs) (λ c. search needs) (λ c. search needs)
-    (λ c. search needs) (λ c. search needs)
+    (λ c. search rules) (λ c κs. search rules) (λ c. search rules) (λ c. search rules) (λ c. search rules)
+    (λ c. search rules) (λ c. search rules)
     returns)

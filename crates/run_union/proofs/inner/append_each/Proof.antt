@@ -1,5 +1,5 @@
 -- `run_union::inner::append_each` meets its contract: what is added so far and the runs that are left, shifted, make the total.
-use Rattle.model.proofs.Prelude.{◌-◌, needs}
+use Rattle.model.proofs.Prelude.{◌-◌, rules}
 use Rattle.run_union.proofs.EachSteps.{Shifting, shifting_start, shifting_room, shifting_run, shifting_full, shifting_more, shifting_end}
 use Rattle.run_union.proofs.inner.append_each.Statement.{statement}
 use Rattle.run_union.proofs.inner.append_each.Tie as tie
@@ -16,11 +16,11 @@ append_each_spec =
     (tie.spec
     invariant-loop
     decreases-loop
-    (λ c. search (shifting_start, needs))
-    (λ c κs. (search (shifting_room, needs), (search needs, search (shifting_run, needs))))
-    (λ c. search needs) (λ c. search needs) (λ c. search needs)
-    (λ c. search (shifting_full, needs))
-    (λ c. search needs) (λ c. search needs)
-    (λ c. search (shifting_more, needs))
-    (λ c. search needs)
-    (λ c. search (shifting_end, needs)))
+    (λ c. search (shifting_start, rules))
+    (λ c κs. (search (shifting_room, rules), (search rules, search (shifting_run, rules))))
+    (λ c. search rules) (λ c. search rules) (λ c. search rules)
+    (λ c. search (shifting_full, rules))
+    (λ c. search rules) (λ c. search rules)
+    (λ c. search (shifting_more, rules))
+    (λ c. search rules)
+    (λ c. search (shifting_end, rules)))

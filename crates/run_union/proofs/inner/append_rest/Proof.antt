@@ -1,5 +1,5 @@
 -- `run_union::inner::append_rest` meets its contract: runs that begin apart from the list are placed, others added one by one.
-use Rattle.model.proofs.Prelude.{needs}
+use Rattle.model.proofs.Prelude.{rules}
 use Rattle.run_union.proofs.ShiftedCases.{nothing-more, first_run, placed-room, placed}
 use Rattle.run_union.proofs.inner.append_rest.Statement.{statement}
 use Rattle.run_union.proofs.inner.append_rest.Tie as tie
@@ -8,9 +8,9 @@ pub append_rest_spec : {M : Type 1} → statement M
 append_rest_spec =
     tie.close
     (tie.spec
-    (λ c. search (nothing-more, needs))
-    (λ c κs. search (first_run, needs))
-    (λ c κs. search needs) (λ c. search needs) (λ c. search needs) (λ c. search needs)
-    (λ c κs. ((search needs, search needs, search (placed-room, needs), search needs), search needs))
-    (λ c. search needs) (λ c. search needs) (λ c. search needs)
-    (λ c. search (placed, needs)))
+    (λ c. search (nothing-more, rules))
+    (λ c κs. search (first_run, rules))
+    (λ c κs. search rules) (λ c. search rules) (λ c. search rules) (λ c. search rules)
+    (λ c κs. ((search rules, search rules, search (placed-room, rules), search rules), search rules))
+    (λ c. search rules) (λ c. search rules) (λ c. search rules)
+    (λ c. search (placed, rules)))

@@ -1,5 +1,5 @@
 -- `run_union::inner::copy` meets its contract: the words are those with the runs copied so far written.
-use Rattle.model.proofs.Prelude.{◌≤◌, ◌-◌, ◌≡◌, refl, length, length-set, arith, needs}
+use Rattle.model.proofs.Prelude.{◌≤◌, ◌-◌, ◌≡◌, refl, length, length-set, arith, rules}
 use Rattle.run_lists.specs.RunLists.{runs_in_words, write_runs_of}
 use Rattle.run_union.proofs.CopySteps.{copy_more, copy_end}
 use Rattle.run_union.proofs.inner.copy.Statement.{statement}
@@ -18,11 +18,11 @@ copy_spec =
     invariant-loop
     decreases-loop
     (λ c. (omega arith, refl, refl))
-    (λ c. search needs) (λ c. search needs) (λ c. search needs) (λ c. search needs) (λ c. search needs)
-    (λ c. search needs) (λ c. search needs) (λ c. search needs) (λ c. search needs) (λ c. search needs)
-    (λ c. search needs) (λ c. search needs) (λ c. search needs)
+    (λ c. search rules) (λ c. search rules) (λ c. search rules) (λ c. search rules) (λ c. search rules)
+    (λ c. search rules) (λ c. search rules) (λ c. search rules) (λ c. search rules) (λ c. search rules)
+    (λ c. search rules) (λ c. search rules) (λ c. search rules)
     (λ c. simp length-set (omega arith))
-    (λ c. search needs) (λ c. search needs)
+    (λ c. search rules) (λ c. search rules)
     (λ c. (omega arith, simp length-set c.before.before.before.loop.invariant.1, search copy_more))
     (λ c. c.before.loop.invariant.1)
-    (λ c. search (copy_end, needs)))
+    (λ c. search (copy_end, rules)))

@@ -1,5 +1,5 @@
 -- `run_union::inner::place_shifted` meets its contract: the words are those with the runs placed so far written.
-use Rattle.model.proofs.Prelude.{◌-◌, length-set, arith, needs}
+use Rattle.model.proofs.Prelude.{◌-◌, length-set, arith, rules}
 use Rattle.run_union.proofs.PlacingSteps.{Placing, placing_start, placing_low, placing_high, placing_more, placing_end}
 use Rattle.run_union.proofs.inner.place_shifted.Statement.{statement}
 use Rattle.run_union.proofs.inner.place_shifted.Tie as tie
@@ -16,15 +16,15 @@ place_shifted_spec =
     (tie.spec
     invariant-loop
     decreases-loop
-    (λ c. search (placing_start, needs))
-    (λ c. search needs) (λ c. search needs) (λ c. search needs)
-    (λ c. search (placing_low, needs))
-    (λ c. search needs) (λ c. search needs) (λ c. search needs) (λ c. search needs)
-    (λ c. search (placing_high, needs))
-    (λ c. search needs) (λ c. search needs) (λ c. search needs) (λ c. search needs) (λ c. search needs)
-    (λ c. search needs)
+    (λ c. search (placing_start, rules))
+    (λ c. search rules) (λ c. search rules) (λ c. search rules)
+    (λ c. search (placing_low, rules))
+    (λ c. search rules) (λ c. search rules) (λ c. search rules) (λ c. search rules)
+    (λ c. search (placing_high, rules))
+    (λ c. search rules) (λ c. search rules) (λ c. search rules) (λ c. search rules) (λ c. search rules)
+    (λ c. search rules)
     (λ c. simp length-set (omega arith))
-    (λ c. search needs) (λ c. search needs) (λ c. search needs)
-    (λ c. search (placing_more, needs))
-    (λ c. search needs)
-    (λ c. search (placing_end, needs)))
+    (λ c. search rules) (λ c. search rules) (λ c. search rules)
+    (λ c. search (placing_more, rules))
+    (λ c. search rules)
+    (λ c. search (placing_end, rules)))

@@ -1,5 +1,5 @@
 -- `single_intervals::inner::detected_runs` meets its contract: the runs of the inputs, of the gates' nets, then of the detected numbers, and none without an edge.
-use Rattle.model.proofs.Prelude.{refl, arith, needs}
+use Rattle.model.proofs.Prelude.{refl, arith, rules}
 use Rattle.netlist.proofs.TableLaws.{few-inputs}
 use Rattle.single_intervals.proofs.EdgeLaws.{edge-cases, edge-full}
 use Rattle.single_intervals.proofs.inner.detected_runs.Statement.{statement}
@@ -23,10 +23,10 @@ detected_runs_spec =
     (λ c. search edge-cases)
     input-runs-requires
     (λ c κs. search edge-cases)
-    (λ c. search needs)
+    (λ c. search rules)
     (λ c κs. search edge-cases)
     (λ c κs. search edge-cases)
-    (λ c. search needs) (λ c. search needs)
+    (λ c. search rules) (λ c. search rules)
     (λ c. search edge-cases)
-    (λ c. search needs)
+    (λ c. search rules)
     returns-3)

@@ -1,5 +1,5 @@
 -- `single_intervals::nets::net_runs` meets its contract: the runs of the nets so far stand in the words.
-use Rattle.model.proofs.Prelude.{◌-◌, ◌≡◌, length, needs}
+use Rattle.model.proofs.Prelude.{◌-◌, ◌≡◌, length, rules}
 use Rattle.single_intervals.proofs.NetSteps.{NetsDone, gate-cases, nets-more}
 use Rattle.single_intervals.proofs.nets.net_runs.Statement.{statement}
 use Rattle.single_intervals.proofs.nets.net_runs.Tie as tie
@@ -16,7 +16,7 @@ loop-again c =
     let call = c.before.before.before.before.before in
     let at = call.before.before.before.before in (
       nets-more at.before.before.before.loop.invariant.0 at.before.if1.true at.gate-part.ensures call.add-gate.ensures c.before.c.given.1,
-      search needs,
+      search rules,
     )
 
 pub net_runs_spec : {M : Type 1} → statement M
@@ -25,7 +25,7 @@ net_runs_spec =
     (tie.spec
     invariant-loop
     decreases-loop
-    (λ c. (search gate-cases, search needs))
+    (λ c. (search gate-cases, search rules))
     (λ c κs. search gate-cases)
     (λ c. search gate-cases)
     (λ c κs. search gate-cases)

@@ -1,5 +1,5 @@
 -- `single_stage::inner::apply_legal` meets its contract: the record's vectors give the open pins and the edges that the place Work takes.
-use Rattle.model.proofs.Prelude.{needs}
+use Rattle.model.proofs.Prelude.{rules}
 use Rattle.single_stage.proofs.LegalStageLaws.{legal-inputs, legal-length, legal-circuit, legal-work, legal-taken}
 use Rattle.single_stage.proofs.inner.apply_legal.Statement.{statement}
 use Rattle.single_stage.proofs.inner.apply_legal.Tie as tie
@@ -24,8 +24,8 @@ apply_legal_spec =
     tie.close
     (tie.spec
     (λ c κs. let ready = c.before.before.before.before.requires in (legal-inputs ready, legal-length ready))
-    (λ c κs. search (legal-circuit, needs))
-    (λ c κs. search needs)
+    (λ c κs. search (legal-circuit, rules))
+    (λ c κs. search rules)
     work-on-requires
-    (λ c. search needs) (λ c. search needs)
+    (λ c. search rules) (λ c. search rules)
     returns)

@@ -1,5 +1,5 @@
 -- `single_stage::inner::cover_both` meets its contract: the runs made of the rising edge stay while the falling edge is covered.
-use Rattle.model.proofs.Prelude.{◌∙◌, refl, arith, needs}
+use Rattle.model.proofs.Prelude.{◌∙◌, refl, arith, rules}
 use Rattle.model.specs.Path.{rising, falling}
 use Rattle.single_stage.proofs.BothEdgeLaws.{work-few, some-edge, join_ready, both-covered}
 use Rattle.single_stage.proofs.inner.cover_both.Statement.{statement}
@@ -48,10 +48,10 @@ cover_both_spec =
     tie.close
     (tie.spec
     (λ c κs. some-edge c.before.before.before.before.requires rising refl)
-    (λ c κs. search (work-few, needs))
+    (λ c κs. search (work-few, rules))
     join-edge-requires
     detected-runs-requires-2
-    (λ c κs. search (work-few, needs))
+    (λ c κs. search (work-few, rules))
     join-edge-requires-2
-    (λ c κs. search needs) (λ c. search needs)
+    (λ c κs. search rules) (λ c. search rules)
     returns)

@@ -1,11 +1,11 @@
 -- `store_coverage::inner::count_answer` meets its contract: the store is sound after a stage that passed, and what is new is the difference of its totals.
-use Rattle.model.proofs.Prelude.{needs}
+use Rattle.model.proofs.Prelude.{rules}
 use Rattle.store_coverage.proofs.TestCallLaws.{count-refused, after-sound, more-rising, more-falling, count-taken}
 use Rattle.store_coverage.proofs.inner.count_answer.Statement.{statement}
 use Rattle.store_coverage.proofs.inner.count_answer.Tie as tie
 
 enum_told : tie.Need-enum-told
-enum_told c = search needs
+enum_told c = search rules
 
 sub-t7 : tie.Need-overflow-sub-t7
 sub-t7 c =
@@ -28,7 +28,7 @@ pub count_answer_spec : {M : Type 1} → statement M
 count_answer_spec =
     tie.close
     (tie.spec
-    (λ c. search needs)
+    (λ c. search rules)
     enum_told
     (λ c κs. after-sound c.before.before.before.requires.counting c.enum_told.given.1)
     sub-t7

@@ -1,6 +1,6 @@
 -- `store_coverage::inner::write_both` meets its contract: where one more test can be counted and both edges fit the store is written, edge by edge, and the
 -- test counted.
-use Rattle.model.proofs.Prelude.{needs}
+use Rattle.model.proofs.Prelude.{rules}
 use Rattle.store_coverage.proofs.WorkLaws.{write-cases, write_counts}
 use Rattle.store_coverage.proofs.inner.write_both.Statement.{statement}
 use Rattle.store_coverage.proofs.inner.write_both.Tie as tie
@@ -29,20 +29,20 @@ pub write_both_spec : {M : Type 1} → statement M
 write_both_spec =
     tie.close
     (tie.spec
-    (λ c. search needs)
+    (λ c. search rules)
     (λ c κs. search write-cases)
-    (λ c. search needs)
+    (λ c. search rules)
     returns
     (λ c κs. search write-cases)
     write-runs-requires-2
     count-test-requires
-    (λ c. search needs)
+    (λ c. search rules)
     (λ c κs. search write-cases)
-    (λ c. search needs)
+    (λ c. search rules)
     (λ c κs. search write-cases)
-    (λ c. search needs)
+    (λ c. search rules)
     returns-2
-    (λ c. search needs)
+    (λ c. search rules)
     (λ c. search write-cases)
-    (λ c. search needs)
+    (λ c. search rules)
     (λ c. search write-cases))

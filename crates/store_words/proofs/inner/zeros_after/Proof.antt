@@ -1,5 +1,5 @@
 -- `store_words::inner::zeros_after` meets its contract: the test of the rising places decides, or that of the falling places does.
-use Rattle.model.proofs.Prelude.{needs}
+use Rattle.model.proofs.Prelude.{rules}
 use Rattle.store_words.proofs.CheckSteps.{zeros-first, zeros-both}
 use Rattle.store_words.proofs.inner.zeros_after.Statement.{statement}
 use Rattle.store_words.proofs.inner.zeros_after.Tie as tie
@@ -14,7 +14,7 @@ pub zeros_after_spec : {M : Type 1} → statement M
 zeros_after_spec =
     tie.close
     (tie.spec
-    (λ c. search needs) (λ c. search needs) (λ c. search needs) (λ c. search needs) (λ c. search needs)
-    (λ c. search needs) (λ c κs. search needs) (λ c. search needs) (λ c. search needs) (λ c κs. search needs)
+    (λ c. search rules) (λ c. search rules) (λ c. search rules) (λ c. search rules) (λ c. search rules)
+    (λ c. search rules) (λ c κs. search rules) (λ c. search rules) (λ c. search rules) (λ c κs. search rules)
     returns
     returns-2)

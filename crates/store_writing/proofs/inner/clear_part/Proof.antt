@@ -1,5 +1,5 @@
 -- `store_writing::inner::clear_part` meets its contract: what is left to be made zero, from here, gives the whole.
-use Rattle.model.proofs.Prelude.{◌-◌, ◌≡◌, ◌∙◌, sym, length, length-set, needs}
+use Rattle.model.proofs.Prelude.{◌-◌, ◌≡◌, ◌∙◌, sym, length, length-set, rules}
 use Rattle.store_writing.specs.Writing.{zeroed}
 use Rattle.store_writing.proofs.EdgeWriteLaws.{zeroed-next, zeroed-end}
 use Rattle.store_writing.proofs.inner.clear_part.Statement.{statement}
@@ -22,7 +22,7 @@ clear_part_spec =
     (tie.spec
     invariant-loop
     decreases-loop
-    (λ c. search needs) (λ c. search needs) (λ c. search needs) (λ c. search needs) (λ c. search needs)
+    (λ c. search rules) (λ c. search rules) (λ c. search rules) (λ c. search rules) (λ c. search rules)
     loop-again
-    (λ c. search needs)
+    (λ c. search rules)
     (λ c. let l = c.before.loop in sym (zeroed-end l.words l.i _ c.loop-test.false) ∙ l.invariant.1))

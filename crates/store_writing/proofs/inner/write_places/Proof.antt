@@ -1,5 +1,5 @@
 -- `store_writing::inner::write_places` meets its contract: the runs after the replaced ones, then those in their place, then zeros up to the words that are zero already.
-use Rattle.model.proofs.Prelude.{needs}
+use Rattle.model.proofs.Prelude.{rules}
 use Rattle.store_writing.proofs.EdgeWriteLaws.{places-written}
 use Rattle.store_writing.proofs.inner.write_places.Statement.{statement}
 use Rattle.store_writing.proofs.inner.write_places.Tie as tie
@@ -19,7 +19,7 @@ pub write_places_spec : {M : Type 1} → statement M
 write_places_spec =
     tie.close
     (tie.spec
-    (λ c. search needs) (λ c. search needs) (λ c. search needs) (λ c. search needs) (λ c κs. search needs)
-    (λ c. search needs) (λ c κs. search needs) (λ c. search needs) (λ c. search needs) (λ c. search needs)
-    (λ c. search needs) (λ c. search needs) (λ c κs. search needs) (λ c. search needs)
+    (λ c. search rules) (λ c. search rules) (λ c. search rules) (λ c. search rules) (λ c κs. search rules)
+    (λ c. search rules) (λ c κs. search rules) (λ c. search rules) (λ c. search rules) (λ c. search rules)
+    (λ c. search rules) (λ c. search rules) (λ c κs. search rules) (λ c. search rules)
     returns)

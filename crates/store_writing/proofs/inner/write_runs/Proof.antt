@@ -1,5 +1,5 @@
 -- `store_writing::inner::write_runs` meets its contract: the number of runs at the head, then the edge's places after it.
-use Rattle.model.proofs.Prelude.{◌∙◌, length-set, needs}
+use Rattle.model.proofs.Prelude.{◌∙◌, length-set, rules}
 use Rattle.path_faults.specs.Answers.{model_edge}
 use Rattle.store_writing.proofs.EdgeWriteCases.{cut-order, cut-held, few-held, few-after, made_inside, places-long, places-zero, runs-made, write-runs-cases}
 use Rattle.store_writing.proofs.inner.write_runs.Statement.{statement}
@@ -35,16 +35,16 @@ pub write_runs_spec : {M : Type 1} → statement M
 write_runs_spec =
     tie.close
     (tie.spec
-    (λ c. search needs) (λ c. search needs) (λ c κs. search needs) (λ c κs. search needs) (λ c. search needs)
+    (λ c. search rules) (λ c. search rules) (λ c κs. search rules) (λ c κs. search rules) (λ c. search rules)
     (λ c. search write-runs-cases)
     (λ c. search write-runs-cases)
     (λ c. search write-runs-cases)
     (λ c. search write-runs-cases)
-    (λ c. search needs)
+    (λ c. search rules)
     (λ c. search write-runs-cases)
     (λ c. search write-runs-cases)
     (λ c. search write-runs-cases)
-    (λ c. search needs)
+    (λ c. search rules)
     write-places-requires
     (λ c. search write-runs-cases)
     (λ c. c.before.store.given.1 ∙ simp length-set)

@@ -1,5 +1,5 @@
 -- `testfile_walk::inner::apply_pieces` meets its contract. The invariant, `Reading`: what was read so far is whole records, and they were taken.
-use Rattle.model.proofs.Prelude.{◌-◌, ◌≡◌, length, arith, needs}
+use Rattle.model.proofs.Prelude.{◌-◌, ◌≡◌, length, arith, rules}
 use Rattle.testfile_walk.proofs.ReadingCases.{Reading, walk-cases}
 use Rattle.testfile_walk.proofs.inner.apply_pieces.Statement.{statement}
 use Rattle.testfile_walk.proofs.inner.apply_pieces.Tie as tie
@@ -26,7 +26,7 @@ returns : tie.Need-returns invariant-loop decreases-loop
 returns c = search walk-cases
 
 loop-again : tie.Need-loop-preserved invariant-loop decreases-loop
-loop-again c = (search walk-cases, search needs, search needs, search needs)
+loop-again c = (search walk-cases, search rules, search rules, search rules)
 
 returns-2 : tie.Need-returns-2 invariant-loop decreases-loop
 returns-2 c = search walk-cases
@@ -38,15 +38,15 @@ apply_pieces_spec =
     invariant-loop
     decreases-loop
     (λ c κs. search walk-cases)
-    (λ c κs. search needs) (λ c κs. search needs) (λ c κs. search needs)
+    (λ c κs. search rules) (λ c κs. search rules) (λ c κs. search rules)
     (λ c. search walk-cases)
     (λ c κs. search walk-cases)
-    (λ c. search needs) (λ c. search needs)
-    (λ c κs. (search walk-cases, search needs))
+    (λ c. search rules) (λ c. search rules)
+    (λ c κs. (search walk-cases, search rules))
     add-so-far
-    (λ c κs. search needs) (λ c. search needs) (λ c. search needs) (λ c. search needs)
+    (λ c κs. search rules) (λ c. search rules) (λ c. search rules) (λ c. search rules)
     returns
-    (λ c κs. search needs) (λ c. search needs)
+    (λ c κs. search rules) (λ c. search rules)
     loop-again
-    (λ c. search needs) (λ c. search needs) (λ c. search needs)
+    (λ c. search rules) (λ c. search rules) (λ c. search rules)
     returns-2)

@@ -1,5 +1,5 @@
 -- `testfile_walk::inner::walk_file` meets its contract: the length of the file decides, or its records do.
-use Rattle.model.proofs.Prelude.{needs}
+use Rattle.model.proofs.Prelude.{rules}
 use Rattle.testfile_walk.proofs.FileCases.{file-whole, file-cut, file-cases}
 use Rattle.testfile_walk.proofs.inner.walk_file.Statement.{statement}
 use Rattle.testfile_walk.proofs.inner.walk_file.Tie as tie
@@ -24,9 +24,9 @@ pub walk_file_spec : {M : Type 1} → statement M
 walk_file_spec =
     tie.close
     (tie.spec
-    (λ c κs. search needs) (λ c κs. search needs)
+    (λ c κs. search rules) (λ c κs. search rules)
     (λ c κs. search file-cases)
-    (λ c κs. search needs) (λ c. search needs) (λ c. search needs) (λ c. search needs)
+    (λ c κs. search rules) (λ c. search rules) (λ c. search rules) (λ c. search rules)
     returns
-    (λ c κs. search needs) (λ c. search needs) (λ c. search needs) (λ c. search needs)
+    (λ c κs. search rules) (λ c. search rules) (λ c. search rules) (λ c. search rules)
     returns-2)

@@ -1,5 +1,5 @@
 -- `text_line::inner::put_number` meets its contract: the digits that are written are those of the number, and at most 20.
-use Rattle.model.proofs.Prelude.{ℕ, ◌+◌, ◌≡◌, ◌∙◌, ap, List, length, take, sets, arith, needs}
+use Rattle.model.proofs.Prelude.{ℕ, ◌+◌, ◌≡◌, ◌∙◌, ap, List, length, take, sets, arith, rules}
 use Rattle.text_line.specs.Decimal.{decimal_text}
 use Rattle.text_line.proofs.DecimalLaws.{decimal_is, at-most-20}
 use Rattle.text_line.proofs.inner.put_number.Statement.{statement}
@@ -28,7 +28,7 @@ pub put_number_spec : {M : Type 1} → statement M
 put_number_spec =
     tie.close
     (tie.spec
-    (λ c κs. search needs) (λ c. search needs) (λ c. search needs)
+    (λ c κs. search rules) (λ c. search rules) (λ c. search rules)
     put-text-requires
-    (λ c. search needs)
+    (λ c. search rules)
     returns)

@@ -1,5 +1,5 @@
 -- `text_line::inner::put_text` meets its contract. The invariant: what is left to write, written from here, gives the whole.
-use Rattle.model.proofs.Prelude.{◌≤◌, ◌+◌, ◌-◌, ◌≡◌, ◌∙◌, sym, length, drop, length-set, sets, arith, needs}
+use Rattle.model.proofs.Prelude.{◌≤◌, ◌+◌, ◌-◌, ◌≡◌, ◌∙◌, sym, length, drop, length-set, sets, arith, rules}
 use Rattle.text_line.proofs.LineLaws.{put_step, put-end}
 use Rattle.text_line.proofs.inner.put_text.Statement.{statement}
 use Rattle.text_line.proofs.inner.put_text.Tie as tie
@@ -29,8 +29,8 @@ put_text_spec =
     (tie.spec
     invariant-loop
     decreases-loop
-    (λ c. search needs) (λ c. search needs) (λ c. search needs) (λ c. search needs) (λ c. search needs)
-    (λ c. search needs)
+    (λ c. search rules) (λ c. search rules) (λ c. search rules) (λ c. search rules) (λ c. search rules)
+    (λ c. search rules)
     loop-again
-    (λ c. search needs)
+    (λ c. search rules)
     returns)

@@ -1,5 +1,5 @@
 -- `text_percent::inner::thousandths` meets its contract. The invariant: the additions so far are the quotient times the whole and a rest below it.
-use Rattle.model.proofs.Prelude.{◌≤◌, ◌<◌, ◌+◌, ◌-◌, ◌*◌, ◌≡◌, arith, needs}
+use Rattle.model.proofs.Prelude.{◌≤◌, ◌<◌, ◌+◌, ◌-◌, ◌*◌, ◌≡◌, arith, rules}
 use Rattle.text_percent.proofs.ShareLaws.{added-rest, added-whole, all-added}
 use Rattle.text_percent.proofs.inner.thousandths.Statement.{statement}
 use Rattle.text_percent.proofs.inner.thousandths.Tie as tie
@@ -36,8 +36,8 @@ thousandths_spec =
     invariant-loop
     decreases-loop
     (λ c. (omega arith, omega (arith, c.requires), omega arith))
-    (λ c. search needs) (λ c. search needs) (λ c. search needs) (λ c. search needs)
+    (λ c. search rules) (λ c. search rules) (λ c. search rules) (λ c. search rules)
     loop-again
-    (λ c. search needs) (λ c. search needs) (λ c. search needs) (λ c. search needs)
+    (λ c. search rules) (λ c. search rules) (λ c. search rules) (λ c. search rules)
     loop-again-2
     returns)

@@ -1,5 +1,5 @@
 -- `text_percent::inner::with_percent` meets its contract: the whole percent, then the tenth.
-use Rattle.model.proofs.Prelude.{needs}
+use Rattle.model.proofs.Prelude.{rules}
 use Rattle.text_line.proofs.LineLaws.{then-part, as_part}
 use Rattle.text_percent.proofs.ShareCases.{percent_parts}
 use Rattle.text_percent.proofs.inner.with_percent.Statement.{statement}
@@ -22,6 +22,6 @@ pub with_percent_spec : {M : Type 1} → statement M
 with_percent_spec =
     tie.close
     (tie.spec
-    (λ c κs. search needs) (λ c κs. search needs) (λ c. search needs) (λ c κs. search needs) (λ c κs. search needs)
-    (λ c. search needs) (λ c κs. search needs)
+    (λ c κs. search rules) (λ c κs. search rules) (λ c. search rules) (λ c κs. search rules) (λ c κs. search rules)
+    (λ c. search rules) (λ c κs. search rules)
     returns)

@@ -1,5 +1,5 @@
 -- `tree::each::answer_each` meets its contract: the answers so far, and those that the numbers left are given, are the answers of all numbers.
-use Rattle.model.proofs.Prelude.{◌≤◌, ◌-◌, needs}
+use Rattle.model.proofs.Prelude.{◌≤◌, ◌-◌, rules}
 use Rattle.tree_words.specs.TreeLayout.{tree_runs}
 use Rattle.tree.proofs.EachCases.{Answering, each_step, each-end}
 use Rattle.tree.proofs.each.answer_each.Statement.{statement}
@@ -17,8 +17,8 @@ answer_each_spec =
     (tie.spec
     invariant-loop
     decreases-loop
-    (λ c κs. search needs) (λ c. search needs) (λ c. search needs) (λ c. search needs) (λ c κs. search needs)
-    (λ c. search needs) (λ c. search needs) (λ c. search needs) (λ c. search needs)
-    (λ c. (search needs, search (each_step, needs)))
-    (λ c. search needs)
-    (λ c. search (each-end, needs)))
+    (λ c κs. search rules) (λ c. search rules) (λ c. search rules) (λ c. search rules) (λ c κs. search rules)
+    (λ c. search rules) (λ c. search rules) (λ c. search rules) (λ c. search rules)
+    (λ c. (search rules, search (each_step, rules)))
+    (λ c. search rules)
+    (λ c. search (each-end, rules)))

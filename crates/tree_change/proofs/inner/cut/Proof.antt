@@ -1,5 +1,5 @@
 -- `tree_change::inner::cut` meets its contract: each part is made from the whole tree, whose nodes are kept.
-use Rattle.model.proofs.Prelude.{needs}
+use Rattle.model.proofs.Prelude.{rules}
 use Rattle.tree_change.proofs.CutCases.{cut-first, cut-second, cut-done}
 use Rattle.tree_change.proofs.inner.cut.Statement.{statement}
 use Rattle.tree_change.proofs.inner.cut.Tie as tie
@@ -34,9 +34,9 @@ pub cut_spec : {M : Type 1} → statement M
 cut_spec =
     tie.close
     (tie.spec
-    (λ c κs. search needs) (λ c κs. search needs) (λ c κs. search needs) (λ c. search needs)
+    (λ c κs. search rules) (λ c κs. search rules) (λ c κs. search rules) (λ c. search rules)
     below-requires
-    (λ c. search needs)
+    (λ c. search rules)
     above-requires
-    (λ c. search needs)
+    (λ c. search rules)
     returns)

@@ -1,5 +1,5 @@
 -- `tree_change::inner::delete_run` meets its contract: room is made first, which leaves the runs.
-use Rattle.model.proofs.Prelude.{needs}
+use Rattle.model.proofs.Prelude.{rules}
 use Rattle.tree_change.proofs.ChangeCases.{delete_asks, delete_done}
 use Rattle.tree_change.proofs.inner.delete_run.Statement.{statement}
 use Rattle.tree_change.proofs.inner.delete_run.Tie as tie
@@ -16,4 +16,4 @@ returns c =
     delete_done m6.before.before.before.requires m6.compact.ensures m2.take-between.ensures
 
 pub delete_run_spec : {M : Type 1} → statement M
-delete_run_spec = tie.close (tie.spec (λ c κs. search needs) take-between-requires (λ c. search needs) returns)
+delete_run_spec = tie.close (tie.spec (λ c κs. search rules) take-between-requires (λ c. search rules) returns)

@@ -1,5 +1,5 @@
 -- `tree_change::inner::insert_run` meets its contract: an empty tree gets one leaf; else room is made first, which leaves the runs.
-use Rattle.model.proofs.Prelude.{needs}
+use Rattle.model.proofs.Prelude.{rules}
 use Rattle.tree_change.proofs.ChangeCases.{first-ready, first_done, insert_asks, insert_done}
 use Rattle.tree_change.proofs.inner.insert_run.Statement.{statement}
 use Rattle.tree_change.proofs.inner.insert_run.Tie as tie
@@ -40,11 +40,11 @@ pub insert_run_spec : {M : Type 1} → statement M
 insert_run_spec =
     tie.close
     (tie.spec
-    (λ c κs. search needs) (λ c κs. search needs) (λ c. search needs)
+    (λ c κs. search rules) (λ c κs. search rules) (λ c. search rules)
     put-tree-requires
-    (λ c. search needs)
+    (λ c. search rules)
     returns
-    (λ c κs. search needs) (λ c κs. search needs) (λ c κs. search needs)
+    (λ c κs. search rules) (λ c κs. search rules) (λ c κs. search rules)
     put-between-requires
-    (λ c. search needs)
+    (λ c. search rules)
     returns-2)

@@ -1,5 +1,5 @@
 -- `tree_change::inner::put_between` meets its contract: the parts below, between and above are separated as the merged runs are, so they join to a tree of these runs.
-use Rattle.model.proofs.Prelude.{◌∙◌, ap, needs}
+use Rattle.model.proofs.Prelude.{◌∙◌, ap, rules}
 use Rattle.tree_words.specs.TreeLayout.{space_start_of}
 use Rattle.tree_change.proofs.BetweenCases.{between-room, between-order, between-most, between-fits, front-room, front-both, whole_room, whole-both, whole_ready, whole-done}
 use Rattle.tree_change.proofs.inner.put_between.Statement.{statement}
@@ -78,12 +78,12 @@ pub put_between_spec : {M : Type 1} → statement M
 put_between_spec =
     tie.close
     (tie.spec
-    (λ c κs. search needs) (λ c κs. search needs)
+    (λ c κs. search rules) (λ c κs. search rules)
     cut-requires
     put-leaf-requires
     add-next
     join-requires
     join-requires-2
     put-tree-requires
-    (λ c. search needs)
+    (λ c. search rules)
     returns)

@@ -1,5 +1,5 @@
 -- `tree_change::inner::take_between` meets its contract: the parts below and above are separated as the runs left are, so they join to a tree of these runs.
-use Rattle.model.proofs.Prelude.{◌∙◌, ap, needs}
+use Rattle.model.proofs.Prelude.{◌∙◌, ap, rules}
 use Rattle.tree_words.specs.TreeLayout.{space_start_of}
 use Rattle.tree_change.proofs.BetweenCases.{rest-room, rest_both, rest-ready, rest-done}
 use Rattle.tree_change.proofs.inner.take_between.Statement.{statement}
@@ -44,9 +44,9 @@ pub take_between_spec : {M : Type 1} → statement M
 take_between_spec =
     tie.close
     (tie.spec
-    (λ c κs. search needs) (λ c κs. search needs)
+    (λ c κs. search rules) (λ c κs. search rules)
     cut-requires
     join-requires
     put-tree-requires
-    (λ c. search needs)
+    (λ c. search rules)
     returns)

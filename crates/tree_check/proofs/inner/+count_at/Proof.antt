@@ -1,5 +1,5 @@
 -- `tree_check::inner::count_at` meets its contract: the height falls at each call, and the leaves of a node are those of its children.
-use Rattle.model.proofs.Prelude.{ℕ, ◌<◌, needs}
+use Rattle.model.proofs.Prelude.{ℕ, ◌<◌, rules}
 use borrow.Fn.Kinds.{In}
 use borrow.Fn.PlainCycle.{Measures, is, falls, and}
 use Rattle.tree_check.proofs.CountCases.{count-leaf, count-first, count-second, count-third, count_fits, count-two, count-fits3, count-three}
@@ -37,43 +37,43 @@ count-at-claims t = (
 )
 
 count-at-returns : (t : ℕ) → count-at-lts.Need-returns (count-at-claims t) (count-at-at t) count-at.Post
-count-at-returns t c = search (count-leaf, needs)
+count-at-returns t c = search (count-leaf, rules)
 
 count-at-sub_below : (t : ℕ) → count-at-lts.Need-overflow-sub-below (count-at-claims t) (count-at-at t) count-at.Post
-count-at-sub_below t c = search (some-height, needs)
+count-at-sub_below t c = search (some-height, rules)
 
 count-at-first-child-requires : (t : ℕ) → count-at-lts.Need-first-child-requires (count-at-claims t) (count-at-at t) count-at.Post
-count-at-first-child-requires t c κs = search (node-ends, needs)
+count-at-first-child-requires t c κs = search (node-ends, rules)
 
 count-at-count-at-requires : (t : ℕ) → count-at-lts.Need-count-at-requires (count-at-claims t) (count-at-at t) count-at.Post
-count-at-count-at-requires t c κs = (search (height_less, needs), ((search needs, search needs), search (count-first, needs)))
+count-at-count-at-requires t c κs = (search (height_less, rules), ((search rules, search rules), search (count-first, rules)))
 
 count-at-second-child-requires : (t : ℕ) → count-at-lts.Need-second-child-requires (count-at-claims t) (count-at-at t) count-at.Post
-count-at-second-child-requires t c κs = search (node-ends, needs)
+count-at-second-child-requires t c κs = search (node-ends, rules)
 
 count-at-count-at-requires-2 : (t : ℕ) → count-at-lts.Need-count-at-requires-2 (count-at-claims t) (count-at-at t) count-at.Post
-count-at-count-at-requires-2 t c κs = (search (height_less, needs), ((search needs, search needs), search (count-second, needs)))
+count-at-count-at-requires-2 t c κs = (search (height_less, rules), ((search rules, search rules), search (count-second, rules)))
 
 count-at-third-child-requires : (t : ℕ) → count-at-lts.Need-third-child-requires (count-at-claims t) (count-at-at t) count-at.Post
-count-at-third-child-requires t c κs = search (node-ends, needs)
+count-at-third-child-requires t c κs = search (node-ends, rules)
 
 count-at-add_result : (t : ℕ) → count-at-lts.Need-overflow-add-result (count-at-claims t) (count-at-at t) count-at.Post
-count-at-add_result t c = search (count_fits, needs)
+count-at-add_result t c = search (count_fits, rules)
 
 count-at-returns-2 : (t : ℕ) → count-at-lts.Need-returns-2 (count-at-claims t) (count-at-at t) count-at.Post
-count-at-returns-2 t c = search (count-two, needs)
+count-at-returns-2 t c = search (count-two, rules)
 
 count-at-count-at-requires-3 : (t : ℕ) → count-at-lts.Need-count-at-requires-3 (count-at-claims t) (count-at-at t) count-at.Post
-count-at-count-at-requires-3 t c κs = (search (height_less, needs), ((search needs, search needs), search (count-third, needs)))
+count-at-count-at-requires-3 t c κs = (search (height_less, rules), ((search rules, search rules), search (count-third, rules)))
 
 count-at-add_result_2 : (t : ℕ) → count-at-lts.Need-overflow-add-result-2 (count-at-claims t) (count-at-at t) count-at.Post
-count-at-add_result_2 t c = search (count_fits, needs)
+count-at-add_result_2 t c = search (count_fits, rules)
 
 count-at-add_result_3 : (t : ℕ) → count-at-lts.Need-overflow-add-result-3 (count-at-claims t) (count-at-at t) count-at.Post
-count-at-add_result_3 t c = search (count-fits3, needs)
+count-at-add_result_3 t c = search (count-fits3, rules)
 
 count-at-returns-3 : (t : ℕ) → count-at-lts.Need-returns-3 (count-at-claims t) (count-at-at t) count-at.Post
-count-at-returns-3 t c = search (count-three, needs)
+count-at-returns-3 t c = search (count-three, rules)
 
 pub +count_at_spec : {M : Type 1} → statement M
 +count_at_spec = close μ-count-at λ t. count-at-lts.spec (count-at-claims t)

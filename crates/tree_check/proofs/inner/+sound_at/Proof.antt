@@ -1,5 +1,5 @@
 -- `tree_check::inner::sound_at` meets its contract: the height falls at each call, and each test is one of the definition, in its order.
-use Rattle.model.proofs.Prelude.{ℕ, ◌<◌, needs}
+use Rattle.model.proofs.Prelude.{ℕ, ◌<◌, rules}
 use borrow.Fn.Kinds.{In}
 use borrow.Fn.PlainCycle.{Measures, is, falls, and}
 use Rattle.tree_check.proofs.TreeTestCases.{at_leaf, at-node, at_first, at_second, at-two, at-third}
@@ -44,49 +44,49 @@ sound-at-claims t = (
 )
 
 sound-at-leaf-sound-requires : (t : ℕ) → sound-at-lts.Need-leaf-sound-requires (sound-at-claims t) (sound-at-at t) sound-at.Post
-sound-at-leaf-sound-requires t c κs = search needs
+sound-at-leaf-sound-requires t c κs = search rules
 
 sound-at-returns : (t : ℕ) → sound-at-lts.Need-returns (sound-at-claims t) (sound-at-at t) sound-at.Post
-sound-at-returns t c = search (at_leaf, needs)
+sound-at-returns t c = search (at_leaf, rules)
 
 sound-at-node-sound-requires : (t : ℕ) → sound-at-lts.Need-node-sound-requires (sound-at-claims t) (sound-at-at t) sound-at.Post
-sound-at-node-sound-requires t c κs = search needs
+sound-at-node-sound-requires t c κs = search rules
 
 sound-at-returns-2 : (t : ℕ) → sound-at-lts.Need-returns-2 (sound-at-claims t) (sound-at-at t) sound-at.Post
-sound-at-returns-2 t c = search (at-node, needs)
+sound-at-returns-2 t c = search (at-node, rules)
 
 sound-at-sub_below : (t : ℕ) → sound-at-lts.Need-overflow-sub-below (sound-at-claims t) (sound-at-at t) sound-at.Post
-sound-at-sub_below t c = search (some-height, needs)
+sound-at-sub_below t c = search (some-height, rules)
 
 sound-at-first-child-requires : (t : ℕ) → sound-at-lts.Need-first-child-requires (sound-at-claims t) (sound-at-at t) sound-at.Post
-sound-at-first-child-requires t c κs = search (node-inside, needs)
+sound-at-first-child-requires t c κs = search (node-inside, rules)
 
 sound-at-sound-at-requires : (t : ℕ) → sound-at-lts.Need-sound-at-requires (sound-at-claims t) (sound-at-at t) sound-at.Post
-sound-at-sound-at-requires t c κs = (search (height_less, needs), search needs)
+sound-at-sound-at-requires t c κs = (search (height_less, rules), search rules)
 
 sound-at-returns-3 : (t : ℕ) → sound-at-lts.Need-returns-3 (sound-at-claims t) (sound-at-at t) sound-at.Post
-sound-at-returns-3 t c = search (at_first, needs)
+sound-at-returns-3 t c = search (at_first, rules)
 
 sound-at-second-child-requires : (t : ℕ) → sound-at-lts.Need-second-child-requires (sound-at-claims t) (sound-at-at t) sound-at.Post
-sound-at-second-child-requires t c κs = search (node-inside, needs)
+sound-at-second-child-requires t c κs = search (node-inside, rules)
 
 sound-at-sound-at-requires-2 : (t : ℕ) → sound-at-lts.Need-sound-at-requires-2 (sound-at-claims t) (sound-at-at t) sound-at.Post
-sound-at-sound-at-requires-2 t c κs = (search (height_less, needs), search needs)
+sound-at-sound-at-requires-2 t c κs = (search (height_less, rules), search rules)
 
 sound-at-returns-4 : (t : ℕ) → sound-at-lts.Need-returns-4 (sound-at-claims t) (sound-at-at t) sound-at.Post
-sound-at-returns-4 t c = search (at_second, needs)
+sound-at-returns-4 t c = search (at_second, rules)
 
 sound-at-third-child-requires : (t : ℕ) → sound-at-lts.Need-third-child-requires (sound-at-claims t) (sound-at-at t) sound-at.Post
-sound-at-third-child-requires t c κs = search (node-inside, needs)
+sound-at-third-child-requires t c κs = search (node-inside, rules)
 
 sound-at-returns-5 : (t : ℕ) → sound-at-lts.Need-returns-5 (sound-at-claims t) (sound-at-at t) sound-at.Post
-sound-at-returns-5 t c = search (at-two, needs)
+sound-at-returns-5 t c = search (at-two, rules)
 
 sound-at-sound-at-requires-3 : (t : ℕ) → sound-at-lts.Need-sound-at-requires-3 (sound-at-claims t) (sound-at-at t) sound-at.Post
-sound-at-sound-at-requires-3 t c κs = (search (height_less, needs), search needs)
+sound-at-sound-at-requires-3 t c κs = (search (height_less, rules), search rules)
 
 sound-at-returns-6 : (t : ℕ) → sound-at-lts.Need-returns-6 (sound-at-claims t) (sound-at-at t) sound-at.Post
-sound-at-returns-6 t c = search (at-third, needs)
+sound-at-returns-6 t c = search (at-third, rules)
 
 pub +sound_at_spec : {M : Type 1} → statement M
 +sound_at_spec = close μ-sound-at λ t. sound-at-lts.spec (sound-at-claims t)

@@ -1,5 +1,5 @@
 -- `tree_copy::inner::copy_at` meets its contract: the height falls at each call; the copies of the children stand side by side, and none of the words copied is written.
-use Rattle.model.proofs.Prelude.{ℕ, ◌<◌, arith, needs}
+use Rattle.model.proofs.Prelude.{ℕ, ◌<◌, arith, rules}
 use borrow.Fn.Kinds.{In}
 use borrow.Fn.PlainCycle.{Measures, is, falls, and}
 use Rattle.tree_copy.proofs.CopyCases.{copy_leaf-room, copy_end, copy_order, copy_most, copy_node, copy_leaf, copy_first, copy_long1, copy_second, copy_two-a, copy_two-b, copy_long2}
@@ -52,40 +52,40 @@ copy_at-claims t = (
 )
 
 copy-at-low-at-requires : (t : ℕ) → copy-at-lts.Need-low-at-requires (copy_at-claims t) (copy_at-at t) copy-at.Post
-copy-at-low-at-requires t c κs = search (copy_end, needs)
+copy-at-low-at-requires t c κs = search (copy_end, rules)
 
 copy-at-high-at-requires : (t : ℕ) → copy-at-lts.Need-high-at-requires (copy_at-claims t) (copy_at-at t) copy-at.Post
-copy-at-high-at-requires t c κs = search (copy_end, needs)
+copy-at-high-at-requires t c κs = search (copy_end, rules)
 
 copy-at-put-leaf-requires : (t : ℕ) → copy-at-lts.Need-put-leaf-requires (copy_at-claims t) (copy_at-at t) copy-at.Post
-copy-at-put-leaf-requires t c κs = (search (copy_leaf-room, needs), search (copy_order, needs), search (copy_most, needs))
+copy-at-put-leaf-requires t c κs = (search (copy_leaf-room, rules), search (copy_order, rules), search (copy_most, rules))
 
 copy_at-add_t24 : (t : ℕ) → copy-at-lts.Need-overflow-add-t24 (copy_at-claims t) (copy_at-at t) copy-at.Post
-copy_at-add_t24 t c = search (copy_leaf-room, needs)
+copy_at-add_t24 t c = search (copy_leaf-room, rules)
 
 copy_at-same-length : (t : ℕ) → copy-at-lts.Need-same-length (copy_at-claims t) (copy_at-at t) copy-at.Post
-copy_at-same-length t c = search needs
+copy_at-same-length t c = search rules
 
 copy-at-returns : (t : ℕ) → copy-at-lts.Need-returns (copy_at-claims t) (copy_at-at t) copy-at.Post
-copy-at-returns t c = search (copy_leaf, needs)
+copy-at-returns t c = search (copy_leaf, rules)
 
 copy_at-sub_below : (t : ℕ) → copy-at-lts.Need-overflow-sub-below (copy_at-claims t) (copy_at-at t) copy-at.Post
-copy_at-sub_below t c = search (some-height, needs)
+copy_at-sub_below t c = search (some-height, rules)
 
 copy-at-first-child-requires : (t : ℕ) → copy-at-lts.Need-first-child-requires (copy_at-claims t) (copy_at-at t) copy-at.Post
-copy-at-first-child-requires t c κs = search (copy_node, needs)
+copy-at-first-child-requires t c κs = search (copy_node, rules)
 
 copy-at-second-child-requires : (t : ℕ) → copy-at-lts.Need-second-child-requires (copy_at-claims t) (copy_at-at t) copy-at.Post
-copy-at-second-child-requires t c κs = search (copy_node, needs)
+copy-at-second-child-requires t c κs = search (copy_node, rules)
 
 copy-at-third-child-requires : (t : ℕ) → copy-at-lts.Need-third-child-requires (copy_at-claims t) (copy_at-at t) copy-at.Post
-copy-at-third-child-requires t c κs = search (copy_node, needs)
+copy-at-third-child-requires t c κs = search (copy_node, rules)
 
 copy-at-copy-at-requires : (t : ℕ) → copy-at-lts.Need-copy-at-requires (copy_at-claims t) (copy_at-at t) copy-at.Post
-copy-at-copy-at-requires t c κs = (search (height_less, needs), (search needs, search (copy_first, needs)))
+copy-at-copy-at-requires t c κs = (search (height_less, rules), (search rules, search (copy_first, rules)))
 
 copy-at-copy-at-requires-2 : (t : ℕ) → copy-at-lts.Need-copy-at-requires-2 (copy_at-claims t) (copy_at-at t) copy-at.Post
-copy-at-copy-at-requires-2 t c κs = (search (height_less, needs), (search (copy_long1, needs), search (copy_second, needs)))
+copy-at-copy-at-requires-2 t c κs = (search (height_less, rules), (search (copy_long1, rules), search (copy_second, rules)))
 
 copy-at-put-two-requires : (t : ℕ) → copy-at-lts.Need-put-two-requires (copy_at-claims t) (copy_at-at t) copy-at.Post
 copy-at-put-two-requires t c κs =
@@ -129,7 +129,7 @@ copy_at-add_t38 t c =
     }
 
 copy_at-same-length-2 : (t : ℕ) → copy-at-lts.Need-same-length-2 (copy_at-claims t) (copy_at-at t) copy-at.Post
-copy_at-same-length-2 t c = search needs
+copy_at-same-length-2 t c = search rules
 
 copy-at-returns-2 : (t : ℕ) → copy-at-lts.Need-returns-2 (copy_at-claims t) (copy_at-at t) copy-at.Post
 copy-at-returns-2 t c =
@@ -154,7 +154,7 @@ copy-at-copy-at-requires-3 t c κs =
     let m14 = m12.before.before in
     let m16 = m14.before.before in
     let m18 = m16.before.before in (
-      search (height_less, needs),
+      search (height_less, rules),
       (
         copy_long2 _ _ _ _ _ _ m18.requires.1.1 m16.if1.false _ m14.first-child.ensures _ _ _
             m8.copy-at.ensures _ m12.second-child.ensures _ _ _ m4.copy-at2.ensures _ m10.third-child.ensures m18.requires.1.0,
@@ -210,7 +210,7 @@ copy_at-add_t44 t c =
     }
 
 copy_at-same-length-3 : (t : ℕ) → copy-at-lts.Need-same-length-3 (copy_at-claims t) (copy_at-at t) copy-at.Post
-copy_at-same-length-3 t c = search needs
+copy_at-same-length-3 t c = search rules
 
 copy-at-returns-3 : (t : ℕ) → copy-at-lts.Need-returns-3 (copy_at-claims t) (copy_at-at t) copy-at.Post
 copy-at-returns-3 t c =

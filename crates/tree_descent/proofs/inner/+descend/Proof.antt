@@ -1,5 +1,5 @@
 -- `tree_descent::inner::descend` meets its contract: the height falls at each call, and a number that lies below the node lies below the child chosen.
-use Rattle.model.proofs.Prelude.{ℕ, ◌<◌, needs}
+use Rattle.model.proofs.Prelude.{ℕ, ◌<◌, rules}
 use borrow.Fn.Kinds.{In}
 use borrow.Fn.PlainCycle.{Measures, is, falls, and}
 use Rattle.tree_descent.proofs.VisitCases.{visit_end, visit_leaf, visit_one, visit_good, visit_held, visit_count, visit_few}
@@ -33,25 +33,25 @@ descend_claims t = (
 )
 
 descend-in-leaf-requires : (t : ℕ) → descend-lts.Need-in-leaf-requires (descend_claims t) (descend_at t) descend.Post
-descend-in-leaf-requires t c κs = search (visit_end, needs)
+descend-in-leaf-requires t c κs = search (visit_end, rules)
 
 descend-returns : (t : ℕ) → descend-lts.Need-returns (descend_claims t) (descend_at t) descend.Post
-descend-returns t c = record { answer = search (visit_leaf, needs); way = search (visit_one, needs) }
+descend-returns t c = record { answer = search (visit_leaf, rules); way = search (visit_one, rules) }
 
 descend-next-child-requires : (t : ℕ) → descend-lts.Need-next-child-requires (descend_claims t) (descend_at t) descend.Post
-descend-next-child-requires t c κs = search (node-ends, needs)
+descend-next-child-requires t c κs = search (node-ends, rules)
 
 descend_sub_descend : (t : ℕ) → descend-lts.Need-overflow-sub-descend (descend_claims t) (descend_at t) descend.Post
-descend_sub_descend t c = search (some-height, needs)
+descend_sub_descend t c = search (some-height, rules)
 
 descend-descend-requires : (t : ℕ) → descend-lts.Need-descend-requires (descend_claims t) (descend_at t) descend.Post
-descend-descend-requires t c κs = (search (height_less, needs), ((search needs, search needs), search (visit_good, needs)))
+descend-descend-requires t c κs = (search (height_less, rules), ((search rules, search rules), search (visit_good, rules)))
 
 descend_add_visited : (t : ℕ) → descend-lts.Need-overflow-add-visited (descend_claims t) (descend_at t) descend.Post
-descend_add_visited t c = record { fits = search (visit_few, needs) }
+descend_add_visited t c = record { fits = search (visit_few, rules) }
 
 descend-returns-2 : (t : ℕ) → descend-lts.Need-returns-2 (descend_claims t) (descend_at t) descend.Post
-descend-returns-2 t c = record { answer = search (visit_held, needs); way = search (visit_count, needs) }
+descend-returns-2 t c = record { answer = search (visit_held, rules); way = search (visit_count, rules) }
 
 pub +descend_spec : {M : Type 1} → statement M
 +descend_spec = close μ-descend λ t. descend-lts.spec (descend_claims t)

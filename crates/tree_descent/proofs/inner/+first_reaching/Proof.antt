@@ -1,5 +1,5 @@
 -- `tree_descent::inner::first_reaching` meets its contract: the height falls at each call, and no run before the child chosen reaches the number.
-use Rattle.model.proofs.Prelude.{ℕ, ◌<◌, needs}
+use Rattle.model.proofs.Prelude.{ℕ, ◌<◌, rules}
 use borrow.Fn.Kinds.{In}
 use borrow.Fn.PlainCycle.{Measures, is, falls, and}
 use Rattle.tree_descent.proofs.ReachCases.{reach_readable, reach_leaf, reach_high, reach_good, reach_on}
@@ -40,19 +40,19 @@ first-reaching_claims t = (
 )
 
 first-reaching-returns : (t : ℕ) → first-reaching-lts.Need-returns (first-reaching_claims t) (first-reaching_at t) first-reaching.Post
-first-reaching-returns t c = search (reach_leaf, needs)
+first-reaching-returns t c = search (reach_leaf, rules)
 
 first-reaching-reaching-child-requires : (t : ℕ) → first-reaching-lts.Need-reaching-child-requires (first-reaching_claims t) (first-reaching_at t) first-reaching.Post
-first-reaching-reaching-child-requires t c κs = search (reach_readable, needs)
+first-reaching-reaching-child-requires t c κs = search (reach_readable, rules)
 
 first-reaching_sub_first-reaching : (t : ℕ) → first-reaching-lts.Need-overflow-sub-first-reaching (first-reaching_claims t) (first-reaching_at t) first-reaching.Post
-first-reaching_sub_first-reaching t c = search (some-height, needs)
+first-reaching_sub_first-reaching t c = search (some-height, rules)
 
 first-reaching-first-reaching-requires : (t : ℕ) → first-reaching-lts.Need-first-reaching-requires (first-reaching_claims t) (first-reaching_at t) first-reaching.Post
-first-reaching-first-reaching-requires t c κs = (search (height_less, needs), ((search needs, search (reach_high, needs)), search (reach_good, needs)))
+first-reaching-first-reaching-requires t c κs = (search (height_less, rules), ((search rules, search (reach_high, rules)), search (reach_good, rules)))
 
 first-reaching-returns-2 : (t : ℕ) → first-reaching-lts.Need-returns-2 (first-reaching_claims t) (first-reaching_at t) first-reaching.Post
-first-reaching-returns-2 t c = search (reach_on, needs)
+first-reaching-returns-2 t c = search (reach_on, rules)
 
 pub +first_reaching_spec : {M : Type 1} → statement M
 +first_reaching_spec = close μ-first-reaching λ t. first-reaching-lts.spec (first-reaching_claims t)

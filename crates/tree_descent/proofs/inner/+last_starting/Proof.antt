@@ -1,5 +1,5 @@
 -- `tree_descent::inner::last_starting` meets its contract: the height falls at each call, and no run behind the child chosen begins at the number or below.
-use Rattle.model.proofs.Prelude.{ℕ, ◌<◌, needs}
+use Rattle.model.proofs.Prelude.{ℕ, ◌<◌, rules}
 use borrow.Fn.Kinds.{In}
 use borrow.Fn.PlainCycle.{Measures, is, falls, and}
 use Rattle.tree_descent.proofs.ReachCases.{start-leaf, start-low, start-good, start-on}
@@ -36,19 +36,19 @@ last-starting_claims t = (
 )
 
 last-starting-returns : (t : ℕ) → last-starting-lts.Need-returns (last-starting_claims t) (last-starting_at t) last-starting.Post
-last-starting-returns t c = search (start-leaf, needs)
+last-starting-returns t c = search (start-leaf, rules)
 
 last-starting-next-child-requires : (t : ℕ) → last-starting-lts.Need-next-child-requires (last-starting_claims t) (last-starting_at t) last-starting.Post
-last-starting-next-child-requires t c κs = search (node-ends, needs)
+last-starting-next-child-requires t c κs = search (node-ends, rules)
 
 last-starting_sub_last-starting : (t : ℕ) → last-starting-lts.Need-overflow-sub-last-starting (last-starting_claims t) (last-starting_at t) last-starting.Post
-last-starting_sub_last-starting t c = search (some-height, needs)
+last-starting_sub_last-starting t c = search (some-height, rules)
 
 last-starting-last-starting-requires : (t : ℕ) → last-starting-lts.Need-last-starting-requires (last-starting_claims t) (last-starting_at t) last-starting.Post
-last-starting-last-starting-requires t c κs = (search (height_less, needs), ((search needs, search (start-low, needs)), search (start-good, needs)))
+last-starting-last-starting-requires t c κs = (search (height_less, rules), ((search rules, search (start-low, rules)), search (start-good, rules)))
 
 last-starting-returns-2 : (t : ℕ) → last-starting-lts.Need-returns-2 (last-starting_claims t) (last-starting_at t) last-starting.Post
-last-starting-returns-2 t c = search (start-on, needs)
+last-starting-returns-2 t c = search (start-on, rules)
 
 pub +last_starting_spec : {M : Type 1} → statement M
 +last_starting_spec = close μ-last-starting λ t. last-starting-lts.spec (last-starting_claims t)

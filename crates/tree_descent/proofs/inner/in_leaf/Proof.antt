@@ -1,5 +1,5 @@
 -- `tree_descent::inner::in_leaf` meets its contract: the number lies between the ends of the run.
-use Rattle.model.proofs.Prelude.{needs}
+use Rattle.model.proofs.Prelude.{rules}
 use Rattle.tree_descent.proofs.VisitCases.{leaf-both, leaf_first}
 use Rattle.tree_descent.proofs.inner.in_leaf.Statement.{statement}
 use Rattle.tree_descent.proofs.inner.in_leaf.Tie as tie
@@ -8,6 +8,6 @@ pub in_leaf_spec : {M : Type 1} → statement M
 in_leaf_spec =
     tie.close
     (tie.spec
-    (λ c. search needs) (λ c. search needs) (λ c. search needs) (λ c. search needs) (λ c. search needs)
-    (λ c. search (leaf-both, needs))
-    (λ c. search (leaf_first, needs)))
+    (λ c. search rules) (λ c. search rules) (λ c. search rules) (λ c. search rules) (λ c. search rules)
+    (λ c. search (leaf-both, rules))
+    (λ c. search (leaf_first, rules)))

@@ -1,5 +1,5 @@
 -- `tree_filling::filling::fill` meets its contract. The invariant, `FillingTree`: the leaves are the first i runs.
-use Rattle.model.proofs.Prelude.{◌-◌, refl, needs}
+use Rattle.model.proofs.Prelude.{◌-◌, refl, rules}
 use Rattle.tree_filling.proofs.FillSteps.{FillingTree, fill_start, fill_inserts, fill_next, fill_done}
 use Rattle.tree_filling.proofs.filling.fill.Statement.{statement}
 use Rattle.tree_filling.proofs.filling.fill.Tie as tie
@@ -44,12 +44,12 @@ fill_spec =
     (tie.spec
     invariant-loop
     decreases-loop
-    (λ c κs. search needs)
+    (λ c κs. search rules)
     loop-holds
-    (λ c. search needs) (λ c. search needs) (λ c. search needs) (λ c. search needs) (λ c. search needs)
-    (λ c. search needs) (λ c. search needs)
+    (λ c. search rules) (λ c. search rules) (λ c. search rules) (λ c. search rules) (λ c. search rules)
+    (λ c. search rules) (λ c. search rules)
     insert-run-requires
-    (λ c. search needs) (λ c. search needs)
+    (λ c. search rules) (λ c. search rules)
     loop-again
-    (λ c. search needs)
+    (λ c. search rules)
     returns)

@@ -1,5 +1,5 @@
 -- `tree_filling::filling::fill_both` meets its contract: the checks of the words, then each edge's runs in a tree.
-use Rattle.model.proofs.Prelude.{needs}
+use Rattle.model.proofs.Prelude.{rules}
 use Rattle.tree_filling.proofs.TreeFillCases.{both-cases}
 use Rattle.tree_filling.proofs.filling.fill_both.Statement.{statement}
 use Rattle.tree_filling.proofs.filling.fill_both.Tie as tie
@@ -11,11 +11,11 @@ pub fill_both_spec : {M : Type 1} → statement M
 fill_both_spec =
     tie.close
     (tie.spec
-    (λ c κs. search needs) (λ c. search needs) (λ c. search needs)
+    (λ c κs. search rules) (λ c. search rules) (λ c. search rules)
     (λ c κs. search both-cases)
     (λ c κs. search both-cases)
     (λ c κs. search both-cases)
     (λ c κs. search both-cases)
     (λ c. search both-cases)
-    (λ c. search needs) (λ c. search needs)
+    (λ c. search rules) (λ c. search rules)
     returns-2)

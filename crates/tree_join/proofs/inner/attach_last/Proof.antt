@@ -1,5 +1,5 @@
 -- `tree_join::inner::attach_last` meets its contract: the children before the last stay, and the new ones follow them.
-use Rattle.model.proofs.Prelude.{needs}
+use Rattle.model.proofs.Prelude.{rules}
 use Rattle.tree_join.proofs.AttachCases.{attach-cases, last-two-asks, last-three-asks}
 use Rattle.tree_join.proofs.inner.attach_last.Statement.{statement}
 use Rattle.tree_join.proofs.inner.attach_last.Tie as tie
@@ -13,7 +13,7 @@ group-requires c κs =
     let m6 = m2.before.before.before.before in
     let first-child-gives = m6.first-child.ensures in
     let asked = m6.before.before.before.requires.1 in
-    (search needs, last-two-asks _ _ _ _ _ _ _ asked _ _ first-child-gives third-child-gives if1-taken)
+    (search rules, last-two-asks _ _ _ _ _ _ _ asked _ _ first-child-gives third-child-gives if1-taken)
 
 group-requires-2 : tie.Need-group-requires-2
 group-requires-2 c κs =
@@ -28,7 +28,7 @@ group-requires-2 c κs =
     let m9 = m6.before.before.before in
     let room = m9.requires.0 in
     let asked = m9.requires.1 in
-    (search needs, last-three-asks _ _ _ _ _ _ _ asked _ _ first-child-gives third-child-gives _ second-child-gives if1-left room)
+    (search rules, last-three-asks _ _ _ _ _ _ _ asked _ _ first-child-gives third-child-gives _ second-child-gives if1-left room)
 
 pub attach_last_spec : {M : Type 1} → statement M
 attach_last_spec =
@@ -38,8 +38,8 @@ attach_last_spec =
     (λ c κs. search attach-cases)
     (λ c κs. search attach-cases)
     group-requires
-    (λ c. search needs)
+    (λ c. search rules)
     (λ c. search attach-cases)
     group-requires-2
-    (λ c. search needs)
+    (λ c. search rules)
     (λ c. search attach-cases))

@@ -1,5 +1,5 @@
 -- `tree_join::inner::group` meets its contract: the neighbours are separated, so their totals fit and the new nodes are sound.
-use Rattle.model.proofs.Prelude.{needs}
+use Rattle.model.proofs.Prelude.{rules}
 use Rattle.tree_join.proofs.GroupCases.{group-cases}
 use Rattle.tree_join.proofs.inner.group.Statement.{statement}
 use Rattle.tree_join.proofs.inner.group.Tie as tie
@@ -9,13 +9,13 @@ group_spec =
     tie.close
     (tie.spec
     (λ c κs. search group-cases)
-    (λ c. search needs) (λ c. search needs)
+    (λ c. search rules) (λ c. search rules)
     (λ c. search group-cases)
     (λ c κs. search group-cases)
-    (λ c. search needs) (λ c. search needs)
+    (λ c. search rules) (λ c. search rules)
     (λ c. search group-cases)
-    (λ c. search needs)
+    (λ c. search rules)
     (λ c κs. search group-cases)
     (λ c κs. search group-cases)
-    (λ c. search needs) (λ c. search needs)
+    (λ c. search rules) (λ c. search rules)
     (λ c. search group-cases))

@@ -1,17 +1,17 @@
 -- `tree_lookup::inner::neighbour` meets its contract: the first run that reaches the number below the low end is the least adjacent one, or none is.
-use Rattle.model.proofs.Prelude.{needs}
+use Rattle.model.proofs.Prelude.{rules}
 use Rattle.tree_lookup.proofs.LookupCases.{found_inside, near-zero, near-below, near-far, near-above}
 use Rattle.tree_lookup.proofs.inner.neighbour.Statement.{statement}
 use Rattle.tree_lookup.proofs.inner.neighbour.Tie as tie
 
 returns : tie.Need-returns
-returns c = search (near-zero, needs)
+returns c = search (near-zero, rules)
 
 returns-2 : tie.Need-returns-2
-returns-2 c = search (near-below, needs)
+returns-2 c = search (near-below, rules)
 
 returns-3 : tie.Need-returns-3
-returns-3 c = search (near-far, needs)
+returns-3 c = search (near-far, rules)
 
 returns-4 : tie.Need-returns-4
 returns-4 c =
@@ -37,11 +37,11 @@ pub neighbour_spec : {M : Type 1} → statement M
 neighbour_spec =
     tie.close
     (tie.spec
-    (λ c. search needs) (λ c κs. search needs)
+    (λ c. search rules) (λ c κs. search rules)
     returns
-    (λ c κs. search (found_inside, needs))
+    (λ c κs. search (found_inside, rules))
     returns-2
-    (λ c. search needs)
-    (λ c κs. search (found_inside, needs))
+    (λ c. search rules)
+    (λ c κs. search (found_inside, rules))
     returns-3
     returns-4)

@@ -1,5 +1,5 @@
 -- `tree_lookup::inner::starting` meets its contract: no run begins below the root's least number; else the descent finds the last that does.
-use Rattle.model.proofs.Prelude.{needs}
+use Rattle.model.proofs.Prelude.{rules}
 use Rattle.tree_lookup.proofs.LookupCases.{start-empty, start_under, start-ask, start-there}
 use Rattle.tree_lookup.proofs.RootLaws.{root_end, root_good, root_free}
 use Rattle.tree_lookup.proofs.inner.starting.Statement.{statement}
@@ -17,17 +17,17 @@ last-starting-requires c κs =
     let m6 = m5.before in
     let word-gives = m6.word.ensures in
     let pre = m6.before.before.requires in
-    ((root_free _ pre _ word-gives if1-left _ word2-gives _ _ space-start-gives word3-gives, search (start-ask, needs)), search (root_good, needs))
+    ((root_free _ pre _ word-gives if1-left _ word2-gives _ _ space-start-gives word3-gives, search (start-ask, rules)), search (root_good, rules))
 
 pub starting_spec : {M : Type 1} → statement M
 starting_spec =
     tie.close
     (tie.spec
-    (λ c κs. search needs)
-    (λ c. search (start-empty, needs))
-    (λ c κs. search needs)
-    (λ c κs. search (root_end, needs))
-    (λ c. search (start_under, needs))
-    (λ c κs. search needs) (λ c κs. search needs) (λ c. search needs)
+    (λ c κs. search rules)
+    (λ c. search (start-empty, rules))
+    (λ c κs. search rules)
+    (λ c κs. search (root_end, rules))
+    (λ c. search (start_under, rules))
+    (λ c κs. search rules) (λ c κs. search rules) (λ c. search rules)
     last-starting-requires
-    (λ c. search (start-there, needs)))
+    (λ c. search (start-there, rules)))

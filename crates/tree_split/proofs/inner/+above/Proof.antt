@@ -1,5 +1,5 @@
 -- `tree_split::inner::above` meets its contract: the height falls at each call; the children behind the one in which the part begins are joined to what is left of it.
-use Rattle.model.proofs.Prelude.{ℕ, ◌<◌, needs}
+use Rattle.model.proofs.Prelude.{ℕ, ◌<◌, rules}
 use borrow.Fn.Kinds.{In}
 use borrow.Fn.PlainCycle.{Measures, is, falls, and}
 use Rattle.tree_split.proofs.PartRoom.{ends-in, fits-eight, fits_one}
@@ -52,31 +52,31 @@ above-claims t = (
 )
 
 above-begun-requires : (t : ℕ) → above-lts.Need-begun-requires (above-claims t) (above_at t) above.Post
-above-begun-requires t c κs = (search (ends-in, needs), search needs)
+above-begun-requires t c κs = (search (ends-in, rules), search rules)
 
 above-returns : (t : ℕ) → above-lts.Need-returns (above-claims t) (above_at t) above.Post
-above-returns t c = search (upper_none, needs)
+above-returns t c = search (upper_none, rules)
 
 above-returns-2 : (t : ℕ) → above-lts.Need-returns-2 (above-claims t) (above_at t) above.Post
-above-returns-2 t c = search (upper_kept, needs)
+above-returns-2 t c = search (upper_kept, rules)
 
 above-last-child-requires : (t : ℕ) → above-lts.Need-last-child-requires (above-claims t) (above_at t) above.Post
-above-last-child-requires t c κs = search (node_in, needs)
+above-last-child-requires t c κs = search (node_in, rules)
 
 above-begun-requires-2 : (t : ℕ) → above-lts.Need-begun-requires-2 (above-claims t) (above_at t) above.Post
-above-begun-requires-2 t c κs = (search (last-in, needs), search needs)
+above-begun-requires-2 t c κs = (search (last-in, rules), search rules)
 
 above-above-requires : (t : ℕ) → above-lts.Need-above-requires (above-claims t) (above_at t) above.Post
-above-above-requires t c κs = (search (height_less, needs), (search (input_last, needs), search needs))
+above-above-requires t c κs = (search (height_less, rules), (search (input_last, rules), search rules))
 
 above-returns-3 : (t : ℕ) → above-lts.Need-returns-3 (above-claims t) (above_at t) above.Post
-above-returns-3 t c = search (last-gives, needs)
+above-returns-3 t c = search (last-gives, rules)
 
 above-first-child-requires : (t : ℕ) → above-lts.Need-first-child-requires (above-claims t) (above_at t) above.Post
-above-first-child-requires t c κs = search (node_in, needs)
+above-first-child-requires t c κs = search (node_in, rules)
 
 above-third-child-requires : (t : ℕ) → above-lts.Need-third-child-requires (above-claims t) (above_at t) above.Post
-above-third-child-requires t c κs = search (node_in, needs)
+above-third-child-requires t c κs = search (node_in, rules)
 
 above-above-requires-2 : (t : ℕ) → above-lts.Need-above-requires-2 (above-claims t) (above_at t) above.Post
 above-above-requires-2 t c κs =
@@ -84,7 +84,7 @@ above-above-requires-2 t c κs =
     let m4 = m1.before.before.before in
     let m7 = m4.before.before.before in
     let m11 = m7.before.before.before.before in (
-      search (height_less, needs),
+      search (height_less, rules),
       (
         input-first _ _ _ _ _ _ m11.before.before.requires.1.0 m11.if1.false _ m7.before.before.last-child.ensures _ m7.begun2.ensures
             m4.before.before.if3.false _ _ m4.first-child.ensures m1.before.third-child.ensures m1.if4.true,
@@ -117,7 +117,7 @@ above-returns-4 t c =
     m11.first-child.ensures m8.before.third-child.ensures m8.if4.true _ _ m2.before.before.before.before.above2.ensures _ _ m2.join.ensures
 
 above-second-child-requires : (t : ℕ) → above-lts.Need-second-child-requires (above-claims t) (above_at t) above.Post
-above-second-child-requires t c κs = search (node_in, needs)
+above-second-child-requires t c κs = search (node_in, rules)
 
 above-begun-requires-3 : (t : ℕ) → above-lts.Need-begun-requires-3 (above-claims t) (above_at t) above.Post
 above-begun-requires-3 t c κs =
@@ -128,7 +128,7 @@ above-begun-requires-3 t c κs =
     let m13 = m11.before.before in (
       second-in _ _ _ _ _ _ m13.before.before.requires.1.0 m13.if1.false _ m11.last-child.ensures _ m8.before.begun2.ensures m8.if3.false _ _
           m4.before.before.first-child.ensures m4.third-child.ensures m1.before.before.if4.false _ m1.second-child.ensures,
-      search needs,
+      search rules,
     )
 
 above-above-requires-3 : (t : ℕ) → above-lts.Need-above-requires-3 (above-claims t) (above_at t) above.Post
@@ -138,7 +138,7 @@ above-above-requires-3 t c κs =
     let m11 = m7.before.before.before.before in
     let m14 = m11.before.before.before in
     let m16 = m14.before.before in (
-      search (height_less, needs),
+      search (height_less, rules),
       (
         input-second _ _ _ _ _ _ m16.before.before.requires.1.0 m16.if1.false _ m14.last-child.ensures _ m11.before.begun2.ensures m11.if3.false
             _ _ m7.before.before.first-child.ensures m7.third-child.ensures m4.before.before.if4.false _ m4.second-child.ensures,
@@ -196,7 +196,7 @@ above-put-two-requires t c κs =
     )
 
 above-add_above : (t : ℕ) → above-lts.Need-overflow-add-above (above-claims t) (above_at t) above.Post
-above-add_above t c = search (fits-eight, needs)
+above-add_above t c = search (fits-eight, rules)
 
 above-above-requires-4 : (t : ℕ) → above-lts.Need-above-requires-4 (above-claims t) (above_at t) above.Post
 above-above-requires-4 t c κs =
@@ -206,7 +206,7 @@ above-above-requires-4 t c κs =
     let m13 = m10.before.before.before in
     let m16 = m13.before.before.before in
     let m20 = m16.before.before.before.before in (
-      search (height_less, needs),
+      search (height_less, rules),
       (
         input-third _ _ _ _ _ _ m20.before.before.requires.1.0 m20.if1.false _ m16.before.before.last-child.ensures _ m16.begun2.ensures
             m13.before.before.if3.false _ _ m13.first-child.ensures m10.before.third-child.ensures m10.if4.false _ m6.before.before.second-child.ensures _
@@ -257,35 +257,35 @@ pub +above_spec : {M : Type 1} → statement M
     (above_at t)
     above.Post
     (above-begun-requires t)
-    (λ c. search needs)
+    (λ c. search rules)
     (above-returns t)
-    (λ c. search needs)
+    (λ c. search rules)
     (above-returns-2 t)
     (above-last-child-requires t)
     (above-begun-requires-2 t)
-    (λ c. search (some-height, needs))
+    (λ c. search (some-height, rules))
     (above-above-requires t)
-    (λ c. search needs)
+    (λ c. search rules)
     (above-returns-3 t)
     (above-first-child-requires t)
     (above-third-child-requires t)
-    (λ c. search (some-height, needs))
+    (λ c. search (some-height, rules))
     (above-above-requires-2 t)
     (above-join-requires t)
-    (λ c. search needs)
+    (λ c. search rules)
     (above-returns-4 t)
     (above-second-child-requires t)
     (above-begun-requires-3 t)
-    (λ c. search (some-height, needs))
+    (λ c. search (some-height, rules))
     (above-above-requires-3 t)
     (above-join-requires-2 t)
-    (λ c. search needs)
+    (λ c. search rules)
     (above-returns-5 t)
     (above-put-two-requires t)
     (above-add_above t)
-    (λ c. search (some-height, needs))
+    (λ c. search (some-height, rules))
     (above-above-requires-4 t)
     (above-add_join t)
     (above-join-requires-3 t)
-    (λ c. search needs)
+    (λ c. search rules)
     (above-returns-6 t)

@@ -1,5 +1,5 @@
 -- `tree_split::inner::below` meets its contract: the height falls at each call; the children before the one in which the part ends are joined to what is left of it.
-use Rattle.model.proofs.Prelude.{ℕ, ◌<◌, needs}
+use Rattle.model.proofs.Prelude.{ℕ, ◌<◌, rules}
 use borrow.Fn.Kinds.{In}
 use borrow.Fn.PlainCycle.{Measures, is, falls, and}
 use Rattle.tree_split.proofs.PartRoom.{ends-in, high_small, fits-eight, fits_one}
@@ -51,43 +51,43 @@ below-claims t = (
 )
 
 below-reached-requires : (t : ℕ) → below-lts.Need-reached-requires (below-claims t) (below_at t) below.Post
-below-reached-requires t c κs = (search (ends-in, needs), search (high_small, needs))
+below-reached-requires t c κs = (search (ends-in, rules), search (high_small, rules))
 
 below-same-length : (t : ℕ) → below-lts.Need-same-length (below-claims t) (below_at t) below.Post
-below-same-length t c = search needs
+below-same-length t c = search rules
 
 below-returns : (t : ℕ) → below-lts.Need-returns (below-claims t) (below_at t) below.Post
-below-returns t c = search (leaf-none, needs)
+below-returns t c = search (leaf-none, rules)
 
 below-same-length-2 : (t : ℕ) → below-lts.Need-same-length-2 (below-claims t) (below_at t) below.Post
-below-same-length-2 t c = search needs
+below-same-length-2 t c = search rules
 
 below-returns-2 : (t : ℕ) → below-lts.Need-returns-2 (below-claims t) (below_at t) below.Post
-below-returns-2 t c = search (leaf-kept, needs)
+below-returns-2 t c = search (leaf-kept, rules)
 
 below-first-child-requires : (t : ℕ) → below-lts.Need-first-child-requires (below-claims t) (below_at t) below.Post
-below-first-child-requires t c κs = search (node_in, needs)
+below-first-child-requires t c κs = search (node_in, rules)
 
 below-reached-requires-2 : (t : ℕ) → below-lts.Need-reached-requires-2 (below-claims t) (below_at t) below.Post
-below-reached-requires-2 t c κs = (search (first-in, needs), search (first_small, needs))
+below-reached-requires-2 t c κs = (search (first-in, rules), search (first_small, rules))
 
 below-sub_below : (t : ℕ) → below-lts.Need-overflow-sub-below (below-claims t) (below_at t) below.Post
-below-sub_below t c = search (some-height, needs)
+below-sub_below t c = search (some-height, rules)
 
 below-below-requires : (t : ℕ) → below-lts.Need-below-requires (below-claims t) (below_at t) below.Post
-below-below-requires t c κs = (search (height_less, needs), search (input-first, needs))
+below-below-requires t c κs = (search (height_less, rules), search (input-first, rules))
 
 below-same-length-3 : (t : ℕ) → below-lts.Need-same-length-3 (below-claims t) (below_at t) below.Post
-below-same-length-3 t c = search needs
+below-same-length-3 t c = search rules
 
 below-returns-3 : (t : ℕ) → below-lts.Need-returns-3 (below-claims t) (below_at t) below.Post
-below-returns-3 t c = search (first_gives, needs)
+below-returns-3 t c = search (first_gives, rules)
 
 below-second-child-requires : (t : ℕ) → below-lts.Need-second-child-requires (below-claims t) (below_at t) below.Post
-below-second-child-requires t c κs = search (node_in, needs)
+below-second-child-requires t c κs = search (node_in, rules)
 
 below-third-child-requires : (t : ℕ) → below-lts.Need-third-child-requires (below-claims t) (below_at t) below.Post
-below-third-child-requires t c κs = search (node_in, needs)
+below-third-child-requires t c κs = search (node_in, rules)
 
 below-in-second-requires : (t : ℕ) → below-lts.Need-in-second-requires (below-claims t) (below_at t) below.Post
 below-in-second-requires t c κs =
@@ -104,7 +104,7 @@ below-in-second-requires t c κs =
     )
 
 below-sub_below-2 : (t : ℕ) → below-lts.Need-overflow-sub-below-2 (below-claims t) (below_at t) below.Post
-below-sub_below-2 t c = search (some-height, needs)
+below-sub_below-2 t c = search (some-height, rules)
 
 below-below-requires-2 : (t : ℕ) → below-lts.Need-below-requires-2 (below-claims t) (below_at t) below.Post
 below-below-requires-2 t c κs =
@@ -114,7 +114,7 @@ below-below-requires-2 t c κs =
     let m9 = m8.before in
     let m11 = m9.before.before in
     let m13 = m11.before.before in (
-      search (height_less, needs),
+      search (height_less, rules),
       input-second _ _ _ _ _ _ m13.before.before.requires.1 m13.if1.false _ m11.first-child.ensures _
           m9.reached2.ensures m8.if3.false _ _ m6.second-child.ensures m4.third-child.ensures,
     )
@@ -138,7 +138,7 @@ below-join-requires t c κs =
     )
 
 below-same-length-4 : (t : ℕ) → below-lts.Need-same-length-4 (below-claims t) (below_at t) below.Post
-below-same-length-4 t c = search needs
+below-same-length-4 t c = search rules
 
 below-returns-4 : (t : ℕ) → below-lts.Need-returns-4 (below-claims t) (below_at t) below.Post
 below-returns-4 t c =
@@ -180,10 +180,10 @@ below-put-two-requires t c κs =
     )
 
 below-add_below : (t : ℕ) → below-lts.Need-overflow-add-below (below-claims t) (below_at t) below.Post
-below-add_below t c = search (fits-eight, needs)
+below-add_below t c = search (fits-eight, rules)
 
 below-sub_below-3 : (t : ℕ) → below-lts.Need-overflow-sub-below-3 (below-claims t) (below_at t) below.Post
-below-sub_below-3 t c = search (some-height, needs)
+below-sub_below-3 t c = search (some-height, rules)
 
 below-below-requires-3 : (t : ℕ) → below-lts.Need-below-requires-3 (below-claims t) (below_at t) below.Post
 below-below-requires-3 t c κs =
@@ -196,14 +196,14 @@ below-below-requires-3 t c κs =
     let m13 = m12.before in
     let m15 = m13.before.before in
     let m17 = m15.before.before in (
-      search (height_less, needs),
+      search (height_less, rules),
       input-third _ _ _ _ _ _ m17.before.before.requires.1 m17.if1.false _ m15.first-child.ensures _
           m13.reached2.ensures m12.if3.false _ _ m10.second-child.ensures m8.third-child.ensures _ m6.in-second.ensures
           m5.if4.false _ m3.put_two.ensures,
     )
 
 below-add_join : (t : ℕ) → below-lts.Need-overflow-add-join (below-claims t) (below_at t) below.Post
-below-add_join t c = search (fits_one, needs)
+below-add_join t c = search (fits_one, rules)
 
 below-join-requires-2 : (t : ℕ) → below-lts.Need-join-requires-2 (below-claims t) (below_at t) below.Post
 below-join-requires-2 t c κs =
@@ -226,7 +226,7 @@ below-join-requires-2 t c κs =
     )
 
 below-same-length-5 : (t : ℕ) → below-lts.Need-same-length-5 (below-claims t) (below_at t) below.Post
-below-same-length-5 t c = search needs
+below-same-length-5 t c = search rules
 
 below-returns-5 : (t : ℕ) → below-lts.Need-returns-5 (below-claims t) (below_at t) below.Post
 below-returns-5 t c =

@@ -1,5 +1,5 @@
 -- `viewer::answering::ask` meets its contract: the range of the fault, then whose it is, then the search.
-use Rattle.model.proofs.Prelude.{needs}
+use Rattle.model.proofs.Prelude.{rules}
 use Rattle.viewer.proofs.AskCases.{ask-cases}
 use Rattle.viewer.proofs.answering.ask.Statement.{statement}
 use Rattle.viewer.proofs.answering.ask.Tie as tie
@@ -12,11 +12,11 @@ ask_spec =
     tie.close
     (tie.spec
     (λ c. search ask-cases)
-    (λ c. search needs)
+    (λ c. search rules)
     (λ c. search ask-cases)
-    (λ c κs. search needs)
+    (λ c κs. search rules)
     (λ c κs. search ask-cases)
     returns-3
-    (λ c κs. search needs) (λ c κs. search needs)
+    (λ c κs. search rules) (λ c κs. search rules)
     (λ c. search ask-cases)
     (λ c. search ask-cases))

@@ -1,5 +1,5 @@
 -- `viewer::answering::holds_with` meets its contract: what looking refuses, then the question.
-use Rattle.model.proofs.Prelude.{arith, needs}
+use Rattle.model.proofs.Prelude.{arith, rules}
 use Rattle.viewer.proofs.ViewCases.{own-few, view-cases}
 use Rattle.viewer.proofs.answering.holds_with.Statement.{statement}
 use Rattle.viewer.proofs.answering.holds_with.Tie as tie
@@ -16,9 +16,9 @@ pub holds_with_spec : {M : Type 1} → statement M
 holds_with_spec =
     tie.close
     (tie.spec
-    (λ c κs. search needs) (λ c. search needs) (λ c. search needs)
+    (λ c κs. search rules) (λ c. search rules) (λ c. search rules)
     ask-requires
-    (λ c. search needs)
+    (λ c. search rules)
     (λ c. search view-cases)
-    (λ c. search needs)
+    (λ c. search rules)
     (λ c. search view-cases))

@@ -1,5 +1,5 @@
 -- `viewer::answering::runs_with` meets its contract: what looking refuses, then too many runs, then the runs written.
-use Rattle.model.proofs.Prelude.{arith, needs}
+use Rattle.model.proofs.Prelude.{arith, rules}
 use Rattle.viewer.proofs.ViewCases.{own-few, view-written, view-cases}
 use Rattle.viewer.proofs.answering.runs_with.Statement.{statement}
 use Rattle.viewer.proofs.answering.runs_with.Tie as tie
@@ -50,16 +50,16 @@ pub runs_with_spec : {M : Type 1} → statement M
 runs_with_spec =
     tie.close
     (tie.spec
-    (λ c κs. search needs) (λ c. search needs) (λ c. search needs)
+    (λ c κs. search rules) (λ c. search rules) (λ c. search rules)
     seen-runs-requires
     seen-runs-requires-2
-    (λ c. search needs) (λ c. search needs) (λ c. search needs)
+    (λ c. search rules) (λ c. search rules) (λ c. search rules)
     (λ c. search view-cases)
-    (λ c. search needs) (λ c. search needs) (λ c. search needs)
+    (λ c. search rules) (λ c. search rules) (λ c. search rules)
     (λ c. search view-cases)
-    (λ c κs. search needs)
+    (λ c κs. search rules)
     write-view-requires
-    (λ c. search needs)
+    (λ c. search rules)
     (λ c. search view-cases)
-    (λ c. search needs) (λ c. search needs) (λ c. search needs) (λ c. search needs)
+    (λ c. search rules) (λ c. search rules) (λ c. search rules) (λ c. search rules)
     returns-4)

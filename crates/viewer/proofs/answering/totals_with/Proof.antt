@@ -1,5 +1,5 @@
 -- `viewer::answering::totals_with` meets its contract: what looking refuses, then the sizes of what he sees.
-use Rattle.model.proofs.Prelude.{arith, needs}
+use Rattle.model.proofs.Prelude.{arith, rules}
 use Rattle.viewer.proofs.ViewCases.{own-few, view-cases}
 use Rattle.viewer.proofs.answering.totals_with.Statement.{statement}
 use Rattle.viewer.proofs.answering.totals_with.Tie as tie
@@ -27,10 +27,10 @@ pub totals_with_spec : {M : Type 1} → statement M
 totals_with_spec =
     tie.close
     (tie.spec
-    (λ c κs. search needs) (λ c. search needs) (λ c. search needs)
+    (λ c κs. search rules) (λ c. search rules) (λ c. search rules)
     seen-size-requires
     seen-size-requires-2
-    (λ c. search needs)
+    (λ c. search rules)
     (λ c. search view-cases)
-    (λ c. search needs) (λ c. search needs)
+    (λ c. search rules) (λ c. search rules)
     returns-2)

@@ -1,5 +1,5 @@
 -- `viewer::looking::look` meets its contract: what the netlist refuses, then the rest on its tables.
-use Rattle.model.proofs.Prelude.{needs}
+use Rattle.model.proofs.Prelude.{rules}
 use Rattle.viewer.proofs.ViewerLookCases.{look-cases}
 use Rattle.viewer.proofs.looking.look.Statement.{statement}
 use Rattle.viewer.proofs.looking.look.Tie as tie
@@ -9,7 +9,7 @@ look_spec =
     tie.close
     (tie.spec
     (λ c κs. search look-cases)
-    (λ c. search needs) (λ c. search needs)
+    (λ c. search rules) (λ c. search rules)
     (λ c κs. search look-cases)
     (λ c. search look-cases)
-    (λ c. search needs) (λ c. search needs))
+    (λ c. search rules) (λ c. search rules))

@@ -1,5 +1,5 @@
 -- `viewer::looking::look_on` meets its contract: what the store's words or the places refuse, then the ranges.
-use Rattle.model.proofs.Prelude.{needs}
+use Rattle.model.proofs.Prelude.{rules}
 use Rattle.viewer.proofs.ViewerLookCases.{look-cases}
 use Rattle.viewer.proofs.looking.look_on.Statement.{statement}
 use Rattle.viewer.proofs.looking.look_on.Tie as tie
@@ -18,9 +18,9 @@ look_on_spec =
     tie.close
     (tie.spec
     (λ c κs. search look-cases)
-    (λ c. search needs) (λ c. search needs) (λ c κs. search needs)
+    (λ c. search rules) (λ c. search rules) (λ c κs. search rules)
     returns
     view-ranges-requires
     (λ c. search look-cases)
-    (λ c. search needs)
+    (λ c. search rules)
     returns-3)

@@ -1,5 +1,5 @@
 -- `viewer_place_lines::reading::place_in` meets its contract: the digits so far make the number, and a byte that is none or a number over 16 bits ends it.
-use Rattle.model.proofs.Prelude.{◌-◌, length, needs}
+use Rattle.model.proofs.Prelude.{◌-◌, length, rules}
 use Rattle.viewer_place_lines.proofs.PlaceLineLaws.{NumberSoFar, place-cases}
 use Rattle.viewer_place_lines.proofs.reading.place_in.Statement.{statement}
 use Rattle.viewer_place_lines.proofs.reading.place_in.Tie as tie
@@ -18,14 +18,14 @@ place_in_spec =
     decreases-loop
     (λ c. search place-cases)
     (λ c. search place-cases)
-    (λ c. search needs)
+    (λ c. search rules)
     (λ c. search place-cases)
     (λ c. search place-cases)
     (λ c. search place-cases)
     (λ c. search place-cases)
     (λ c. search place-cases)
     (λ c. search place-cases)
-    (λ c. search needs) (λ c. search needs)
+    (λ c. search rules) (λ c. search rules)
     (λ c. search place-cases)
     (λ c. search place-cases)
     (λ c. search place-cases))

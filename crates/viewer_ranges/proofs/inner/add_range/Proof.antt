@@ -1,11 +1,11 @@
 -- `viewer_ranges::inner::add_range` meets its contract: nothing is added where no path ends at the output, else the run of its paths.
-use Rattle.model.proofs.Prelude.{needs}
+use Rattle.model.proofs.Prelude.{rules}
 use Rattle.viewer_ranges.proofs.ViewRangeCases.{range-cases}
 use Rattle.viewer_ranges.proofs.inner.add_range.Statement.{statement}
 use Rattle.viewer_ranges.proofs.inner.add_range.Tie as tie
 
 append-requires : tie.Need-append-requires
-append-requires c κs = search needs
+append-requires c κs = search rules
 
 returns-2 : tie.Need-returns-2
 returns-2 c = search range-cases
@@ -15,9 +15,9 @@ add_range_spec =
     tie.close
     (tie.spec
     (λ c κs. search range-cases)
-    (λ c. search needs) (λ c κs. search needs)
+    (λ c. search rules) (λ c κs. search rules)
     (λ c. search range-cases)
-    (λ c. search needs)
+    (λ c. search rules)
     append-requires
-    (λ c. search needs)
+    (λ c. search rules)
     returns-2)

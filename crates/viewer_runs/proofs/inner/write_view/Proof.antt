@@ -1,5 +1,5 @@
 -- `viewer_runs::inner::write_view` meets its contract: zeros and the number of tests are a store without runs, then each edge's runs are written.
-use Rattle.model.proofs.Prelude.{ℕ, ◌∙◌, length-set, needs}
+use Rattle.model.proofs.Prelude.{ℕ, ◌∙◌, length-set, rules}
 use Rattle.model.specs.Store.{tests_word}
 use Rattle.viewer_runs.proofs.ViewWriteCases.{first-writable, second-writable, both-written}
 use Rattle.viewer_runs.proofs.inner.write_view.Statement.{statement}
@@ -39,7 +39,7 @@ pub write_view_spec : {M : Type 1} → statement M
 write_view_spec =
     tie.close
     (tie.spec
-    (λ c κs. search needs) (λ c. search needs)
+    (λ c κs. search rules) (λ c. search rules)
     write-runs-requires
     write-runs-requires-2
     same_length

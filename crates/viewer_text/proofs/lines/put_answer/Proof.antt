@@ -1,5 +1,5 @@
 -- `viewer_text::lines::put_answer` meets its contract: nothing in a buffer that is too short, else the line of the refusal or those of the store.
-use Rattle.model.proofs.Prelude.{needs}
+use Rattle.model.proofs.Prelude.{rules}
 use Rattle.viewer_text.specs.ViewText.{answer_text}
 use Rattle.viewer_text.proofs.ShownViewCases.{none-shown, refusal-put, store-put}
 use Rattle.viewer_text.proofs.lines.put_answer.Statement.{statement}
@@ -11,7 +11,7 @@ returns c =
     none-shown a.out.now (answer_text a.answer a.second.now) c.if1.true
 
 enum_told : tie.Need-enum-told
-enum_told c = search needs
+enum_told c = search rules
 
 put-store-requires : tie.Need-put-store-requires
 put-store-requires c κs =
@@ -40,10 +40,10 @@ put_answer_spec =
     tie.close
     (tie.spec
     returns
-    (λ c. search needs) (λ c κs. search needs)
+    (λ c. search rules) (λ c κs. search rules)
     enum_told
     put-store-requires
-    (λ c. search needs)
+    (λ c. search rules)
     returns-2
-    (λ c. search needs)
+    (λ c. search rules)
     returns-3)

@@ -1,5 +1,5 @@
 -- `ask_text::inner::answer_lines::put_fault` meets its contract: the number, then 60 or what the tree of its edge answers.
-use Rattle.model.proofs.Prelude.{true, false, arith, needs}
+use Rattle.model.proofs.Prelude.{true, false, arith, rules}
 use Rattle.text_line.proofs.DecimalLaws.{at-most-20}
 use Rattle.ask_text.proofs.AnswerLineCases.{fault-refused, fault-answered}
 use Rattle.ask_text.proofs.inner.answer_lines.put_fault.Statement.{statement}
@@ -73,16 +73,16 @@ pub put_fault_spec : {M : Type 1} → statement M
 put_fault_spec =
     tie.close
     (tie.spec
-    (λ c κs. search needs) (λ c κs. search needs) (λ c κs. search needs) (λ c. search needs) (λ c. search needs)
-    (λ c. search needs)
+    (λ c κs. search rules) (λ c κs. search rules) (λ c κs. search rules) (λ c. search rules) (λ c. search rules)
+    (λ c. search rules)
     put-numbered-requires
-    (λ c. search needs)
+    (λ c. search rules)
     returns
-    (λ c κs. search needs) (λ c. search needs) (λ c. search needs)
+    (λ c κs. search rules) (λ c. search rules) (λ c. search rules)
     put-numbered-requires-2
-    (λ c. search needs)
+    (λ c. search rules)
     returns-2
-    (λ c. search needs) (λ c. search needs)
+    (λ c. search rules) (λ c. search rules)
     put-numbered-requires-3
-    (λ c. search needs)
+    (λ c. search rules)
     returns-3)

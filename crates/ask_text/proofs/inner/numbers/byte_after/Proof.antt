@@ -1,5 +1,5 @@
 -- `ask_text::inner::numbers::byte_after` meets its contract: a byte that is no digit, and a digit by what the line states so far.
-use Rattle.model.proofs.Prelude.{needs}
+use Rattle.model.proofs.Prelude.{rules}
 use Rattle.ask_text.proofs.LineNumberCases.{number-cases}
 use Rattle.ask_text.proofs.inner.numbers.byte_after.Statement.{statement}
 use Rattle.ask_text.proofs.inner.numbers.byte_after.Tie as tie
@@ -10,7 +10,7 @@ byte_after_spec =
     (tie.spec
     (λ c. search number-cases)
     (λ c. search number-cases)
-    (λ c. search needs) (λ c. search needs) (λ c. search needs) (λ c κs. search needs) (λ c. search needs)
+    (λ c. search rules) (λ c. search rules) (λ c. search rules) (λ c κs. search rules) (λ c. search rules)
     (λ c. search number-cases)
     (λ c. search number-cases)
     (λ c. search number-cases))

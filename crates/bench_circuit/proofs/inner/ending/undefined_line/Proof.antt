@@ -1,5 +1,5 @@
 -- `bench_circuit::inner::ending::undefined_line` meets its contract: the lines that are left give the first line.
-use Rattle.model.proofs.Prelude.{◌≤◌, ◌-◌, length, needs, not-true, not-false}
+use Rattle.model.proofs.Prelude.{◌≤◌, ◌-◌, length, rules, not-true, not-false}
 use Rattle.bench_circuit.proofs.EndLaws.{UndefinedLeft, undefined_start, undefined_none, undefined_found, undefined_again}
 use Rattle.bench_lines.proofs.TextLineLaws.{line_low, line-stop-in, line-less, line-counted}
 use Rattle.bench_circuit.proofs.inner.ending.undefined_line.Statement.{statement}
@@ -18,14 +18,14 @@ undefined_line_spec =
     (tie.spec
     invariant-loop
     decreases-loop
-    (λ c. (search (undefined_start, needs), search needs))
-    (λ c κs. search needs)
-    (λ c. search (line_low, needs))
-    (λ c. search (line_low, line-stop-in, needs))
-    (λ c. search (line_low, line-stop-in, needs))
-    (λ c κs. search needs) (λ c. search needs)
-    (λ c. search (undefined_found, not-true, needs))
-    (λ c. search needs)
-    (λ c. search (line-less, needs))
-    (λ c. (search (undefined_again, not-false, needs), search (line-counted, needs)))
-    (λ c. search (undefined_none, needs)))
+    (λ c. (search (undefined_start, rules), search rules))
+    (λ c κs. search rules)
+    (λ c. search (line_low, rules))
+    (λ c. search (line_low, line-stop-in, rules))
+    (λ c. search (line_low, line-stop-in, rules))
+    (λ c κs. search rules) (λ c. search rules)
+    (λ c. search (undefined_found, not-true, rules))
+    (λ c. search rules)
+    (λ c. search (line-less, rules))
+    (λ c. (search (undefined_again, not-false, rules), search (line-counted, rules)))
+    (λ c. search (undefined_none, rules)))

@@ -1,5 +1,5 @@
 -- `bench_circuit::inner::judging::counted` meets its contract: by the answer.
-use Rattle.model.proofs.Prelude.{needs}
+use Rattle.model.proofs.Prelude.{rules}
 use Rattle.bench_circuit.proofs.LineCases.{counted-no, counted-yes}
 use Rattle.bench_circuit.proofs.inner.judging.counted.Statement.{statement}
 use Rattle.bench_circuit.proofs.inner.judging.counted.Tie as tie
@@ -8,6 +8,6 @@ pub counted_spec : {M : Type 1} → statement M
 counted_spec =
     tie.close
     (tie.spec
-    (λ c. search needs) (λ c. search needs)
-    (λ c. search (counted-no, needs))
-    (λ c. search (counted-yes, needs)))
+    (λ c. search rules) (λ c. search rules)
+    (λ c. search (counted-no, rules))
+    (λ c. search (counted-yes, rules)))

@@ -1,5 +1,5 @@
 -- `bench_circuit::inner::judging::judge_text` meets its contract: the lines that are left, from the circuit so far, give the whole; so does the number of the first bad one.
-use Rattle.model.proofs.Prelude.{◌≤◌, ◌-◌, length, needs}
+use Rattle.model.proofs.Prelude.{◌≤◌, ◌-◌, length, rules}
 use Rattle.bench_circuit.proofs.TextCases.{JudgedSoFar, text-start, text-room, text-end, text-refused, text-again}
 use Rattle.bench_lines.proofs.TextLineLaws.{line_low, line-stop-in, line-less, line-counted}
 use Rattle.bench_circuit.proofs.inner.judging.judge_text.Statement.{statement}
@@ -18,16 +18,16 @@ judge_text_spec =
     (tie.spec
     invariant-loop
     decreases-loop
-    (λ c. (search (text-start, needs), search needs))
-    (λ c κs. search needs)
-    (λ c. search (line_low, needs))
-    (λ c. search (line_low, line-stop-in, needs))
-    (λ c. search (line_low, line-stop-in, needs))
-    (λ c κs. search (text-room, needs))
-    (λ c. search needs) (λ c. search needs) (λ c. search needs) (λ c. search needs) (λ c. search needs)
-    (λ c. search (text-refused, needs))
-    (λ c. search needs) (λ c. search needs)
-    (λ c. search (line-less, needs))
-    (λ c. (search (text-again, needs), search (line-counted, needs)))
-    (λ c. search needs) (λ c. search needs) (λ c. search needs)
-    (λ c. search (text-end, needs)))
+    (λ c. (search (text-start, rules), search rules))
+    (λ c κs. search rules)
+    (λ c. search (line_low, rules))
+    (λ c. search (line_low, line-stop-in, rules))
+    (λ c. search (line_low, line-stop-in, rules))
+    (λ c κs. search (text-room, rules))
+    (λ c. search rules) (λ c. search rules) (λ c. search rules) (λ c. search rules) (λ c. search rules)
+    (λ c. search (text-refused, rules))
+    (λ c. search rules) (λ c. search rules)
+    (λ c. search (line-less, rules))
+    (λ c. (search (text-again, rules), search (line-counted, rules)))
+    (λ c. search rules) (λ c. search rules) (λ c. search rules)
+    (λ c. search (text-end, rules)))

@@ -1,5 +1,5 @@
 -- `block_activity::inner::marks::fill_block` meets its contract: it has no loop of its own.
-use Rattle.model.proofs.Prelude.{◌∙◌, arith, needs}
+use Rattle.model.proofs.Prelude.{◌∙◌, arith, rules}
 use Rattle.block_words.proofs.GateTableLaws.{few-inputs}
 use Rattle.block_activity.proofs.EdgeListLaws.{no-entries}
 use Rattle.block_activity.proofs.LentWorkLaws.{work-kept}
@@ -131,6 +131,6 @@ fill_block_spec =
     write-marks-requires
     live-outputs-requires-2
     write-marks-requires-2
-    (λ c. search needs) (λ c. search needs)
+    (λ c. search rules) (λ c. search rules)
     same-length-3
     returns)

@@ -1,5 +1,5 @@
 -- `block_activity::inner::marks::write_marks` meets its contract. The loop's invariant: the marks of the records before t are written, and no other place is.
-use Rattle.model.proofs.Prelude.{◌≤◌, ◌-◌, arith, needs}
+use Rattle.model.proofs.Prelude.{◌≤◌, ◌-◌, arith, rules}
 use Rattle.block_activity.specs.EdgeMarks.{EdgeWritten}
 use Rattle.block_activity.proofs.MarkWriteCases.{write_start, write_step, write_end}
 use Rattle.block_activity.proofs.inner.marks.write_marks.Statement.{statement}
@@ -32,12 +32,12 @@ write_marks_spec =
     invariant-loop
     decreases-loop
     (λ c. (omega arith, write_start _ _ _ _ c.args.records _))
-    (λ c. search needs) (λ c. search needs) (λ c. search needs) (λ c. search needs) (λ c. search needs)
-    (λ c. search needs) (λ c. search needs) (λ c. search needs) (λ c. search needs) (λ c. search needs)
-    (λ c. search needs) (λ c. search needs) (λ c. search needs) (λ c. search needs) (λ c. search needs)
-    (λ c. search needs) (λ c. search needs) (λ c. search needs)
+    (λ c. search rules) (λ c. search rules) (λ c. search rules) (λ c. search rules) (λ c. search rules)
+    (λ c. search rules) (λ c. search rules) (λ c. search rules) (λ c. search rules) (λ c. search rules)
+    (λ c. search rules) (λ c. search rules) (λ c. search rules) (λ c. search rules) (λ c. search rules)
+    (λ c. search rules) (λ c. search rules) (λ c. search rules)
     cast-marks
-    (λ c. search needs) (λ c. search needs) (λ c. search needs) (λ c. search needs) (λ c. search needs)
+    (λ c. search rules) (λ c. search rules) (λ c. search rules) (λ c. search rules) (λ c. search rules)
     (λ c. omega (arith, c.before.before.before.before.loop-test.true))
     loop-again
     (λ c. write_end c.before.loop.invariant.0 c.loop-test.false c.before.loop.invariant.1))

@@ -1,5 +1,5 @@
 -- `block_activity::inner::offsets::pin_offsets` meets its contract. The invariant, `PinsDone`: the first p pins have their offsets, and `offset` is their paths together.
-use Rattle.model.proofs.Prelude.{◌-◌, needs}
+use Rattle.model.proofs.Prelude.{◌-◌, rules}
 use Rattle.block_activity.proofs.OffsetCases.{PinsDone, pin-cases}
 use Rattle.block_activity.proofs.inner.offsets.pin_offsets.Statement.{statement}
 use Rattle.block_activity.proofs.inner.offsets.pin_offsets.Tie as tie
@@ -16,11 +16,11 @@ pin_offsets_spec =
     (tie.spec
     invariant-loop
     decreases-loop
-    (λ c. search needs) (λ c. search needs) (λ c. search needs) (λ c κs. search needs) (λ c. search needs)
-    (λ c. search needs) (λ c. search needs) (λ c. search needs) (λ c. search needs) (λ c. search needs)
-    (λ c. search needs) (λ c. search needs) (λ c. search needs) (λ c κs. search needs) (λ c. search needs)
+    (λ c. search rules) (λ c. search rules) (λ c. search rules) (λ c κs. search rules) (λ c. search rules)
+    (λ c. search rules) (λ c. search rules) (λ c. search rules) (λ c. search rules) (λ c. search rules)
+    (λ c. search rules) (λ c. search rules) (λ c. search rules) (λ c κs. search rules) (λ c. search rules)
     (λ c. search pin-cases)
     (λ c. search pin-cases)
-    (λ c. search needs) (λ c. search needs)
+    (λ c. search rules) (λ c. search rules)
     (λ c. search pin-cases)
     (λ c. search pin-cases))

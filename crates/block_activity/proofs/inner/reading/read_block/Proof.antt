@@ -1,6 +1,6 @@
 -- `block_activity::inner::reading::read_block` meets its contract. The invariant, `ReadSoFar`: the records before byte `at` are legal, and their vectors stand
 -- in the array.
-use Rattle.model.proofs.Prelude.{◌-◌, arith, needs}
+use Rattle.model.proofs.Prelude.{◌-◌, arith, rules}
 use Rattle.block_activity.proofs.BlockReadCases.{ReadSoFar, read_more, read-cases}
 use Rattle.block_activity.proofs.inner.reading.read_block.Statement.{statement}
 use Rattle.block_activity.proofs.inner.reading.read_block.Tie as tie
@@ -12,7 +12,7 @@ abbrev decreases-loop : tie.decreases-loop
 decreases-loop tests inputs vectors₀ bytes at₀ records₀ vectors at records = 64 - records
 
 enum_told : tie.Need-enum-told invariant-loop decreases-loop
-enum_told c = search needs
+enum_told c = search rules
 
 loop-again : tie.Need-loop-preserved invariant-loop decreases-loop
 loop-again c =
@@ -31,15 +31,15 @@ read_block_spec =
     (tie.spec
     invariant-loop
     decreases-loop
-    (λ c κs. search needs)
+    (λ c κs. search rules)
     (λ c. search read-cases)
-    (λ c. search needs)
+    (λ c. search rules)
     (λ c. search read-cases)
-    (λ c. search needs) (λ c. search needs) (λ c. search needs) (λ c. search needs) (λ c κs. search needs)
-    (λ c. search needs)
+    (λ c. search rules) (λ c. search rules) (λ c. search rules) (λ c. search rules) (λ c κs. search rules)
+    (λ c. search rules)
     (λ c. search read-cases)
     enum_told
-    (λ c κs. search needs) (λ c. search needs) (λ c. search needs) (λ c. search needs) (λ c. search needs)
-    (λ c. search needs) (λ c. search needs) (λ c. search needs) (λ c. search needs)
+    (λ c κs. search rules) (λ c. search rules) (λ c. search rules) (λ c. search rules) (λ c. search rules)
+    (λ c. search rules) (λ c. search rules) (λ c. search rules) (λ c. search rules)
     loop-again
     returns-3)

@@ -1,5 +1,5 @@
 -- `block_intervals::inner::sections::section_begin` meets its contract. The loop's invariant: the place lies between the section before it and the end of the held runs.
-use Rattle.model.proofs.Prelude.{◌≤◌, ◌-◌, ◌/◌, ◌≡◌, length, needs}
+use Rattle.model.proofs.Prelude.{◌≤◌, ◌-◌, ◌/◌, ◌≡◌, length, rules}
 use Rattle.block_intervals.proofs.inner.sections.section_begin.Statement.{statement}
 use Rattle.block_intervals.proofs.inner.sections.section_begin.Tie as tie
 
@@ -15,6 +15,6 @@ section_begin_spec =
     (tie.spec
     invariant-loop
     decreases-loop
-    (λ c. search needs) (λ c. search needs) (λ c. search needs) (λ c. search needs) (λ c. search needs)
-    (λ c. search needs) (λ c. search needs) (λ c. search needs) (λ c. search needs) (λ c. search needs)
-    (λ c. search needs) (λ c. search needs) (λ c. search needs) (λ c. search needs))
+    (λ c. search rules) (λ c. search rules) (λ c. search rules) (λ c. search rules) (λ c. search rules)
+    (λ c. search rules) (λ c. search rules) (λ c. search rules) (λ c. search rules) (λ c. search rules)
+    (λ c. search rules) (λ c. search rules) (λ c. search rules) (λ c. search rules))

@@ -1,5 +1,5 @@
 -- `block_intervals::inner::sections::whole_outputs` is safe: the output is one of 64.
-use Rattle.model.proofs.Prelude.{◌≤◌, ◌-◌, needs}
+use Rattle.model.proofs.Prelude.{◌≤◌, ◌-◌, rules}
 use Rattle.block_intervals.proofs.inner.sections.whole_outputs.Statement.{statement}
 use Rattle.block_intervals.proofs.inner.sections.whole_outputs.Tie as tie
 
@@ -15,6 +15,6 @@ whole_outputs_spec =
     (tie.spec
     invariant-loop
     decreases-loop
-    (λ c. search needs) (λ c. search needs) (λ c. search needs) (λ c. search needs) (λ c. search needs)
-    (λ c. search needs) (λ c. search needs) (λ c. search needs) (λ c. search needs) (λ c. search needs)
-    (λ c. search needs) (λ c. search needs) (λ c. search needs) (λ c. search needs))
+    (λ c. search rules) (λ c. search rules) (λ c. search rules) (λ c. search rules) (λ c. search rules)
+    (λ c. search rules) (λ c. search rules) (λ c. search rules) (λ c. search rules) (λ c. search rules)
+    (λ c. search rules) (λ c. search rules) (λ c. search rules) (λ c. search rules))

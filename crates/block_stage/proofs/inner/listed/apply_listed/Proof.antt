@@ -1,5 +1,5 @@
 -- `block_stage::inner::listed::apply_listed` meets its contract: what was made of both edges is written to the store, and the sections are found anew.
-use Rattle.model.proofs.Prelude.{needs}
+use Rattle.model.proofs.Prelude.{rules}
 use Rattle.block_stage.proofs.RecordEdgeLaws.{listed-inputs, listed-writes, listed-written, listed-few}
 use Rattle.block_stage.proofs.inner.listed.apply_listed.Statement.{statement}
 use Rattle.block_stage.proofs.inner.listed.apply_listed.Tie as tie
@@ -33,8 +33,8 @@ pub apply_listed_spec : {M : Type 1} → statement M
 apply_listed_spec =
     tie.close
     (tie.spec
-    (λ c κs. search needs)
+    (λ c κs. search rules)
     write-both-requires
     renew-sections-requires
-    (λ c. search needs) (λ c. search needs)
+    (λ c. search rules) (λ c. search rules)
     returns)

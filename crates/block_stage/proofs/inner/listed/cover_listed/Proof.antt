@@ -1,5 +1,5 @@
 -- `block_stage::inner::listed::cover_listed` meets its contract: the runs made of the rising edge stay while the falling edge is covered.
-use Rattle.model.proofs.Prelude.{needs}
+use Rattle.model.proofs.Prelude.{rules}
 use Rattle.block_stage.proofs.RecordEdgeLaws.{some-few, some_up, some-down, both-listed}
 use Rattle.block_stage.proofs.inner.listed.cover_listed.Statement.{statement}
 use Rattle.block_stage.proofs.inner.listed.cover_listed.Tie as tie
@@ -33,9 +33,9 @@ pub cover_listed_spec : {M : Type 1} → statement M
 cover_listed_spec =
     tie.close
     (tie.spec
-    (λ c κs. search (some-few, needs))
+    (λ c κs. search (some-few, rules))
     cover-edge-requires
-    (λ c κs. search (some-few, needs))
+    (λ c κs. search (some-few, rules))
     cover-edge-requires-2
-    (λ c κs. search needs) (λ c. search needs)
+    (λ c κs. search rules) (λ c. search rules)
     returns)

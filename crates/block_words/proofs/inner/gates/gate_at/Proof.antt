@@ -1,5 +1,5 @@
 -- `block_words::inner::gates::gate_at` meets its contract.
-use Rattle.model.proofs.Prelude.{refl, arith, needs}
+use Rattle.model.proofs.Prelude.{refl, arith, rules}
 use Rattle.block_words.proofs.inner.gates.gate_at.Statement.{statement}
 use Rattle.block_words.proofs.inner.gates.gate_at.Tie as tie
 
@@ -16,6 +16,6 @@ gate_at_spec =
     (λ c. omega (arith, c.before.requires))
     (λ c. omega (arith, c.before.requires))
     (λ c. omega (arith, c.before.requires))
-    (λ c κs. search needs) (λ c κs. search needs)
+    (λ c κs. search rules) (λ c κs. search rules)
     (λ c. omega (arith, c.before.before.before.before.requires))
     returns)

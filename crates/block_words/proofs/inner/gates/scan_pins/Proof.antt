@@ -1,5 +1,5 @@
 -- `block_words::inner::gates::scan_pins` meets its contract. The loop's invariant: the words say what the pins from k on show.
-use Rattle.model.proofs.Prelude.{needs}
+use Rattle.model.proofs.Prelude.{rules}
 use Rattle.block_words.proofs.ScanPinsCases.{ScannedFrom, scan_pins-start, scan_pins-step, scan_pins-end}
 use Rattle.block_words.proofs.inner.gates.scan_pins.Statement.{statement}
 use Rattle.block_words.proofs.inner.gates.scan_pins.Tie as tie
@@ -17,8 +17,8 @@ scan_pins_spec =
     invariant-loop
     decreases-loop
     (λ c. scan_pins-start)
-    (λ c. search needs) (λ c κs. search needs) (λ c. search needs) (λ c. search needs) (λ c. search needs)
-    (λ c. search needs) (λ c. search needs) (λ c. search needs) (λ c. search needs) (λ c. search needs)
-    (λ c κs. search needs) (λ c κs. search needs) (λ c κs. search needs) (λ c. search needs)
-    (λ c. search (scan_pins-step, needs))
+    (λ c. search rules) (λ c κs. search rules) (λ c. search rules) (λ c. search rules) (λ c. search rules)
+    (λ c. search rules) (λ c. search rules) (λ c. search rules) (λ c. search rules) (λ c. search rules)
+    (λ c κs. search rules) (λ c κs. search rules) (λ c κs. search rules) (λ c. search rules)
+    (λ c. search (scan_pins-step, rules))
     (λ c. scan_pins-end c.before.loop.invariant c.loop-test.false))

@@ -1,5 +1,5 @@
 -- `block_words::inner::lists::byte_of` meets its contract. The loop's invariant: the pins from k on are packed, pin k in the lowest bit. Two pins want no loop.
-use Rattle.model.proofs.Prelude.{arith, needs}
+use Rattle.model.proofs.Prelude.{arith, rules}
 use Rattle.block_words.proofs.PackCases.{Packing, two-pin-cases, pack_start, pack_few, digit-few, pack_step, pack_end}
 use Rattle.block_words.proofs.inner.lists.byte_of.Statement.{statement}
 use Rattle.block_words.proofs.inner.lists.byte_of.Tie as tie
@@ -34,16 +34,16 @@ byte_of_spec =
     (tie.spec
     invariant-loop
     decreases-loop
-    (λ c. search needs) (λ c κs. search needs) (λ c. search needs) (λ c κs. search needs)
+    (λ c. search rules) (λ c κs. search rules) (λ c. search rules) (λ c κs. search rules)
     (λ c. search two-pin-cases)
     (λ c. search two-pin-cases)
     (λ c. (search two-pin-cases, search two-pin-cases))
     (λ c. pack_start _ _ _)
-    (λ c. search needs)
+    (λ c. search rules)
     mul-byte
     (λ c. omega (arith, c.before.loop.invariant.within, c.before.before.before.requires.0))
     (λ c. omega (arith, c.before.loop.invariant.within, c.before.before.before.requires.0, c.loop-test.true))
-    (λ c κs. search needs)
+    (λ c κs. search rules)
     add-byte
     (λ c. omega (arith, c.before.before.loop-test.true))
     loop-again

@@ -1,5 +1,5 @@
 -- `block_words::inner::lists::push` meets its contract. The loop's invariant: the records of the word that are not left have their entry.
-use Rattle.model.proofs.Prelude.{◌+◌, ◌*◌, ap, arith, needs}
+use Rattle.model.proofs.Prelude.{◌+◌, ◌*◌, ap, arith, rules}
 use Rattle.block_words.specs.Lists.{entry_of}
 use Rattle.block_words.proofs.PushCases.{Pushing, push_start, len-few, list-place, left_less, push_step, push_end}
 use Rattle.block_words.proofs.inner.lists.push.Statement.{statement}
@@ -33,14 +33,14 @@ push_spec =
     invariant-loop
     decreases-loop
     (λ c. push_start c.before.well-formed.1.1.0.1)
-    (λ c κs. search needs) (λ c κs. search needs) (λ c. search needs) (λ c. search needs) (λ c κs. search needs)
-    (λ c. search needs) (λ c. search needs) (λ c. search needs) (λ c. search needs) (λ c. search needs)
-    (λ c. search needs)
-    (λ c. search (list-place, needs))
-    (λ c. search needs)
+    (λ c κs. search rules) (λ c κs. search rules) (λ c. search rules) (λ c. search rules) (λ c κs. search rules)
+    (λ c. search rules) (λ c. search rules) (λ c. search rules) (λ c. search rules) (λ c. search rules)
+    (λ c. search rules)
+    (λ c. search (list-place, rules))
+    (λ c. search rules)
     cast-lens
-    (λ c. search needs) (λ c. search needs) (λ c. search needs)
-    (λ c. search (left_less, needs))
+    (λ c. search rules) (λ c. search rules) (λ c. search rules)
+    (λ c. search (left_less, rules))
     loop-again
     (λ c. c.before.loop.invariant.same_length_of)
     (λ c. push_end c.loop-test.false c.before.loop.invariant))

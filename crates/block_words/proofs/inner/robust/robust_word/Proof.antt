@@ -1,5 +1,5 @@
 -- `block_words::inner::robust::robust_word` meets its contract, kind by kind.
-use Rattle.model.proofs.Prelude.{needs}
+use Rattle.model.proofs.Prelude.{rules}
 use Rattle.block_words.proofs.RobustCases.{robust_and, robust_nand, robust_or, robust_nor, robust_others}
 use Rattle.block_words.proofs.inner.robust.robust_word.Statement.{statement}
 use Rattle.block_words.proofs.inner.robust.robust_word.Tie as tie
@@ -39,7 +39,7 @@ pub robust_word_spec : {M : Type 1} → statement M
 robust_word_spec =
     tie.close
     (tie.spec
-    (λ c κs. search needs) (λ c κs. search needs)
+    (λ c κs. search rules) (λ c κs. search rules)
     returns
     returns-2
     returns-3

@@ -1,5 +1,5 @@
 -- `block_words::inner::table::fill_pins` meets its contract. The loop's invariant: the nets at the pins from k on stand in the table.
-use Rattle.model.proofs.Prelude.{◌-◌, ◌≡◌, arith, needs}
+use Rattle.model.proofs.Prelude.{◌-◌, ◌≡◌, arith, rules}
 use Rattle.netlist.specs.Tables.{pin_in}
 use Rattle.block_words.proofs.WordLaws.{Filling, fill_start, fill_step, fill_end}
 use Rattle.block_words.proofs.inner.table.fill_pins.Statement.{statement}
@@ -50,7 +50,7 @@ fill_pins_spec =
     invariant-loop
     decreases-loop
     (λ c. fill_start _ _ _ _)
-    (λ c. search needs)
+    (λ c. search rules)
     pin-net-requires
     cast-table
     add-table

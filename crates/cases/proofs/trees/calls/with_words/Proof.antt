@@ -1,5 +1,5 @@
 -- `cases::trees::calls::with_words` is safe and ends: the place stays in the words.
-use Rattle.model.proofs.Prelude.{◌≤◌, ◌-◌, length, needs}
+use Rattle.model.proofs.Prelude.{◌≤◌, ◌-◌, length, rules}
 use Rattle.cases.proofs.trees.calls.with_words.Statement.{statement}
 use Rattle.cases.proofs.trees.calls.with_words.Tie as tie
 
@@ -15,5 +15,5 @@ with_words_spec =
     (tie.spec
     invariant-loop
     decreases-loop
-    (λ c. search needs) (λ c. search needs) (λ c. search needs) (λ c κs. search needs) (λ c. search needs)
-    (λ c. search needs) (λ c. search needs) (λ c. search needs))
+    (λ c. search rules) (λ c. search rules) (λ c. search rules) (λ c κs. search rules) (λ c. search rules)
+    (λ c. search rules) (λ c. search rules) (λ c. search rules))

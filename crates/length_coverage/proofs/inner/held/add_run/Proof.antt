@@ -1,11 +1,11 @@
 -- `length_coverage::held::add_run` meets its contract: the paths up to the run's end less those before it.
-use Rattle.model.proofs.Prelude.{needs}
+use Rattle.model.proofs.Prelude.{rules}
 use Rattle.length_coverage.proofs.HeldCases.{lower-ranked, run-under, run_room, run-added}
 use Rattle.length_coverage.proofs.inner.held.add_run.Statement.{statement}
 use Rattle.length_coverage.proofs.inner.held.add_run.Tie as tie
 
 rank-row-requires-2 : tie.Need-rank-row-requires-2
-rank-row-requires-2 c κs = search (lower-ranked, needs)
+rank-row-requires-2 c κs = search (lower-ranked, rules)
 
 add-difference-requires : tie.Need-add-difference-requires
 add-difference-requires c κs =
@@ -26,4 +26,4 @@ returns c =
 pub add_run_spec : {M : Type 1} → statement M
 add_run_spec =
     tie.close
-    (tie.spec (λ c κs. search needs) (λ c. search needs) rank-row-requires-2 add-difference-requires returns)
+    (tie.spec (λ c κs. search rules) (λ c. search rules) rank-row-requires-2 add-difference-requires returns)

@@ -1,5 +1,5 @@
 -- `length_ranks::inner::ranks::add_output` meets its contract: an input net adds nothing, a gate's its row.
-use Rattle.model.proofs.Prelude.{needs}
+use Rattle.model.proofs.Prelude.{rules}
 use Rattle.length_ranks.proofs.OutputSumCases.{output-row-cases, gate-room, gate-added}
 use Rattle.length_ranks.proofs.inner.ranks.add_output.Statement.{statement}
 use Rattle.length_ranks.proofs.inner.ranks.add_output.Tie as tie
@@ -19,4 +19,4 @@ returns-2 c =
 
 pub add_output_spec : {M : Type 1} → statement M
 add_output_spec =
-    tie.close (tie.spec returns (λ c. search needs) (λ c. search needs) add-longer-requires returns-2)
+    tie.close (tie.spec returns (λ c. search rules) (λ c. search rules) add-longer-requires returns-2)

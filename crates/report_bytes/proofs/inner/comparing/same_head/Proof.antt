@@ -1,5 +1,5 @@
 -- `report_bytes::inner::comparing::same_head` meets its contract: the first field that differs decides.
-use Rattle.model.proofs.Prelude.{needs}
+use Rattle.model.proofs.Prelude.{rules}
 use Rattle.report_bytes.proofs.HeadLaws.{head-cases}
 use Rattle.report_bytes.proofs.inner.comparing.same_head.Statement.{statement}
 use Rattle.report_bytes.proofs.inner.comparing.same_head.Tie as tie
@@ -17,17 +17,17 @@ pub same_head_spec : {M : Type 1} → statement M
 same_head_spec =
     tie.close
     (tie.spec
-    (λ c κs. search needs)
+    (λ c κs. search rules)
     (λ c. search head-cases)
-    (λ c κs. search needs)
+    (λ c κs. search rules)
     returns-2
-    (λ c κs. search needs)
+    (λ c κs. search rules)
     returns-3
-    (λ c κs. search needs)
+    (λ c κs. search rules)
     returns-4
-    (λ c κs. search needs)
+    (λ c κs. search rules)
     (λ c. search head-cases)
-    (λ c κs. search needs)
+    (λ c κs. search rules)
     (λ c. search head-cases)
-    (λ c κs. search needs)
+    (λ c κs. search rules)
     (λ c. search head-cases))

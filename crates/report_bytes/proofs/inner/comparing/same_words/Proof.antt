@@ -1,5 +1,5 @@
 -- `report_bytes::inner::comparing::same_words` meets its contract. The invariant: the words that are left, compared from here on, decide the whole.
-use Rattle.model.proofs.Prelude.{◌≤◌, ◌-◌, ◌*◌, ◌≡◌, length, drop, take, needs}
+use Rattle.model.proofs.Prelude.{◌≤◌, ◌-◌, ◌*◌, ◌≡◌, length, drop, take, rules}
 use Rattle.model.specs.Report.{same_bytes}
 use Rattle.report_bytes.specs.Layout.{word_bytes}
 use Rattle.report_bytes.proofs.WordSteps.{rest_same, same_cases}
@@ -19,9 +19,9 @@ same_words_spec =
     (tie.spec
     invariant-loop
     decreases-loop
-    (λ c. (search needs, search same_cases))
-    (λ c. search needs) (λ c. search needs) (λ c. search needs) (λ c. search needs) (λ c κs. search needs)
+    (λ c. (search rules, search same_cases))
+    (λ c. search rules) (λ c. search rules) (λ c. search rules) (λ c. search rules) (λ c κs. search rules)
     (λ c. search same_cases)
-    (λ c. search needs) (λ c. search needs)
-    (λ c. (search needs, search same_cases))
+    (λ c. search rules) (λ c. search rules)
+    (λ c. (search rules, search same_cases))
     (λ c. search same_cases))

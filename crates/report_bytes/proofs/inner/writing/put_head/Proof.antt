@@ -1,5 +1,5 @@
 -- `report_bytes::inner::writing::put_head` meets its contract, field by field.
-use Rattle.model.proofs.Prelude.{needs}
+use Rattle.model.proofs.Prelude.{rules}
 use Rattle.report_bytes.proofs.HeadLaws.{head-put}
 use Rattle.report_bytes.proofs.inner.writing.put_head.Statement.{statement}
 use Rattle.report_bytes.proofs.inner.writing.put_head.Tie as tie
@@ -21,6 +21,6 @@ pub put_head_spec : {M : Type 1} → statement M
 put_head_spec =
     tie.close
     (tie.spec
-    (λ c κs. search needs) (λ c κs. search needs) (λ c κs. search needs) (λ c κs. search needs) (λ c κs. search needs)
-    (λ c κs. search needs) (λ c κs. search needs) (λ c. search needs)
+    (λ c κs. search rules) (λ c κs. search rules) (λ c κs. search rules) (λ c κs. search rules) (λ c κs. search rules)
+    (λ c κs. search rules) (λ c κs. search rules) (λ c. search rules)
     returns)

@@ -1,5 +1,5 @@
 -- `report_bytes::inner::writing::put_words` meets its contract. The invariant: the words that are left, written from here on, give the whole.
-use Rattle.model.proofs.Prelude.{◌≤◌, ◌+◌, ◌-◌, ◌*◌, ◌≡◌, length, drop, sets, needs}
+use Rattle.model.proofs.Prelude.{◌≤◌, ◌+◌, ◌-◌, ◌*◌, ◌≡◌, length, drop, sets, rules}
 use Rattle.report_bytes.specs.Layout.{word_bytes}
 use Rattle.report_bytes.proofs.WordSteps.{put_next, put-cases}
 use Rattle.report_bytes.proofs.inner.writing.put_words.Statement.{statement}
@@ -14,7 +14,7 @@ abbrev decreases-loop : tie.decreases-loop
 decreases-loop report₀ at words i₀ report i = length words - i
 
 put-requires : tie.Need-put-requires invariant-loop decreases-loop
-put-requires c κs = search needs
+put-requires c κs = search rules
 
 loop-again : tie.Need-loop-preserved invariant-loop decreases-loop
 loop-again c =
@@ -22,8 +22,8 @@ loop-again c =
     let here = c.before.before.before.before.before in
     let loop = here.before.loop in
     let entry = here.before.before.before.before.args in (
-      search needs,
-      search needs,
+      search rules,
+      search rules,
       put_next entry.words.now loop.i here.loop-test.true loop.report made.new.0 entry.at made.ensures _ loop.invariant.2,
     )
 
@@ -33,10 +33,10 @@ put_words_spec =
     (tie.spec
     invariant-loop
     decreases-loop
-    (λ c. (search needs, search needs, search put-cases))
-    (λ c. search needs) (λ c. search needs) (λ c. search needs) (λ c. search needs)
+    (λ c. (search rules, search rules, search put-cases))
+    (λ c. search rules) (λ c. search rules) (λ c. search rules) (λ c. search rules)
     put-requires
-    (λ c. search needs) (λ c. search needs)
+    (λ c. search rules) (λ c. search rules)
     loop-again
-    (λ c. search needs)
+    (λ c. search rules)
     (λ c. search put-cases))

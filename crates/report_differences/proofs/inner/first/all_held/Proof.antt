@@ -1,5 +1,5 @@
 -- `report_differences::inner::first::all_held` meets its contract: lists that both ascend are compared.
-use Rattle.model.proofs.Prelude.{needs}
+use Rattle.model.proofs.Prelude.{rules}
 use Rattle.report_runs.proofs.AscendLaws.{ascends-of}
 use Rattle.report_differences.proofs.FirstClaimLaws.{claim-cases}
 use Rattle.report_differences.proofs.inner.first.all_held.Statement.{statement}
@@ -13,7 +13,7 @@ pub all_held_spec : {M : Type 1} → statement M
 all_held_spec =
     tie.close
     (tie.spec
-    (λ c κs. search needs) (λ c κs. search needs)
+    (λ c κs. search rules) (λ c κs. search rules)
     each-held-requires
     (λ c. search claim-cases)
     (λ c. search claim-cases)

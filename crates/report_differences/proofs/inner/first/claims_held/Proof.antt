@@ -1,5 +1,5 @@
 -- `report_differences::inner::first::claims_held` meets its contract: both edges are compared.
-use Rattle.model.proofs.Prelude.{needs}
+use Rattle.model.proofs.Prelude.{rules}
 use Rattle.report_differences.proofs.FirstClaimLaws.{rising-not, falling-tells}
 use Rattle.report_differences.proofs.inner.first.claims_held.Statement.{statement}
 use Rattle.report_differences.proofs.inner.first.claims_held.Tie as tie
@@ -28,7 +28,7 @@ pub claims_held_spec : {M : Type 1} → statement M
 claims_held_spec =
     tie.close
     (tie.spec
-    (λ c κs. search needs) (λ c κs. search needs) (λ c κs. search needs)
+    (λ c κs. search rules) (λ c κs. search rules) (λ c κs. search rules)
     returns
-    (λ c κs. search needs) (λ c κs. search needs) (λ c κs. search needs)
+    (λ c κs. search rules) (λ c κs. search rules) (λ c κs. search rules)
     returns-2)

@@ -1,5 +1,5 @@
 -- `report_differences::inner::first::first_claim` meets its contract: the first number of lists that both ascend.
-use Rattle.model.proofs.Prelude.{needs}
+use Rattle.model.proofs.Prelude.{rules}
 use Rattle.report_runs.proofs.AscendLaws.{ascends-of}
 use Rattle.report_differences.proofs.FirstClaimLaws.{claim-cases}
 use Rattle.report_differences.proofs.inner.first.first_claim.Statement.{statement}
@@ -13,7 +13,7 @@ pub first_claim_spec : {M : Type 1} → statement M
 first_claim_spec =
     tie.close
     (tie.spec
-    (λ c κs. search needs) (λ c κs. search needs)
+    (λ c κs. search rules) (λ c κs. search rules)
     first-number-requires
     (λ c. search claim-cases)
     (λ c. search claim-cases)

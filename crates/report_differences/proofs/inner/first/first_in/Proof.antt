@@ -1,5 +1,5 @@
 -- `report_differences::inner::first::first_in` meets its contract: a rising claim is told before a falling one.
-use Rattle.model.proofs.Prelude.{needs}
+use Rattle.model.proofs.Prelude.{rules}
 use Rattle.report_differences.proofs.FirstClaimLaws.{found-rising, found-falling, found_none}
 use Rattle.report_differences.proofs.inner.first.first_in.Statement.{statement}
 use Rattle.report_differences.proofs.inner.first.first_in.Tie as tie
@@ -43,8 +43,8 @@ pub first_in_spec : {M : Type 1} → statement M
 first_in_spec =
     tie.close
     (tie.spec
-    (λ c κs. search needs) (λ c κs. search needs) (λ c κs. search needs)
+    (λ c κs. search rules) (λ c κs. search rules) (λ c κs. search rules)
     returns
-    (λ c κs. search needs) (λ c κs. search needs) (λ c κs. search needs)
+    (λ c κs. search rules) (λ c κs. search rules) (λ c κs. search rules)
     returns-2
     returns-3)

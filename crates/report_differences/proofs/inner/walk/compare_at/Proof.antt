@@ -1,11 +1,11 @@
 -- `report_differences::inner::walk::compare_at` meets its contract: each return is one case of where the number stands among both.
-use Rattle.model.proofs.Prelude.{needs}
+use Rattle.model.proofs.Prelude.{rules}
 use Rattle.report_differences.proofs.RangeCases.{past-a, before-a, past-b, before-far, before-near, inside-all, inside-b, over_zero}
 use Rattle.report_differences.proofs.inner.walk.compare_at.Statement.{statement}
 use Rattle.report_differences.proofs.inner.walk.compare_at.Tie as tie
 
 enum_told : tie.Need-enum-told
-enum_told c = search needs
+enum_told c = search rules
 
 returns : tie.Need-returns
 returns c =
@@ -93,14 +93,14 @@ pub compare_at_spec : {M : Type 1} → statement M
 compare_at_spec =
     tie.close
     (tie.spec
-    (λ c κs. search needs)
+    (λ c κs. search rules)
     enum_told
-    (λ c. search needs) (λ c. search needs) (λ c κs. search needs) (λ c. search needs) (λ c. search needs)
+    (λ c. search rules) (λ c. search rules) (λ c κs. search rules) (λ c. search rules) (λ c. search rules)
     returns
     sub-t15
-    (λ c. search needs)
+    (λ c. search rules)
     returns-2
-    (λ c. search needs)
+    (λ c. search rules)
     returns-3
     returns-4
     returns-5

@@ -1,6 +1,6 @@
 -- `report_differences::inner::walk::first_only` meets its contract. The invariant: no number passed is in the first runs only, and the runs before the places
 -- end before the number.
-use Rattle.model.proofs.Prelude.{ℕ, ◌≤◌, ◌<◌, ◌-◌, ◌^◌, ◌≡◌, false, arith, needs}
+use Rattle.model.proofs.Prelude.{ℕ, ◌≤◌, ◌<◌, ◌-◌, ◌^◌, ◌≡◌, false, arith, rules}
 use Rattle.report_differences.specs.Differences.{only, Passed}
 use Rattle.report_differences.proofs.RunCases.{passed_later}
 use Rattle.report_differences.proofs.RangeCases.{first-start, first_found, first-later, first-none}
@@ -22,7 +22,7 @@ loop-holds c =
     (s.0, s.1, p.0, p.1)
 
 enum_told : tie.Need-enum-told invariant-loop decreases-loop
-enum_told c = search needs
+enum_told c = search rules
 
 returns : tie.Need-returns invariant-loop decreases-loop
 returns c =
@@ -101,8 +101,8 @@ first_only_spec =
     (λ c κs. (c.before.seek.ensures, c.seek2.ensures))
     enum_told
     returns
-    (λ c. search needs)
+    (λ c. search rules)
     loop-less
     loop-again
-    (λ c. search needs)
+    (λ c. search rules)
     returns-2)

@@ -1,6 +1,6 @@
 -- `report_differences::inner::walk::last_only` meets its contract. The invariant: every number passed is in the first runs only, and the runs before the
 -- places end with it or before.
-use Rattle.model.proofs.Prelude.{ℕ, ◌≤◌, ◌+◌, ◌-◌, ◌^◌, ◌≡◌, true, arith, needs}
+use Rattle.model.proofs.Prelude.{ℕ, ◌≤◌, ◌+◌, ◌-◌, ◌^◌, ◌≡◌, true, arith, rules}
 use Rattle.report_differences.specs.Differences.{only, Passed}
 use Rattle.report_differences.proofs.RunCases.{passed_later}
 use Rattle.report_differences.proofs.RangeCases.{last-start, last-later, last-before, last_end, last-number}
@@ -65,7 +65,7 @@ loop-again c =
     )
 
 enum_told : tie.Need-enum-told invariant-loop decreases-loop
-enum_told c = search needs
+enum_told c = search rules
 
 returns : tie.Need-returns invariant-loop decreases-loop
 returns c =
@@ -106,17 +106,17 @@ last_only_spec =
     invariant-loop
     decreases-loop
     loop-holds
-    (λ c. search needs)
+    (λ c. search rules)
     (λ c κs. c.before.loop.invariant.2)
-    (λ c. search needs)
+    (λ c. search rules)
     (λ c κs. c.before.before.loop.invariant.3)
-    (λ c. search needs)
+    (λ c. search rules)
     (λ c κs. (c.before.seek.ensures, c.seek2.ensures))
-    (λ c. search needs)
+    (λ c. search rules)
     loop-less
     loop-again
     enum_told
-    (λ c. search needs)
+    (λ c. search rules)
     returns
     returns-2
     returns-3)

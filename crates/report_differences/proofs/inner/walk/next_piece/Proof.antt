@@ -1,12 +1,12 @@
 -- `report_differences::inner::walk::next_piece` meets its contract: the range from its first number to its last.
-use Rattle.model.proofs.Prelude.{needs}
+use Rattle.model.proofs.Prelude.{rules}
 use Rattle.report_differences.specs.declared.inner.walk.First.TheVariants as first
 use Rattle.report_differences.proofs.RangeCases.{start-as}
 use Rattle.report_differences.proofs.inner.walk.next_piece.Statement.{statement}
 use Rattle.report_differences.proofs.inner.walk.next_piece.Tie as tie
 
 enum_told : tie.Need-enum-told
-enum_told c = search needs
+enum_told c = search rules
 
 last-only-requires : tie.Need-last-only-requires
 last-only-requires c κs =
@@ -42,4 +42,4 @@ returns-2 c =
 pub next_piece_spec : {M : Type 1} → statement M
 next_piece_spec =
     tie.close
-    (tie.spec (λ c κs. search needs) enum_told (λ c. search needs) last-only-requires returns returns-2)
+    (tie.spec (λ c κs. search rules) enum_told (λ c. search rules) last-only-requires returns returns-2)

@@ -1,5 +1,5 @@
 -- `report_differences::inner::walk::seek` meets its contract. The invariant: the runs before the place end before the number.
-use Rattle.model.proofs.Prelude.{◌-◌, needs}
+use Rattle.model.proofs.Prelude.{◌-◌, rules}
 use Rattle.report_differences.specs.Differences.{Passed}
 use Rattle.report_differences.proofs.RunCases.{passed-run, reached-run, reached-end}
 use Rattle.report_differences.proofs.inner.walk.seek.Statement.{statement}
@@ -38,8 +38,8 @@ seek_spec =
     invariant-loop
     decreases-loop
     (λ c. c.before.requires)
-    (λ c. search needs) (λ c. search needs) (λ c κs. search needs)
+    (λ c. search rules) (λ c. search rules) (λ c κs. search rules)
     returns
-    (λ c. search needs) (λ c. search needs)
+    (λ c. search rules) (λ c. search rules)
     loop-again
     returns-2)

@@ -1,5 +1,5 @@
 -- `report_differences::inner::walk::standing_at` meets its contract: the run at the place tells.
-use Rattle.model.proofs.Prelude.{needs}
+use Rattle.model.proofs.Prelude.{rules}
 use Rattle.report_differences.proofs.RunCases.{past_all, before-run, inside-run}
 use Rattle.report_differences.proofs.inner.walk.standing_at.Statement.{statement}
 use Rattle.report_differences.proofs.inner.walk.standing_at.Tie as tie
@@ -28,7 +28,7 @@ standing_at_spec =
     tie.close
     (tie.spec
     returns
-    (λ c. search needs) (λ c κs. search needs)
+    (λ c. search rules) (λ c κs. search rules)
     returns-2
-    (λ c. search needs) (λ c. search needs) (λ c κs. search needs)
+    (λ c. search rules) (λ c. search rules) (λ c κs. search rules)
     returns-3)

@@ -1,5 +1,5 @@
 -- `run_shifted::inner::gates::gate_runs` meets its contract: the list holds the runs of the pins so far.
-use Rattle.model.proofs.Prelude.{◌-◌, ◌≡◌, refl, length, arith, needs}
+use Rattle.model.proofs.Prelude.{◌-◌, ◌≡◌, refl, length, arith, rules}
 use Rattle.model.specs.Store.{max_runs}
 use Rattle.run_shifted.specs.RunsOfPlaces.{gate_places}
 use Rattle.run_shifted.proofs.PlaceRunSteps.{PlacesDone, place-cases, places-room, places-small, place-net, place-below, place-more}
@@ -33,7 +33,7 @@ loop-again c =
     let at = call.before.before in
     let done = at.before.before.before.loop.invariant.0 in (
       place-more done at.before.before.loop-test.true at.before.pin-net.ensures at.digit.result at.digit.ensures.1 call.add-net.ensures refl c.before.before.c.given.1,
-      search needs,
+      search rules,
     )
 
 pub gate_runs_spec : {M : Type 1} → statement M
@@ -44,7 +44,7 @@ gate_runs_spec =
     decreases-loop
     (λ c. search place-cases)
     (λ c κs. search place-cases)
-    (λ c. (search place-cases, search needs))
+    (λ c. (search place-cases, search rules))
     (λ c κs. search place-cases)
     (λ c κs. search place-cases)
     (λ c. search place-cases)

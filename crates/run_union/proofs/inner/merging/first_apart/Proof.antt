@@ -1,5 +1,5 @@
 -- `run_union::inner::merging::first_apart` meets its contract: the place lies within the runs that are asked.
-use Rattle.model.proofs.Prelude.{◌≤◌, ◌-◌, arith, needs}
+use Rattle.model.proofs.Prelude.{◌≤◌, ◌-◌, arith, rules}
 use Rattle.run_union.proofs.MiddleLaws.{apart-at, apart-end}
 use Rattle.run_union.proofs.inner.merging.first_apart.Statement.{statement}
 use Rattle.run_union.proofs.inner.merging.first_apart.Tie as tie
@@ -16,7 +16,7 @@ first_apart_spec =
     (tie.spec
     invariant-loop
     decreases-loop
-    (λ c. search needs) (λ c. search needs) (λ c. search needs) (λ c. search needs) (λ c. search needs)
-    (λ c. (omega arith, omega arith, search (apart-at, needs)))
-    (λ c. search needs) (λ c. search needs) (λ c. search needs)
-    (λ c. (omega arith, omega arith, search (apart-end, needs))))
+    (λ c. search rules) (λ c. search rules) (λ c. search rules) (λ c. search rules) (λ c. search rules)
+    (λ c. (omega arith, omega arith, search (apart-at, rules)))
+    (λ c. search rules) (λ c. search rules) (λ c. search rules)
+    (λ c. (omega arith, omega arith, search (apart-end, rules))))

@@ -1,5 +1,5 @@
 -- `run_union::inner::merging::union` meets its contract: the runs added so far and those left of both lists, by ascending low, make the runs of the union.
-use Rattle.model.proofs.Prelude.{◌+◌, ◌-◌, arith, needs}
+use Rattle.model.proofs.Prelude.{◌+◌, ◌-◌, arith, rules}
 use Rattle.run_union.proofs.UnionSteps.{Merging, merging_start, merging_room, merging_end, left_below, left-run, left-full, left-more, right-below, right-run, right-full, right-more}
 use Rattle.run_union.proofs.inner.merging.union.Statement.{statement}
 use Rattle.run_union.proofs.inner.merging.union.Tie as tie
@@ -46,17 +46,17 @@ union_spec =
     (tie.spec
     invariant-loop
     decreases-loop
-    (λ c. search (merging_start, needs))
-    (λ c. search needs) (λ c. search needs) (λ c κs. search needs)
+    (λ c. search (merging_start, rules))
+    (λ c. search rules) (λ c. search rules) (λ c κs. search rules)
     append-run-requires
-    (λ c. search needs) (λ c. search needs) (λ c. search needs)
-    (λ c. search (left-full, needs))
-    (λ c. search needs) (λ c. search needs)
+    (λ c. search rules) (λ c. search rules) (λ c. search rules)
+    (λ c. search (left-full, rules))
+    (λ c. search rules) (λ c. search rules)
     loop-again
     append-own-requires
-    (λ c. search needs) (λ c. search needs) (λ c. search needs)
-    (λ c. search (right-full, needs))
-    (λ c. search needs) (λ c. search needs)
+    (λ c. search rules) (λ c. search rules) (λ c. search rules)
+    (λ c. search (right-full, rules))
+    (λ c. search rules) (λ c. search rules)
     loop-again-2
-    (λ c. search needs)
-    (λ c. search (merging_end, needs)))
+    (λ c. search rules)
+    (λ c. search (merging_end, rules)))

@@ -1,5 +1,5 @@
 -- `run_union::inner::moving::move_down` meets its contract: the words are those with the runs moved so far written.
-use Rattle.model.proofs.Prelude.{◌≤◌, ◌-◌, ◌≡◌, refl, length, length-set, arith, needs}
+use Rattle.model.proofs.Prelude.{◌≤◌, ◌-◌, ◌≡◌, refl, length, length-set, arith, rules}
 use Rattle.run_lists.specs.RunLists.{runs_in_words, write_runs_of}
 use Rattle.run_union.proofs.CopySteps.{copy_end}
 use Rattle.run_union.proofs.MoveSteps.{down-more}
@@ -19,11 +19,11 @@ move_down_spec =
     invariant-loop
     decreases-loop
     (λ c. (omega arith, refl, refl))
-    (λ c. search needs) (λ c. search needs) (λ c. search needs) (λ c. search needs) (λ c. search needs)
-    (λ c. search needs) (λ c. search needs) (λ c. search needs) (λ c. search needs) (λ c. search needs)
-    (λ c. search needs) (λ c. search needs) (λ c. search needs)
+    (λ c. search rules) (λ c. search rules) (λ c. search rules) (λ c. search rules) (λ c. search rules)
+    (λ c. search rules) (λ c. search rules) (λ c. search rules) (λ c. search rules) (λ c. search rules)
+    (λ c. search rules) (λ c. search rules) (λ c. search rules)
     (λ c. simp length-set (omega arith))
-    (λ c. search needs) (λ c. search needs)
-    (λ c. (omega arith, simp length-set c.before.before.before.loop.invariant.1, search (down-more, needs)))
-    (λ c. search needs)
-    (λ c. search (copy_end, needs)))
+    (λ c. search rules) (λ c. search rules)
+    (λ c. (omega arith, simp length-set c.before.before.before.loop.invariant.1, search (down-more, rules)))
+    (λ c. search rules)
+    (λ c. search (copy_end, rules)))

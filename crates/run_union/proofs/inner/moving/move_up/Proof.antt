@@ -1,5 +1,5 @@
 -- `run_union::inner::moving::move_up` meets its contract: the words are those with the runs from the last down to this one written.
-use Rattle.model.proofs.Prelude.{length-set, arith, needs}
+use Rattle.model.proofs.Prelude.{length-set, arith, rules}
 use Rattle.run_union.proofs.MoveSteps.{MovedFrom, up_start, up_more, up-end}
 use Rattle.run_union.proofs.inner.moving.move_up.Statement.{statement}
 use Rattle.run_union.proofs.inner.moving.move_up.Tie as tie
@@ -23,11 +23,11 @@ move_up_spec =
     invariant-loop
     decreases-loop
     (λ c. up_start _ _ _ _)
-    (λ c. search needs) (λ c. search needs) (λ c. search needs) (λ c. search needs) (λ c. search needs)
-    (λ c. search needs) (λ c. search needs) (λ c. search needs) (λ c. search needs) (λ c. search needs)
-    (λ c. search needs) (λ c. search needs) (λ c. search needs) (λ c. search needs)
+    (λ c. search rules) (λ c. search rules) (λ c. search rules) (λ c. search rules) (λ c. search rules)
+    (λ c. search rules) (λ c. search rules) (λ c. search rules) (λ c. search rules) (λ c. search rules)
+    (λ c. search rules) (λ c. search rules) (λ c. search rules) (λ c. search rules)
     (λ c. simp length-set (omega arith))
-    (λ c. search needs)
+    (λ c. search rules)
     loop-again
-    (λ c. search needs)
-    (λ c. search (up-end, needs)))
+    (λ c. search rules)
+    (λ c. search (up-end, rules)))

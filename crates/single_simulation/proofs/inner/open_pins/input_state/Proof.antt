@@ -1,5 +1,5 @@
 -- `single_simulation::inner::open_pins::input_state` meets its contract: two digits and whether they agree.
-use Rattle.model.proofs.Prelude.{◌∙◌, needs}
+use Rattle.model.proofs.Prelude.{◌∙◌, rules}
 use Rattle.single_simulation.proofs.InputCases.{digit-state}
 use Rattle.single_simulation.proofs.inner.open_pins.input_state.Statement.{statement}
 use Rattle.single_simulation.proofs.inner.open_pins.input_state.Tie as tie
@@ -11,4 +11,4 @@ returns c =
 
 pub input_state_spec : {M : Type 1} → statement M
 input_state_spec =
-    tie.close (tie.spec (λ c κs. search needs) (λ c κs. search needs) (λ c κs. search needs) returns)
+    tie.close (tie.spec (λ c κs. search rules) (λ c κs. search rules) (λ c κs. search rules) returns)

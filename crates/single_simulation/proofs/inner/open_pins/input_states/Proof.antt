@@ -1,5 +1,5 @@
 -- `single_simulation::inner::open_pins::input_states` meets its contract. The loop's invariant: the inputs before i are filled in.
-use Rattle.model.proofs.Prelude.{◌-◌, arith, needs}
+use Rattle.model.proofs.Prelude.{◌-◌, arith, rules}
 use Rattle.single_simulation.proofs.InputCases.{InputsTo, inputs-start, inputs-more, inputs_end}
 use Rattle.single_simulation.proofs.inner.open_pins.input_states.Statement.{statement}
 use Rattle.single_simulation.proofs.inner.open_pins.input_states.Tie as tie
@@ -27,4 +27,4 @@ input_states_spec =
     (λ c. omega (arith, c.before.loop-test.true, c.before.before.before.requires))
     (λ c. omega (arith, c.before.loop-test.true))
     loop-again
-    (λ c. inputs_end _ _ _ _ _ (search needs) c.before.loop.invariant))
+    (λ c. inputs_end _ _ _ _ _ (search rules) c.before.loop.invariant))

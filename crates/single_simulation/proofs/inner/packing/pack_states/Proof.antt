@@ -1,5 +1,5 @@
 -- `single_simulation::inner::packing::pack_states` meets its contract. The loop's invariant: the pins from k on are packed, pin k in the lowest bit.
-use Rattle.model.proofs.Prelude.{sym, subst, arith, needs}
+use Rattle.model.proofs.Prelude.{sym, subst, arith, rules}
 use Rattle.single_simulation.specs.StateWords.{StatesAt, PacksStates}
 use Rattle.single_simulation.proofs.PackStates.{PackingStates, states-start, states-room, states-step, states-done, states-inside, states-net, states-fit}
 use Rattle.single_simulation.proofs.inner.packing.pack_states.Statement.{statement}
@@ -55,7 +55,7 @@ pack_states_spec =
     pack-two-requires
     returns
     (λ c. states-start c.before.before.requires)
-    (λ c. search needs)
+    (λ c. search rules)
     (λ c κs. states-inside c.before.before.before.before.requires c.before.loop.invariant c.loop-test.true)
     mul-packed
     mul-packed-2
@@ -63,4 +63,4 @@ pack_states_spec =
     add-packed
     (λ c. omega (arith, c.before.before.loop-test.true))
     loop-again
-    (λ c. states-done c.before.before.before.before.requires c.before.loop.invariant (search needs)))
+    (λ c. states-done c.before.before.before.before.requires c.before.loop.invariant (search rules)))

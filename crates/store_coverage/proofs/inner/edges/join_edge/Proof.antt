@@ -1,5 +1,5 @@
 -- `store_coverage::inner::edges::join_edge` meets its contract: the detected runs lie in those that are held, or some are new.
-use Rattle.model.proofs.Prelude.{arith, needs}
+use Rattle.model.proofs.Prelude.{arith, rules}
 use Rattle.store_coverage.proofs.CoverLaws.{join-cases}
 use Rattle.store_coverage.proofs.inner.edges.join_edge.Statement.{statement}
 use Rattle.store_coverage.proofs.inner.edges.join_edge.Tie as tie
@@ -14,13 +14,13 @@ pub join_edge_spec : {M : Type 1} → statement M
 join_edge_spec =
     tie.close
     (tie.spec
-    (λ c. search needs) (λ c. search needs)
+    (λ c. search rules) (λ c. search rules)
     (λ c. search join-cases)
     (λ c. search join-cases)
     inside-requires
-    (λ c. search needs)
+    (λ c. search rules)
     returns-2
     (λ c κs. (search join-cases, omega arith))
     (λ c. search join-cases)
-    (λ c. search needs)
+    (λ c. search rules)
     (λ c. search join-cases))

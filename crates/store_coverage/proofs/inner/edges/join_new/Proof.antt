@@ -1,5 +1,5 @@
 -- `store_coverage::inner::edges::join_new` meets its contract: the held runs before and after those that are united stay apart from the detected ones.
-use Rattle.model.proofs.Prelude.{refl, arith, needs}
+use Rattle.model.proofs.Prelude.{refl, arith, rules}
 use Rattle.store_coverage.proofs.JoinNewCases.{first-low, final_high, union_found, union_held, join-new-cases}
 use Rattle.store_coverage.proofs.inner.edges.join_new.Statement.{statement}
 use Rattle.store_coverage.proofs.inner.edges.join_new.Tie as tie
@@ -26,21 +26,21 @@ join_new_spec =
     tie.close
     (tie.spec
     (λ c. search join-new-cases)
-    (λ c. search needs) (λ c. search needs) (λ c. search needs)
+    (λ c. search rules) (λ c. search rules) (λ c. search rules)
     (λ c κs. let start = c.before.before.before in (omega arith, first-low start.requires.0 start.requires.1))
     (λ c. search join-new-cases)
-    (λ c. search needs)
+    (λ c. search rules)
     (λ c. search join-new-cases)
     (λ c. search join-new-cases)
     first-apart-requires
     union-requires
-    (λ c. search needs)
+    (λ c. search rules)
     (λ c. search join-new-cases)
-    (λ c. search needs)
+    (λ c. search rules)
     (λ c. search join-new-cases)
-    (λ c. search needs)
+    (λ c. search rules)
     (λ c. search join-new-cases)
-    (λ c. search needs) (λ c. search needs)
+    (λ c. search rules) (λ c. search rules)
     (λ c. search join-new-cases)
-    (λ c. search needs)
+    (λ c. search rules)
     (λ c. search join-new-cases))

@@ -1,11 +1,11 @@
 -- `store_words::inner::parts::edge_runs` meets its contract: the words from where the edge begins, two for each of its runs.
-use Rattle.model.proofs.Prelude.{refl, needs}
+use Rattle.model.proofs.Prelude.{refl, rules}
 use Rattle.store_words.proofs.RunPlaceLaws.{rising-words, falling-words}
 use Rattle.store_words.proofs.inner.parts.edge_runs.Statement.{statement}
 use Rattle.store_words.proofs.inner.parts.edge_runs.Tie as tie
 
 enum_told : tie.Need-enum-told
-enum_told c = search needs
+enum_told c = search rules
 
 returns : tie.Need-returns
 returns c = rising-words c.before.before.before.before.args.words.now _ c.before.before.enum_told.given.1 _ refl
@@ -18,8 +18,8 @@ edge_runs_spec =
     tie.close
     (tie.spec
     enum_told
-    (λ c. search needs) (λ c. search needs) (λ c. search needs) (λ c. search needs) (λ c. search needs)
-    (λ c. search needs) (λ c. search needs) (λ c. search needs) (λ c. search needs) (λ c. search needs)
-    (λ c. search needs) (λ c. search needs) (λ c. search needs)
+    (λ c. search rules) (λ c. search rules) (λ c. search rules) (λ c. search rules) (λ c. search rules)
+    (λ c. search rules) (λ c. search rules) (λ c. search rules) (λ c. search rules) (λ c. search rules)
+    (λ c. search rules) (λ c. search rules) (λ c. search rules)
     returns
     returns-2)

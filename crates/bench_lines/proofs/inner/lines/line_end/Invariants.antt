@@ -1,0 +1,10 @@
+-- `bench_lines::inner::lines::line_end` meets its contract: the bytes passed belong to the line.
+use Rattle.model.proofs.Prelude.{◌-◌, length, rules}
+use Rattle.bench_lines.proofs.TextLineLaws.{LineSoFar, line-start, line-more, line-ends, line-last}
+use Rattle.bench_lines.proofs.inner.lines.line_end.Given as goal
+
+abbrev pub invariant-loop-i : goal.invariant-loop-i
+invariant-loop-i l = LineSoFar l.text l.at l.i
+
+abbrev pub decreases-loop-i : goal.decreases-loop-i
+decreases-loop-i l = length l.text - l.i
