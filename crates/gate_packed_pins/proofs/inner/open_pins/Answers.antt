@@ -3,9 +3,6 @@ use Rattle.model.proofs.Prelude.{rules}
 use Rattle.gate_packed_pins.proofs.KindCases.{few, open_and, open_nand, open_or, open_nor, open_rest}
 use Rattle.gate_packed_pins.proofs.inner.open_pins.Goals as goal
 
-pub all_pins-all-requires : goal.all_pins-all-requires
-all_pins-all-requires c κs = search (few, rules)
-
 pub returns-in-3 : goal.returns-in-3
 returns-in-3 c = search (open_and, rules)
 

@@ -9,8 +9,5 @@ at_most step once l = le_trans (le_of_eq (mul_comm step once)) (le_trans (mul-le
     one-most : {n : ℕ} → n < 2 → n ≤ 1
     one-most k = omega (arith, k)
 
-pub overflow_mul-result : goal.overflow_mul-result
-overflow_mul-result c = omega (arith, at_most c.args.step c.args.once c.requires, c.well-formed.0.1)
-
 pub returns : goal.returns
 returns c = search (at_most, rules)
