@@ -7,9 +7,6 @@ use Rattle.bench_lines.proofs.inner.statements.close_io.Goals as goal
 pub returns-then-byte-ne41 : goal.returns-then-byte-ne41
 returns-then-byte-ne41 c = search (io_cut, io_names_lem, io_bad, io_goes-on, io_neither, rules)
 
-pub at_end-ended-requires : goal.at_end-ended-requires
-at_end-ended-requires c κs = search (sign-in, not-true, not-false, rules)
-
 pub returns-then-not-ended : goal.returns-then-not-ended
 returns-then-not-ended c = search (io_cut, io_names_lem, io_bad, io_goes-on, io_neither, not-true, rules)
 

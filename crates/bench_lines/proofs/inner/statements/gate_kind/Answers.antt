@@ -10,9 +10,6 @@ returns-then-byte-ne40 c = search (gate-cut, gate-names, gate-bad, gate-no-kind,
 pub returns-then-kind-ge8 : goal.returns-then-kind-ge8
 returns-then-kind-ge8 c = search (gate-cut, gate-names, gate-bad, gate-no-kind, gate-pins, rules)
 
-pub read_pins-requires : goal.read_pins-requires
-read_pins-requires c κs = search (gate-cut, gate-names, gate-bad, gate-no-kind, gate-pins, sign-in, rules)
-
 pub returns-in-End : goal.returns-in-End
 returns-in-End c = search (gate-cut, gate-names, gate-bad, gate-no-kind, gate-pins, rules)
 

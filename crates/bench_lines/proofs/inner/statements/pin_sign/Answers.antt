@@ -9,9 +9,6 @@ returns-then-byte-eq44 c = search (pin-comma, rules)
 pub returns-then-byte-ne41 : goal.returns-then-byte-ne41
 returns-then-byte-ne41 c = search (pin-cut, pin-names, pin-bad, pin-goes-on, rules)
 
-pub at_end-ended-requires : goal.at_end-ended-requires
-at_end-ended-requires c κs = search (sign-in, not-true, not-false, rules)
-
 pub returns-then-not-ended : goal.returns-then-not-ended
 returns-then-not-ended c = search (pin-cut, pin-names, pin-bad, pin-goes-on, not-true, rules)
 

@@ -4,9 +4,6 @@ use Rattle.bench_lines.proofs.StatementLaws.{name_in}
 use Rattle.bench_lines.proofs.StateCases.{gate-end, gate-sign, gate-named}
 use Rattle.bench_lines.proofs.inner.statements.read_gate.Goals as goal
 
-pub gate_kind-requires : goal.gate_kind-requires
-gate_kind-requires c κs = search (name_in, rules)
-
 pub returns-in-End : goal.returns-in-End
 returns-in-End c = search (gate-end, gate-sign, gate-named, rules)
 

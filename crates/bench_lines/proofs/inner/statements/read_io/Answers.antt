@@ -4,9 +4,6 @@ use Rattle.bench_lines.proofs.StatementLaws.{name_in}
 use Rattle.bench_lines.proofs.StateCases.{io_end, io_sign, io_named}
 use Rattle.bench_lines.proofs.inner.statements.read_io.Goals as goal
 
-pub close_io-requires : goal.close_io-requires
-close_io-requires c κs = search (name_in, rules)
-
 pub returns-in-End : goal.returns-in-End
 returns-in-End c = search (io_end, io_sign, io_named, rules)
 

@@ -4,14 +4,8 @@ use Rattle.bench_lines.proofs.StatementLaws.{sign-in}
 use Rattle.bench_lines.proofs.StateCases.{named-cut, named-names, named-io, named-gate, named_other}
 use Rattle.bench_lines.proofs.inner.statements.read_named.Goals as goal
 
-pub read_io-requires : goal.read_io-requires
-read_io-requires c κs = search (sign-in, rules)
-
 pub returns-then-byte-eq40 : goal.returns-then-byte-eq40
 returns-then-byte-eq40 c = search (named-io, named-gate, rules)
-
-pub read_gate-requires : goal.read_gate-requires
-read_gate-requires c κs = search (sign-in, rules)
 
 pub returns-then-byte-eq61 : goal.returns-then-byte-eq61
 returns-then-byte-eq61 c = search (named-io, named-gate, rules)

@@ -3,9 +3,6 @@ use Rattle.model.proofs.Prelude.{rules}
 use Rattle.bench_lines.proofs.StatementLaws.{no-pin-end, no-pin-sign, pin-named, name_in}
 use Rattle.bench_lines.proofs.inner.statements.read_pin.Goals as goal
 
-pub pin_sign-requires : goal.pin_sign-requires
-pin_sign-requires c κs = search (name_in, rules)
-
 pub returns-in-End : goal.returns-in-End
 returns-in-End c = search (no-pin-end, no-pin-sign, pin-named, rules)
 

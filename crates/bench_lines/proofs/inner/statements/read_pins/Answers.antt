@@ -6,9 +6,6 @@ use Rattle.bench_lines.proofs.inner.statements.read_pins.Goals as goal
 pub loop-more-init : goal.loop-more-init
 loop-more-init c = search (pins-start, rules)
 
-pub read_pin-pin-requires : goal.read_pin-pin-requires
-read_pin-pin-requires c κs = search (pins-inside, rules)
-
 pub returns-in-Other : goal.returns-in-Other
 returns-in-Other c = search (pins-stop, rules)
 

@@ -7,9 +7,6 @@ use Rattle.bench_lines.proofs.inner.statements.read_statement.Goals as goal
 pub returns-then-byte-eq35 : goal.returns-then-byte-eq35
 returns-then-byte-eq35 c = search (line-blank, line-comment, line-named, rules)
 
-pub read_named-requires : goal.read_named-requires
-read_named-requires c κs = search (name_in, rules)
-
 pub returns-in-End : goal.returns-in-End
 returns-in-End c = search (line-blank, line-comment, line-named, rules)
 
