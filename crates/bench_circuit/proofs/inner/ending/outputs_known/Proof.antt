@@ -1,5 +1,5 @@
 -- `bench_circuit::inner::ending::outputs_known` meets its contract: the outputs that are left decide.
-use Rattle.model.proofs.Prelude.{◌≤◌, ◌+◌, ◌*◌, ◌≡◌, length, needs}
+use Rattle.model.proofs.Prelude.{◌≤◌, ◌+◌, ◌*◌, ◌≡◌, length, rules}
 use Rattle.bench_circuit.specs.Ending.{pairs_known}
 use Rattle.bench_circuit.proofs.EndLaws.{outs-again, outs-stop, outs-end}
 use Rattle.bench_circuit.proofs.inner.ending.outputs_known.Statement.{statement}
@@ -20,7 +20,7 @@ loop-again c =
     let a = test.before.before.before.before.before.args in
     let net = c.before.net-of-key in
     let step = outs-again a.inputs.now a.input-count a.gates.now a.gate-count a.outputs.now in (
-      search needs,
+      search rules,
       step l.left l.at net.result _ test.loop-test.true net.ensures l.invariant.1 c.if1.false,
     )
 
@@ -30,9 +30,9 @@ outputs_known_spec =
     (tie.spec
     invariant-loop
     decreases-loop
-    (λ c. search needs) (λ c. search needs) (λ c. search needs) (λ c. search needs) (λ c. search needs)
-    (λ c. search needs) (λ c. search needs) (λ c κs. search needs)
-    (λ c. search (outs-stop, needs))
-    (λ c. search needs) (λ c. search needs) (λ c. search needs)
+    (λ c. search rules) (λ c. search rules) (λ c. search rules) (λ c. search rules) (λ c. search rules)
+    (λ c. search rules) (λ c. search rules) (λ c κs. search rules)
+    (λ c. search (outs-stop, rules))
+    (λ c. search rules) (λ c. search rules) (λ c. search rules)
     loop-again
-    (λ c. search (outs-end, needs)))
+    (λ c. search (outs-end, rules)))

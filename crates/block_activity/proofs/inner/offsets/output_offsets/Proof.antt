@@ -1,6 +1,6 @@
 -- `block_activity::inner::offsets::output_offsets` meets its contract. The invariant, `OutputsDone`: the first o outputs have their offsets, and `offset` is their paths
 -- together.
-use Rattle.model.proofs.Prelude.{◌-◌, needs}
+use Rattle.model.proofs.Prelude.{◌-◌, rules}
 use Rattle.block_activity.proofs.OffsetCases.{OutputsDone, output-offsets-cases}
 use Rattle.block_activity.proofs.inner.offsets.output_offsets.Statement.{statement}
 use Rattle.block_activity.proofs.inner.offsets.output_offsets.Tie as tie
@@ -17,11 +17,11 @@ output_offsets_spec =
     (tie.spec
     invariant-loop
     decreases-loop
-    (λ c. search needs) (λ c. search needs) (λ c. search needs) (λ c. search needs) (λ c. search needs)
-    (λ c κs. search needs) (λ c. search needs) (λ c. search needs) (λ c. search needs) (λ c. search needs)
-    (λ c. search needs) (λ c. search needs)
+    (λ c. search rules) (λ c. search rules) (λ c. search rules) (λ c. search rules) (λ c. search rules)
+    (λ c κs. search rules) (λ c. search rules) (λ c. search rules) (λ c. search rules) (λ c. search rules)
+    (λ c. search rules) (λ c. search rules)
     (λ c κs. search output-offsets-cases)
     (λ c. search output-offsets-cases)
-    (λ c. search needs) (λ c. search needs)
+    (λ c. search rules) (λ c. search rules)
     (λ c. search output-offsets-cases)
     (λ c. search output-offsets-cases))

@@ -1,5 +1,5 @@
 -- `run_shifted::inner::outputs::out_runs` meets its contract: the list holds the runs of the outputs so far.
-use Rattle.model.proofs.Prelude.{◌-◌, ◌≡◌, length, arith, needs}
+use Rattle.model.proofs.Prelude.{◌-◌, ◌≡◌, length, arith, rules}
 use Rattle.model.specs.Store.{max_runs}
 use Rattle.netlist.proofs.OutputLaws.{output-here}
 use Rattle.run_shifted.specs.RunsOfPlaces.{output_places}
@@ -26,7 +26,7 @@ returns : tie.Need-returns invariant-loop decreases-loop
 returns c = search output-cases
 
 loop-again : tie.Need-loop-preserved invariant-loop decreases-loop
-loop-again c = (search output-cases, search needs)
+loop-again c = (search output-cases, search rules)
 
 pub out_runs_spec : {M : Type 1} → statement M
 out_runs_spec =
@@ -34,7 +34,7 @@ out_runs_spec =
     (tie.spec
     invariant-loop
     decreases-loop
-    (λ c. (search output-cases, search needs))
+    (λ c. (search output-cases, search rules))
     (λ c. search output-cases)
     (λ c. search output-cases)
     (λ c. search output-cases)

@@ -1,0 +1,10 @@
+-- `record_test::inner::some_change` meets its contract. The loop's invariant: the bytes before k are equal.
+use Rattle.model.proofs.Prelude.{◌≤◌, ◌-◌, arith, rules}
+use Rattle.record_test.proofs.ChangeLaws.{EqualBefore, equal-more, no_change, changed-byte}
+use Rattle.record_test.proofs.inner.some_change.Given as goal
+
+abbrev pub invariant-loop-k : goal.invariant-loop-k
+invariant-loop-k l = (l.k ≤ l.bytes) × EqualBefore l.v1 l.v2 l.k
+
+abbrev pub decreases-loop-k : goal.decreases-loop-k
+decreases-loop-k l = l.bytes - l.k

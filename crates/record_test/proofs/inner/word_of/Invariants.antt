@@ -1,0 +1,10 @@
+-- `record_test::inner::word_of` meets its contract. The loop's invariant: the bytes from k on are read.
+use Rattle.model.proofs.Prelude.{arith, rules}
+use Rattle.record_test.proofs.RecordCases.{Reading, read-start, read-room, read_step, read_done}
+use Rattle.record_test.proofs.inner.word_of.Given as goal
+
+abbrev pub invariant-loop-k : goal.invariant-loop-k
+invariant-loop-k l = Reading l.part l.bytes l.word l.k
+
+abbrev pub decreases-loop-k : goal.decreases-loop-k
+decreases-loop-k l = l.k

@@ -1,0 +1,16 @@
+-- `run_union::inner::append_shifted` meets its contract: the first run is added, then the rest.
+use Rattle.model.proofs.Prelude.{rules}
+use Rattle.run_union.proofs.ShiftedCases.{nothing-more, first_run, first-full, rest-room, rest-sound, all-added}
+use Rattle.run_union.proofs.inner.append_shifted.Goals as goal
+
+pub returns-then-to-from : goal.returns-then-to-from
+returns-then-to-from c = search (nothing-more, rules)
+
+pub returns-in-Count : goal.returns-in-Count
+returns-in-Count c = search (all-added, rules)
+
+pub returns-in-Full : goal.returns-in-Full
+returns-in-Full c = search (first-full, rules)
+
+pub append_rest-requires-clause-sound : goal.append_rest-requires-clause-sound
+append_rest-requires-clause-sound c = search (nothing-more, first_run, first-full, rest-room, rest-sound, all-added, rules)
