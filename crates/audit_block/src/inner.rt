@@ -20,14 +20,14 @@ use record_test::inner::RecordAnswer;
 use store_coverage::inner::StageAnswer;
 
 // The number of records taken before the first that was refused, all of them if none was, and what they answer.
-#[derive(Drop)]
+#[derive(Clone, Copy)]
 pub struct TakenRecords {
     pub taken: usize,
     pub answer: StageAnswer,
 }
 
 // The numbers of a netlist, and the class of a file's records.
-#[derive(Drop)]
+#[derive(Clone, Copy)]
 pub struct FileNumbers {
     pub inputs: usize,
     pub nets: usize,

@@ -6,7 +6,7 @@ pub mod inner;
 use model::Refusal;
 
 // What an audit answers.
-#[derive(Drop)]
+#[derive(Clone, Copy)]
 pub enum AuditAnswer {
     Accepted,
     Refused(Refusal),

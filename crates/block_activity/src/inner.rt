@@ -14,7 +14,7 @@ pub struct ReadRecords {
 }
 
 // A block's numbers: those of the netlist, the number of its records and their class.
-#[derive(Drop)]
+#[derive(Clone, Copy)]
 pub struct Batch {
     pub inputs: usize,
     pub nets: usize,

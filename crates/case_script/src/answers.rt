@@ -9,7 +9,7 @@ use program_sentences::{empty_line, print, print_line, with_number, with_text};
 
 // An answer: the number of a refusal, 0 where there is none, and the numbers that are returned. `known`: the line was understood; `open`: a line
 // may state the first of the numbers alone.
-#[derive(Drop)]
+#[derive(Clone, Copy)]
 pub struct Answer {
     pub known: bool,
     pub open: bool,
@@ -19,7 +19,7 @@ pub struct Answer {
 }
 
 // The number of the line at hand, the comparisons made so far, and the wrong lines.
-#[derive(Drop)]
+#[derive(Clone, Copy)]
 pub struct Tally {
     pub line: u64,
     pub compared: u64,

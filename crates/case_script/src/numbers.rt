@@ -10,7 +10,7 @@ const SPACE: u8 = 16;
 const OTHER: u8 = 17;
 
 // The numbers read so far. `good`: nothing else was found, and each fits; `inside`: the last may go on.
-#[derive(Drop)]
+#[derive(Clone, Copy)]
 pub struct Numbers {
     pub good: bool,
     pub inside: bool,

@@ -16,7 +16,7 @@ pub struct Page {
 }
 
 // How many cells of each memory the calls are handed, by the places below.
-#[derive(Drop)]
+#[derive(Clone, Copy)]
 pub struct Lengths {
     pub of: [usize; MEMORIES],
 }

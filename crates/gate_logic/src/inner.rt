@@ -11,7 +11,7 @@ ghost use Rattle.gate_logic.specs.States.{steady_by_of, state_of, word_of, pins_
 use gate_packed_pins::inner::{all_pins, is_odd, open_pins, open_set};
 
 // What evaluating the nets at the pins of a gate yielded, a bit for each pin, pin 0 in the lowest.
-#[derive(Drop)]
+#[derive(Clone, Copy)]
 pub struct PinStates {
     pub v1: u8,
     pub v2: u8,

@@ -13,14 +13,14 @@ use netlist::inner::{LoadAnswer, load};
 use store_words::inner::{StoreCheck, check_words};
 
 // Whether the rows are there, or a path to an output has more than 63 gates.
-#[derive(Drop)]
+#[derive(Clone, Copy)]
 pub enum LengthsAnswer {
     Counted,
     Refused(Refusal),
 }
 
 // For each edge two rows: for each number of gates the paths, then the faults held. Those of a refused call are zeros.
-#[derive(Drop)]
+#[derive(Clone, Copy)]
 pub struct LengthRows {
     pub answer: LengthsAnswer,
     pub rising: [[u64; 64]; 2],

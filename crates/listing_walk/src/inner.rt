@@ -16,7 +16,7 @@ use testfile_reading::inner::{full_piece, read_part, whole_part};
 const MOST_BYTES: u64 = 0x7FFF_FFFF_FFFF_FFFF;
 
 // The descriptors of a listing: the test file is read from one, the lines are written to the other.
-#[derive(Drop)]
+#[derive(Clone, Copy)]
 pub struct Descriptors {
     pub from: i32,
     pub to: i32,

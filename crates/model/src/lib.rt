@@ -37,7 +37,7 @@ pub const NON_ROBUST: u32 = 1;
 pub const ROBUST: u32 = 2;
 
 // Why a call is refused, a case for each condition of document 01's table, then for those of document 02.
-#[derive(Drop)]
+#[derive(Clone, Copy)]
 pub enum Refusal {
     StoreLength,
     WorkLength,

@@ -8,15 +8,15 @@ ghost use Rattle.path_faults.specs.Answers.{model_edge, fault_call_of, fault_ans
 use model::{MAX_COUNT, Refusal};
 
 // The number of a path, from 1.
-#[derive(Drop)]
+#[derive(Clone, Copy)]
 pub struct PathNo(pub u64);
 
 // The number of a fault, from 1.
-#[derive(Drop)]
+#[derive(Clone, Copy)]
 pub struct FaultNo(pub u64);
 
 // The edge of a fault, at its path's input.
-#[derive(Drop)]
+#[derive(Clone, Copy)]
 pub enum Edge {
     Rising,
     Falling,

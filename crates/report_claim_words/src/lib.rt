@@ -10,7 +10,7 @@ use path_faults::Edge;
 use text_line::{Line, with_number, with_text};
 
 // What is wrong with numbers of paths.
-#[derive(Drop)]
+#[derive(Clone, Copy)]
 pub enum Kind {
     // Claimed and not detected.
     FalseClaim,

@@ -19,7 +19,7 @@ use store_words::inner::{StoreTotals, totals_of};
 use store_writing::inner::{count_test, write_runs};
 
 // What the stage answers: that the store now holds what the test detects too, or why it was refused.
-#[derive(Drop)]
+#[derive(Clone, Copy)]
 pub enum StageAnswer {
     Taken,
     Refused(Refusal),

@@ -6,7 +6,7 @@ pub mod inner;
 use model::Refusal;
 
 // What a test answers: for each edge the faults new to the store and those then held.
-#[derive(Drop)]
+#[derive(Clone, Copy)]
 pub enum TestAnswer {
     Taken {
         new_rising: u64,

@@ -33,7 +33,7 @@ pub enum StoreCheck {
 }
 
 // The number of faults held of each edge.
-#[derive(Drop)]
+#[derive(Clone, Copy)]
 pub struct StoreTotals {
     pub rising: u64,
     pub falling: u64,

@@ -12,7 +12,7 @@ use run_union::inner::moving::move_runs;
 use store_words::inner::{FALLING_COUNT, RISING_COUNT};
 
 // What becomes of an edge's runs: they are kept, or those from..to of them (the first two numbers) are replaced by so many made in other words.
-#[derive(Drop)]
+#[derive(Clone, Copy)]
 pub enum Change {
     Kept,
     Made(usize, usize, usize),

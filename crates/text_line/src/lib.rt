@@ -15,7 +15,7 @@ use model_refusals::refusal_number;
 pub const LINE_BYTES: usize = 128;
 
 // A line that is put together before it is written, so that it takes one write. What goes past its 128 bytes is lost.
-#[derive(Drop)]
+#[derive(Clone, Copy)]
 pub struct Line {
     pub bytes: [u8; 128],
     pub length: usize,

@@ -27,7 +27,7 @@ most-at ws h a (good-leaf t) = refl
 most-at ws (suc h) a (good-two t b c) = ap most_of (tree-two ws h a t.no_third)
 most-at ws (suc h) a (good-three t b c d) = ap most_of (tree-three ws h a t.some_third)
 
-pub good-levels : (ws : List ℕ) (h a : ℕ) {start free : ℕ} → Good ws start free h a → Levels (suc h) (tree_at ws h a)
+pub good-levels : (ws : List ℕ) {start free : ℕ} (h a : ℕ) → Good ws start free h a → Levels (suc h) (tree_at ws h a)
 unfolding tree_at size
 good-levels ws h a (good-leaf t) = at_leaf {n = total_at_of ws a} {r = run_in_of ws a} (omega (arith, t.counted))
 good-levels ws (suc h) a (good-two t b c) =

@@ -21,7 +21,7 @@ const RANGE_WORDS: usize = 2 * MOST_PLACES;
 const SEEN_WORDS: usize = 2 * (MOST_PLACES + MAX_RUNS);
 
 // Whether a viewer's runs are in the second store.
-#[derive(Drop)]
+#[derive(Clone, Copy)]
 pub enum ViewAnswer {
     Written,
     Refused(Refusal),

@@ -13,7 +13,7 @@ use model::Refusal;
 use netlist_pin_counts::pin_count_fits;
 
 // How many inputs, gates and outputs there are.
-#[derive(Drop)]
+#[derive(Clone, Copy)]
 pub struct NameCounts {
     pub inputs: usize,
     pub gates: usize,

@@ -9,7 +9,7 @@ use crate::inner::keys::{find_key, key_at};
 use crate::inner::tokens::{NextToken, next_token};
 
 // A gate on its line: its name from a position to another, its kind, the position where its pins begin, and how many they are.
-#[derive(Drop)]
+#[derive(Clone, Copy)]
 pub struct GateParts {
     pub from: usize,
     pub to: usize,

@@ -19,7 +19,7 @@ use store_words::inner::parts::edge_runs;
 
 // The marks of one record: a bit for each input that rises or falls, a bit for each live output of the rising and of the falling edge, the numbers of inputs and
 // outputs.
-#[derive(Drop)]
+#[derive(Clone, Copy)]
 pub struct RecordEdges {
     pub rises: u64,
     pub falls: u64,

@@ -10,7 +10,7 @@ use crate::inner::layout::{GATE_TABLE_SIZE, KINDS_AT, PIN_COUNTS_AT};
 use record_bytes::inner;
 
 // A gate of the table: its kind, its number of pins, the place of its first pin, and its kind's non-controlling value in all bits.
-#[derive(Drop)]
+#[derive(Clone, Copy)]
 pub struct Gate {
     pub kind: u16,
     pub pins: usize,
@@ -19,7 +19,7 @@ pub struct Gate {
 }
 
 // What the pins of a gate show: the records in which one pin or more is controlling, in which two or more are, and the parity.
-#[derive(Drop)]
+#[derive(Clone, Copy)]
 pub struct PinTally {
     pub one: u64,
     pub two: u64,
@@ -74,7 +74,7 @@ fn add_pin(tally: PinTally, noncontrolling: u64, value: u64) -> PinTally
 }
 
 // What the pins of a gate show: under V1, under V2, where they are not steady, and where one is steady at the controlling value.
-#[derive(Drop)]
+#[derive(Clone, Copy)]
 pub struct PinScan {
     pub first: PinTally,
     pub last: PinTally,

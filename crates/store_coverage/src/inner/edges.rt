@@ -71,7 +71,7 @@ pub fn join_edge(detected: Added, held: &[u64], words: &mut [u64], target: usize
 }
 
 // What a test makes of both edges, the rising one first, or why the store may not hold it.
-#[derive(Drop)]
+#[derive(Clone, Copy)]
 pub enum BothAnswer {
     Fits(Change, Change),
     WorkOver,

@@ -1,0 +1,10 @@
+-- `block_transpose::inner::transpose` meets its contract. The loop's invariant: the inputs below 8 * byte have their words, the others have 0.
+use Rattle.model.proofs.Prelude.{◌<◌, ◌-◌, arith}
+use Rattle.block_transpose.proofs.TransposeCases.{Transposing, transpose_start, transpose_step, transpose_end}
+use Rattle.block_transpose.proofs.inner.transpose.Given as goal
+
+abbrev pub invariant-loop-byte : goal.invariant-loop-byte
+invariant-loop-byte l = Transposing l.vectors l.first l.n l.words l.byte
+
+abbrev pub decreases-loop-byte : goal.decreases-loop-byte
+decreases-loop-byte l = 8 - l.byte

@@ -1,0 +1,7 @@
+-- `detection::inner::digit` meets its contract: the lowest bit of the shifted word.
+use Rattle.model.proofs.Prelude.{rules}
+use Rattle.record_bytes.proofs.BitLaws.{word-digit}
+use Rattle.detection.proofs.inner.digit.Goals as goal
+
+pub returns : goal.returns
+returns c = word-digit c.args.word c.args.place

@@ -1,0 +1,17 @@
+-- `netlist_gates::inner::pins_lower` meets its contract: whether the pins that are left are lower says it of all pins.
+use Rattle.model.proofs.Prelude.{◌≤◌, ◌+◌, ◌*◌, ◌≡◌, length, rules}
+use Rattle.netlist_gates.specs.GateReading.{pins_lower_of}
+use Rattle.netlist_gates.proofs.PinSteps.{lower-again, lower-stop, lower-end, lower-as_two}
+use Rattle.netlist_gates.proofs.inner.pins_lower.Goals as goal
+
+pub returns-then-pins-eq2 : goal.returns-then-pins-eq2
+returns-then-pins-eq2 c = search (lower-as_two, rules)
+
+pub returns-then-net-pin : goal.returns-then-net-pin
+returns-then-net-pin c = search (lower-stop, rules)
+
+pub loop-left-preserved : goal.loop-left-preserved
+loop-left-preserved c = search (lower-again, rules)
+
+pub returns : goal.returns
+returns c = search (lower-end, rules)

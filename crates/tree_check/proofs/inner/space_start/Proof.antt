@@ -1,7 +1,0 @@
--- `tree_check::inner::space_start` meets its contract: the definition has the same test.
-use Rattle.model.proofs.Prelude.{rules, lt-ltb, le-ltb}
-use Rattle.tree_check.proofs.inner.space_start.Statement.{statement}
-use Rattle.tree_check.proofs.inner.space_start.Tie as tie
-
-pub space_start_spec : {M : Type 1} → statement M
-space_start_spec = tie.close (tie.spec (λ c. search (lt-ltb, le-ltb, rules)) (λ c. search (lt-ltb, le-ltb, rules)))

@@ -1,0 +1,17 @@
+-- `tree_descent::inner::first_reaching` meets its contract: the height falls at each call, and no run before the child chosen reaches the number.
+use Rattle.model.proofs.Prelude.{rules}
+use Rattle.tree_descent.proofs.ReachCases.{reach_readable, reach_leaf, reach_high, reach_good, reach_on}
+use Rattle.tree_words.proofs.ChildLaws.{height_less, some-height}
+use Rattle.tree_descent.proofs.inner.+first_reaching.Goals as goal
+
+pub first_reaching-requires : goal.first_reaching-requires
+first_reaching-requires t c = search (reach_readable, reach_leaf, reach_high, reach_good, reach_on, height_less, some-height, rules)
+
+pub reaching_child-child-requires : goal.reaching_child-child-requires
+reaching_child-child-requires t c = search (reach_readable, reach_leaf, reach_high, reach_good, reach_on, height_less, some-height, rules)
+
+pub returns : goal.returns
+returns t c = search (reach_readable, reach_leaf, reach_high, reach_good, reach_on, height_less, some-height, rules)
+
+pub returns-then-height-eq0 : goal.returns-then-height-eq0
+returns-then-height-eq0 t c = search (reach_readable, reach_leaf, reach_high, reach_good, reach_on, height_less, some-height, rules)
