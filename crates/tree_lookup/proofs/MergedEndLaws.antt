@@ -74,6 +74,7 @@ module _ (low : ℕ) (some : 1 ≤ low) where
 
   -- a number held is kept below, or not below the low end
   pub low-in : (n least : ℕ) (rs : List Run) (j : ℕ) → Separated n least rs → In rs j → In (keep_below low rs) j ⊎ (join_low low rs ≤ j)
+  low-in n least [] j s t = elim t [ ]
   low-in n least (r ∷ rs) j s t =
       ⊎_elim
       (λ (q : low ≤ r.high + 1). inr (omega (arith, low-here r rs q, (low-both low r).1, in_low n r.low (r ∷ rs) j (omega arith, s.1, s.2, s.3) t)))
@@ -190,6 +191,7 @@ module _ (high : ℕ) where
       (le_or_lt r.low (high + 1))
 
   pub high-in : (n least : ℕ) (rs : List Run) (j : ℕ) → Separated n least rs → In rs j → In (keep_above high rs) j ⊎ (j ≤ join_high high rs)
+  high-in n least [] j s t = elim t [ ]
   high-in n least (r ∷ rs) j s t =
       ⊎_elim
       (λ (q : r.low ≤ high + 1). rw (above-out high r rs q) (⊎_elim (in_here (high-in n (r.high + 2) rs j s.3) t) (in_there (high-in n (r.high + 2) rs j s.3) t)
