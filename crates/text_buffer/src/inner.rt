@@ -31,8 +31,8 @@ pub fn put_line(out: &mut [u8], at: usize, line: Line) -> usize
     requires { at + 129 ≤ length out.old }
     ensures { Written out.old out.new at (plain_line (text_of line)) result × (result ≤ at + 129) }
 {
-    let bytes = line.bytes;
     let end = line_length(line);
+    let bytes = line.bytes;
     put_plain(out, at, &bytes[..end])
 }
 
