@@ -9,10 +9,12 @@ ghost use Rattle.tree_words.specs.TreeLayout.{tree_words_count};
 ghost use Rattle.ask_walk.specs.InputWalk.{piece_bytes};
 
 use ask_walk::inner::{PIECE_BYTES, answer_input};
-use libc::{STDERR_FILENO, STDOUT_FILENO};
 use model::STORE_WORDS;
-use program_files::{is_argument, load_argument, read_class};
-use program_sentences::{NETLIST_BYTES, print, print_version};
+use program_files::{has_argument, is_argument, load_argument, read_class};
+use program_sentences::{NETLIST_BYTES, STDERR_FILENO, STDOUT_FILENO, print, print_version};
+use std::fs::File;
+use std::io::{Stderr, Stdin};
+use std::rt::{Env, Files};
 use testfile_argument::{print_refused, store_of_tests};
 use tree_filling::{FillAnswer, fill_trees};
 use tree_words::inner::TREE_WORDS;
@@ -39,7 +41,7 @@ fn no_questions() -> [u8; PIECE_BYTES]
 }
 
 // Answers the questions about the faults in a store.
-fn answer_store(netlist: &[u8], store: &[u64]) {
+fn answer_store(stdin: Stdin, netlist: &[u8], store: &[u64]) {
     let mut rising = no_tree();
     let mut falling = no_tree();
     let filled = fill_trees(netlist, store, &mut rising, &mut falling);
@@ -48,38 +50,38 @@ fn answer_store(netlist: &[u8], store: &[u64]) {
         FillAnswer::Filled(paths) => {
             let mut space = no_questions();
             let mut out = io::large_buffer();
-            answer_input(paths, &rising, &falling, &mut space, &mut out);
+            answer_input(stdin, paths, &rising, &falling, &mut space, &mut out);
         }
     }
 }
 
 // The same about the faults that the test file detects, in a class, that the second argument names.
-fn answer_tests(netlist: &[u8], class: u32) {
+fn answer_tests<R: Env + Files<File = File>>(rt: &R, stdin: Stdin, stderr: Stderr, netlist: &[u8], class: u32) {
     let mut store = [0u64; STORE_WORDS];
-    let tests = store_of_tests(2, netlist, class, &mut store);
+    let tests = store_of_tests(rt, stderr, 2, netlist, class, &mut store);
     if tests.taken {
-        answer_store(netlist, &store);
+        answer_store(stdin, netlist, &store);
     }
 }
 
-fn main() {
-    if is_argument(1, b"--help") {
+fn main(rt: HostRuntime) {
+    if is_argument(&rt, 1, b"--help") {
         print_usage(STDOUT_FILENO);
         return;
     }
-    if is_argument(1, b"--version") {
+    if is_argument(&rt, 1, b"--version") {
         print_version();
         return;
     }
-    if 4 < os::arg_count() {
+    if has_argument(&rt, 4) {
         print_usage(STDERR_FILENO);
         return;
     }
     let mut bytes = [0u8; NETLIST_BYTES];
-    let circuit = load_argument(1, b"circuit.nl", &mut bytes);
+    let circuit = load_argument(&rt, 1, b"circuit.nl", &mut bytes);
     let length = circuit.bytes;
-    let read = read_class(3);
+    let read = read_class(&rt, 3);
     if circuit.whole && read.whole {
-        answer_tests(&bytes[..length], read.class);
+        answer_tests(&rt, rt.stdin(), rt.stderr(), &bytes[..length], read.class);
     }
 }

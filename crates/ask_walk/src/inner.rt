@@ -5,8 +5,11 @@ ghost use Rattle.tree_filling.specs.TreesOfStore.{TreesReady};
 ghost use Rattle.ask_walk.specs.InputWalk.{piece_bytes, out_bytes, InputTaken, InputAnswered};
 
 use ask_text::inner::{Asking, Stated, put_answers, put_last};
-use libc::{STDIN_FILENO, STDOUT_FILENO};
-use program_files::print_error;
+use program_files::{print_error, print_failure};
+use std::io::{Read, Stdin};
+
+// The descriptor of standard output.
+const STDOUT_FILENO: i32 = 1;
 
 // The most bytes that are read at a time.
 pub const PIECE_BYTES: usize = 512;
@@ -39,21 +42,22 @@ pub struct AnsweredInput {
 
 // One read from standard input, which does not wait for a full space: a question is answered as soon as its line has come. Where it fails standard
 // error says why.
-fn read_some(space: &mut [u8]) -> Brought
+fn read_some(stdin: Stdin, space: &mut [u8]) -> Brought
     ensures { IsPrefixLen result.bytes space.new }
 {
-    let got = libc::read(STDIN_FILENO, space);
-    let bytes = io::count(got, space);
-    if got < 0 {
-        os::fail(b"standard input");
-        return Brought {
-            bytes: 0,
-            failed: true,
-        };
-    }
-    Brought {
-        bytes,
-        failed: false,
+    let mut input = stdin;
+    match input.read(space) {
+        Ok(bytes) => Brought {
+            bytes,
+            failed: false,
+        },
+        Err(error) => {
+            print_failure(b"standard input", error);
+            Brought {
+                bytes: 0,
+                failed: true,
+            }
+        }
     }
 }
 
@@ -84,6 +88,7 @@ fn none_waiting(asking: Asking) -> Asking
 
 // Answers the lines of standard input that end, piece by piece. Each piece goes on from the state that the one before left.
 fn take_input(
+    stdin: Stdin,
     paths: u64,
     rising: &[u64],
     falling: &[u64],
@@ -100,7 +105,7 @@ fn take_input(
     };
     let mut so_far: u64 = 0;
     while so_far <= MOST_BYTES {
-        let got = read_some(space);
+        let got = read_some(stdin, space);
         let n = got.bytes;
         if n == 0 {
             return Taken {
@@ -127,6 +132,7 @@ fn take_input(
 
 // Answers standard input, also what stands after its last end of a line.
 pub fn answer_input(
+    stdin: Stdin,
     paths: u64,
     rising: &[u64],
     falling: &[u64],
@@ -136,7 +142,7 @@ pub fn answer_input(
     requires { TreesReady paths rising.now falling.now × (length space.old ≤ piece_bytes) × (out_bytes ≤ length out.old) }
     ensures { InputAnswered result paths rising.now falling.now out.new }
 {
-    let taken = take_input(paths, rising, falling, space, out);
+    let taken = take_input(stdin, paths, rising, falling, space, out);
     if !taken.whole {
         return AnsweredInput {
             bytes: taken.bytes,

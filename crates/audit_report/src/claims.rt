@@ -5,9 +5,8 @@ ghost use Rattle.report_runs.specs.ReportRuns.{runs_of_bytes, Ascends};
 ghost use Rattle.audit_report.specs.ClaimedNumbers.{ClaimTrue};
 
 use crate::one_more;
-use libc::STDOUT_FILENO;
 use path_faults::Edge;
-use program_sentences::print_line;
+use program_sentences::{STDOUT_FILENO, print_line};
 use report_bytes::layout::HEAD_BYTES;
 use report_claim_text::{claim_line, more_line, shown_lines};
 use report_claim_words::Kind;

@@ -4,10 +4,9 @@ ghost use Rattle.std.specs.Prelude.{◌≤◌, length};
 
 use crate::claims::print_numbers;
 use crate::one_more;
-use libc::STDOUT_FILENO;
 use path_faults::{Edge, PathNo};
 use path_text::print_path;
-use program_sentences::{empty_line, print_line, with_number, with_text};
+use program_sentences::{STDOUT_FILENO, empty_line, print_line, with_number, with_text};
 use report_bytes::layout::{HEAD_BYTES, RUN_BYTES};
 use report_claim_text::{faults_line, field_line, order_line};
 use report_claim_words::Field;

@@ -12,16 +12,20 @@ ghost use Rattle.io.specs.Counts.{IsPrefixLen};
 
 use crate::explaining::explain;
 use audit_judging::AuditAnswer;
-use libc::{STDERR_FILENO, STDOUT_FILENO};
 use model::{NON_ROBUST, REPORT_BYTES, ROBUST, Refusal, STORE_WORDS, WORK_WORDS, known_class};
-use program_files::{close_file, file_name, is_argument, load_argument, open_file, read_class};
+use program_files::{
+    close_file, file_name, has_argument, is_argument, load_argument, open_file, read_class,
+};
 use program_sentences::{
-    Line, NETLIST_BYTES, empty_line, print, print_condition, print_line, print_version,
+    Line, NETLIST_BYTES, STDERR_FILENO, STDOUT_FILENO, empty_line, print, print_condition, print_line, print_version,
     with_number, with_text,
 };
 use report_bytes::layout::HEAD_BYTES;
 use report_runs::inner::head_of;
 use report_verdict::{class_line, is_of_record, verdict_line};
+use std::fs::File;
+use std::io::Stderr;
+use std::rt::{Env, Files};
 use testfile_argument::report_file;
 use testfile_judged::{Judged, audit_stream};
 
@@ -152,11 +156,18 @@ fn needs_plain(answer: AuditAnswer, class: u32) -> bool {
 
 // The true report in class 1 of the same test file, read again, at the start of `plain`. Its length is 0 where there is none: the file can't be read
 // whole again, has another length now, or is not taken whole in class 1.
-fn plain_report(name: &[u8], bytes: u64, netlist: &[u8], plain: &mut [u8]) -> usize
+fn plain_report(
+    rt: &impl Files<File = File>,
+    stderr: Stderr,
+    name: &[u8],
+    bytes: u64,
+    netlist: &[u8],
+    plain: &mut [u8],
+) -> usize
     ensures { IsPrefixLen result plain.new }
 {
     let mut store = [0u64; STORE_WORDS];
-    let reported = report_file(name, netlist, NON_ROBUST, plain, &mut store);
+    let reported = report_file(rt, stderr, name, netlist, NON_ROBUST, plain, &mut store);
     if !reported.whole {
         return 0;
     }
@@ -168,6 +179,8 @@ fn plain_report(name: &[u8], bytes: u64, netlist: &[u8], plain: &mut [u8]) -> us
 
 // Prints what an audit found, with the true report in class 1 where a report is refused for its claims in class 2.
 fn print_found(
+    rt: &impl Files<File = File>,
+    stderr: Stderr,
     name: &[u8],
     judged: Judged,
     all: bool,
@@ -182,21 +195,30 @@ fn print_found(
         return;
     }
     let mut plain = [0u8; REPORT_BYTES];
-    let n = plain_report(name, judged.bytes, netlist, &mut plain);
+    let n = plain_report(rt, stderr, name, judged.bytes, netlist, &mut plain);
     print_judged(judged, all, class, netlist, report, truth, &plain[..n]);
 }
 
 // The audit, in a class, with the tests of the file that an argument names.
-fn audit_tests(place: usize, all: bool, class: u32, netlist: &[u8], report: &[u8]) {
+fn audit_tests<R: Env + Files<File = File>>(
+    rt: &R,
+    stderr: Stderr,
+    place: usize,
+    all: bool,
+    class: u32,
+    netlist: &[u8],
+    report: &[u8],
+) {
     let mut name = io::buffer();
-    let n = file_name(place, b"tests.tp", &mut name);
+    let n = file_name(rt, place, b"tests.tp", &mut name);
     let mut written = [0u8; REPORT_BYTES];
     let mut space = io::large_buffer();
     let mut store = [0u64; STORE_WORDS];
     let mut work = [0u64; WORK_WORDS];
-    let opened = open_file(&name[..n]);
+    let opened = open_file(rt, &name[..n]);
     let judged = audit_stream(
-        opened.fd,
+        &opened,
+        stderr,
         netlist,
         report,
         class,
@@ -208,6 +230,8 @@ fn audit_tests(place: usize, all: bool, class: u32, netlist: &[u8], report: &[u8
     let length = judged.length;
     if close_file(&name[..n], opened, judged.whole) {
         print_found(
+            rt,
+            stderr,
             &name[..n],
             judged,
             all,
@@ -220,46 +244,53 @@ fn audit_tests(place: usize, all: bool, class: u32, netlist: &[u8], report: &[u8
 }
 
 // The audit, in a class, of the report that an argument names; the test file's is the argument before.
-fn audit_report(place: usize, all: bool, class: u32, netlist: &[u8])
+fn audit_report<R: Env + Files<File = File>>(
+    rt: &R,
+    stderr: Stderr,
+    place: usize,
+    all: bool,
+    class: u32,
+    netlist: &[u8],
+)
     requires { (1 ≤ place) × (place ≤ 4) }
 {
     let mut bytes = report_buffer();
-    let claim = load_argument(place, b"report.rp", &mut bytes);
+    let claim = load_argument(rt, place, b"report.rp", &mut bytes);
     let length = claim.bytes;
     if claim.whole {
-        audit_tests(place - 1, all, class, netlist, &bytes[..length]);
+        audit_tests(rt, stderr, place - 1, all, class, netlist, &bytes[..length]);
     }
 }
 
 // The audit on the netlist that the argument `first` names.
-fn audit_circuit(first: usize, all: bool)
+fn audit_circuit<R: Env + Files<File = File>>(rt: &R, stderr: Stderr, first: usize, all: bool)
     requires { first ≤ 2 }
 {
-    if first + 4 < os::arg_count() {
+    if has_argument(rt, first + 4) {
         print_usage(STDERR_FILENO);
         return;
     }
     let mut bytes = [0u8; NETLIST_BYTES];
-    let circuit = load_argument(first, b"circuit.nl", &mut bytes);
+    let circuit = load_argument(rt, first, b"circuit.nl", &mut bytes);
     let length = circuit.bytes;
-    let read = read_class(first + 3);
+    let read = read_class(rt, first + 3);
     if circuit.whole && read.whole {
-        audit_report(first + 2, all, read.class, &bytes[..length]);
+        audit_report(rt, stderr, first + 2, all, read.class, &bytes[..length]);
     }
 }
 
-fn main() {
-    if is_argument(1, b"--help") {
+fn main(rt: HostRuntime) {
+    if is_argument(&rt, 1, b"--help") {
         print_usage(STDOUT_FILENO);
         return;
     }
-    if is_argument(1, b"--version") {
+    if is_argument(&rt, 1, b"--version") {
         print_version();
         return;
     }
-    if is_argument(1, b"--all") {
-        audit_circuit(2, true);
+    if is_argument(&rt, 1, b"--all") {
+        audit_circuit(&rt, rt.stderr(), 2, true);
         return;
     }
-    audit_circuit(1, false);
+    audit_circuit(&rt, rt.stderr(), 1, false);
 }

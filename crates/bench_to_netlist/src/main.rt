@@ -5,13 +5,14 @@
 ghost use Rattle.std.specs.Prelude.{◌≡◌, length};
 
 use bench_text::{BenchAnswer, NETLIST_BYTES};
-use libc::{STDERR_FILENO, STDOUT_FILENO};
 use model::Refusal;
-use program_files::{file_name, is_argument, load_file};
+use program_files::{file_name, has_argument, is_argument, load_file};
 use program_sentences::{
-    empty_line, print, print_condition, print_line, print_version, with_number, with_refusal,
-    with_text,
+    STDERR_FILENO, STDOUT_FILENO, empty_line, print, print_condition, print_line, print_version,
+    with_number, with_refusal, with_text,
 };
+use std::fs::File;
+use std::rt::Files;
 
 // The longest text that is converted: 2 MiB.
 const TEXT_BYTES: usize = 2097152;
@@ -54,9 +55,9 @@ fn convert_text(text: &[u8]) {
 }
 
 // Converts the text of a file. A text that is too long, or not read whole, is not judged.
-fn convert_file(name: &[u8]) {
+fn convert_file(rt: &impl Files<File = File>, name: &[u8]) {
     let mut bytes = text_buffer();
-    let text = load_file(name, &mut bytes);
+    let text = load_file(rt, name, &mut bytes);
     let length = text.bytes;
     if !text.whole {
         return;
@@ -71,20 +72,20 @@ fn convert_file(name: &[u8]) {
     convert_text(&bytes[..length]);
 }
 
-fn main() {
-    if is_argument(1, b"--help") {
+fn main(rt: HostRuntime) {
+    if is_argument(&rt, 1, b"--help") {
         print_usage(STDOUT_FILENO);
         return;
     }
-    if is_argument(1, b"--version") {
+    if is_argument(&rt, 1, b"--version") {
         print_version();
         return;
     }
-    if 2 < os::arg_count() {
+    if has_argument(&rt, 2) {
         print_usage(STDERR_FILENO);
         return;
     }
     let mut name = io::buffer();
-    let n = file_name(1, b"circuit.bench", &mut name);
-    convert_file(&name[..n]);
+    let n = file_name(&rt, 1, b"circuit.bench", &mut name);
+    convert_file(&rt, &name[..n]);
 }

@@ -2,10 +2,9 @@
 use crate::names::{ACCEPTED, REFUSED};
 use crate::numbers::{MOST, Numbers, are, number_at, numbers_in};
 use crate::words::{after_word, key_of};
-use libc::STDOUT_FILENO;
 use model::Refusal;
 use model_refusals::refusal_number;
-use program_sentences::{empty_line, print, print_line, with_number, with_text};
+use program_sentences::{STDOUT_FILENO, empty_line, print, print_line, with_number, with_text};
 
 // An answer: the number of a refusal, 0 where there is none, and the numbers that are returned. `known`: the line was understood; `open`: a line
 // may state the first of the numbers alone.

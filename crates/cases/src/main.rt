@@ -38,9 +38,9 @@ fn run_script(script: &[u8]) -> Tally {
 }
 
 // A script that fills its buffer may be longer than it: that is wrong, too.
-fn main() {
+fn main(rt: HostRuntime) {
     let mut script = script_buffer();
-    let loaded = program_files::load_file(b"cases.txt", &mut script);
+    let loaded = program_files::load_file(&rt, b"cases.txt", &mut script);
     let n = loaded.bytes;
     let tally = run_script(&script[..n]);
     answers::print_tally(answers::with_end(tally, n < SCRIPT_BYTES));

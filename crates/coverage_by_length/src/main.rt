@@ -9,12 +9,15 @@ ghost use Rattle.std.specs.Prelude.{◌≤◌};
 use length_chart::put_chart;
 use length_coverage::{LengthRows, LengthsAnswer, coverage_by_length, falling_rows, rising_rows};
 use length_text::put_table;
-use libc::{STDERR_FILENO, STDOUT_FILENO};
 use model::{Refusal, STORE_WORDS};
-use program_files::{is_argument, load_argument, read_class};
+use program_files::{has_argument, is_argument, load_argument, read_class};
 use program_sentences::{
-    NETLIST_BYTES, empty_line, print, print_condition, print_line, print_version, with_refusal,
+    NETLIST_BYTES, STDERR_FILENO, STDOUT_FILENO, empty_line, print, print_condition, print_line,
+    print_version, with_refusal,
 };
+use std::fs::File;
+use std::io::Stderr;
+use std::rt::{Env, Files};
 use testfile_argument::store_of_tests;
 
 fn print_usage(fd: i32) {
@@ -62,43 +65,50 @@ fn print_coverage(netlist: &[u8], store: &[u64], picture: bool) {
 }
 
 // The same of the faults that the test file detects, in a class, that an argument names.
-fn cover_tests(netlist: &[u8], class: u32, place: usize, picture: bool) {
+fn cover_tests<R: Env + Files<File = File>>(
+    rt: &R,
+    stderr: Stderr,
+    netlist: &[u8],
+    class: u32,
+    place: usize,
+    picture: bool,
+) {
     let mut store = [0u64; STORE_WORDS];
-    let tests = store_of_tests(place, netlist, class, &mut store);
+    let tests = store_of_tests(rt, stderr, place, netlist, class, &mut store);
     if tests.taken {
         print_coverage(netlist, &store, picture);
     }
 }
 
 // The files that the arguments from a place on name.
-fn cover_files(first: usize, picture: bool)
+fn cover_files<R: Env + Files<File = File>>(rt: &R, stderr: Stderr, first: usize, picture: bool)
     requires { first ≤ 2 }
 {
-    if first + 3 < os::arg_count() {
+    if has_argument(rt, first + 3) {
         print_usage(STDERR_FILENO);
         return;
     }
     let mut bytes = [0u8; NETLIST_BYTES];
-    let circuit = load_argument(first, b"circuit.nl", &mut bytes);
+    let circuit = load_argument(rt, first, b"circuit.nl", &mut bytes);
     let length = circuit.bytes;
-    let read = read_class(first + 2);
+    let read = read_class(rt, first + 2);
     if circuit.whole && read.whole {
-        cover_tests(&bytes[..length], read.class, first + 1, picture);
+        cover_tests(rt, stderr, &bytes[..length], read.class, first + 1, picture);
     }
 }
 
-fn main() {
-    if is_argument(1, b"--help") {
+fn main(rt: HostRuntime) {
+    if is_argument(&rt, 1, b"--help") {
         print_usage(STDOUT_FILENO);
         return;
     }
-    if is_argument(1, b"--version") {
+    if is_argument(&rt, 1, b"--version") {
         print_version();
         return;
     }
-    if is_argument(1, b"svg") {
-        cover_files(2, true);
+    if is_argument(&rt, 1, b"svg") {
+        cover_files(&rt, rt.stderr(), 2, true);
         return;
     }
-    cover_files(1, false);
+    cover_files(&rt, rt.stderr(), 1, false);
 }

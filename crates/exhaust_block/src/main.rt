@@ -7,12 +7,13 @@
 use exhaust::ExhaustAnswer;
 use exhaust_text::put_block;
 use exhaust_undetected_text::fault_line;
-use libc::{STDERR_FILENO, STDOUT_FILENO};
 use listing_text::inner::OUT_BYTES;
 use path_faults::{FaultNo, path_of};
 use path_text::print_path;
-use program_files::{is_argument, load_argument, read_listed_class};
-use program_sentences::{NETLIST_BYTES, print, print_condition, print_line, print_version};
+use program_files::{has_argument, is_argument, load_argument, read_listed_class};
+use program_sentences::{
+    NETLIST_BYTES, STDERR_FILENO, STDOUT_FILENO, print, print_condition, print_line, print_version,
+};
 
 fn print_usage(fd: i32) {
     print(fd, b"usage: exhaust_block [CIRCUIT [CLASS]]\n");
@@ -61,23 +62,23 @@ fn print_block(netlist: &[u8], class: u32) {
     }
 }
 
-fn main() {
-    if is_argument(1, b"--help") {
+fn main(rt: HostRuntime) {
+    if is_argument(&rt, 1, b"--help") {
         print_usage(STDOUT_FILENO);
         return;
     }
-    if is_argument(1, b"--version") {
+    if is_argument(&rt, 1, b"--version") {
         print_version();
         return;
     }
-    if 3 < os::arg_count() {
+    if has_argument(&rt, 3) {
         print_usage(STDERR_FILENO);
         return;
     }
     let mut bytes = [0u8; NETLIST_BYTES];
-    let circuit = load_argument(1, b"circuit.nl", &mut bytes);
+    let circuit = load_argument(&rt, 1, b"circuit.nl", &mut bytes);
     let length = circuit.bytes;
-    let read = read_listed_class(2);
+    let read = read_listed_class(&rt, 2);
     if circuit.whole && read.whole {
         print_block(&bytes[..length], read.class);
     }

@@ -10,16 +10,18 @@ ghost use Rattle.model.specs.Calls.{work_words_count};
 ghost use Rattle.netlist.specs.Tables.{SomeTables};
 ghost use Rattle.listing_text.specs.StoreText.{out_bytes};
 
-use libc::{STDERR_FILENO, STDOUT_FILENO};
 use listing_head::inner::put_head;
 use listing_text::inner::OUT_BYTES;
-use listing_walk::inner::{Descriptors, list_file};
+use listing_walk::inner::{ListingFiles, list_file};
 use model::{STORE_WORDS, WORK_WORDS};
 use netlist::inner::Loaded;
 use program_files::{
-    close_file, file_name, is_argument, load_argument, open_file, read_listed_class,
+    close_file, file_name, has_argument, is_argument, load_argument, open_file, read_listed_class,
 };
-use program_sentences::{NETLIST_BYTES, print, print_version};
+use program_sentences::{NETLIST_BYTES, STDERR_FILENO, STDOUT_FILENO, print, print_version};
+use std::fs::File;
+use std::io::{Stderr, Stdout};
+use std::rt::{Env, Files};
 use store_writing::inner::clear;
 
 fn print_usage(fd: i32) {
@@ -54,7 +56,10 @@ fn work_words() -> [u64; WORK_WORDS]
 }
 
 // The lines of the records of the test file that the second argument names, then those of the store that they leave.
-fn list_tests(
+fn list_tests<R: Env + Files<File = File>>(
+    rt: &R,
+    stdout: Stdout,
+    stderr: Stderr,
     netlist: &[u8],
     tables: Loaded,
     class: u32,
@@ -66,13 +71,14 @@ fn list_tests(
     requires store_len { (length store.old ≡ store_words_count) × (work_words_count ≤ length work.old) × (out_bytes ≤ length out.old) }
 {
     let mut name = io::buffer();
-    let n = file_name(2, b"tests.tp", &mut name);
+    let n = file_name(rt, 2, b"tests.tp", &mut name);
     let mut space = io::large_buffer();
     clear(store);
-    let opened = open_file(&name[..n]);
-    let files = Descriptors {
-        from: opened.fd,
-        to: STDOUT_FILENO,
+    let opened = open_file(rt, &name[..n]);
+    let files = ListingFiles {
+        from: &opened,
+        to: stdout,
+        progress: stderr,
     };
     let listed = list_file(files, netlist, tables, class, &mut space, store, work, out);
     let end = listed.end;
@@ -82,44 +88,52 @@ fn list_tests(
 }
 
 // The lines after the first one: a store and working memory are made for them.
-fn list(netlist: &[u8], tables: Loaded, class: u32, out: &mut [u8])
+fn list<R: Env + Files<File = File>>(
+    rt: &R,
+    stdout: Stdout,
+    stderr: Stderr,
+    netlist: &[u8],
+    tables: Loaded,
+    class: u32,
+    out: &mut [u8],
+)
     requires { SomeTables netlist.now tables.positions tables.counts tables.shape × (out_bytes ≤ length out.old) }
 {
     let mut store = store_words();
     let mut work = work_words();
-    list_tests(netlist, tables, class, &mut store, &mut work, out);
+    list_tests(rt, stdout, stderr, netlist, tables, class, &mut store, &mut work, out);
 }
 
 // The listing on a netlist in a class: the first line, and the lines after it where both pass.
-fn list_circuit(netlist: &[u8], class: u32) {
+fn list_circuit<R: Env + Files<File = File>>(rt: &R, stdout: Stdout, stderr: Stderr, netlist: &[u8], class: u32) {
     let mut out = text_bytes();
     let head = put_head(netlist, class, &mut out);
     let end = head.end;
     print(STDOUT_FILENO, &out[..end]);
     if head.passed {
         let tables = head.tables;
-        list(netlist, tables, class, &mut out);
+        list(rt, stdout, stderr, netlist, tables, class, &mut out);
     }
 }
 
-fn main() {
-    if is_argument(1, b"--help") {
+fn main(rt: HostRuntime) {
+    if is_argument(&rt, 1, b"--help") {
         print_usage(STDOUT_FILENO);
         return;
     }
-    if is_argument(1, b"--version") {
+    if is_argument(&rt, 1, b"--version") {
         print_version();
         return;
     }
-    if 4 < os::arg_count() {
+    if has_argument(&rt, 4) {
         print_usage(STDERR_FILENO);
         return;
     }
     let mut bytes = [0u8; NETLIST_BYTES];
-    let circuit = load_argument(1, b"circuit.nl", &mut bytes);
+    let circuit = load_argument(&rt, 1, b"circuit.nl", &mut bytes);
     let length = circuit.bytes;
-    let read = read_listed_class(3);
+    let read = read_listed_class(&rt, 3);
     if circuit.whole && read.whole {
-        list_circuit(&bytes[..length], read.class);
+        list_circuit(&rt, rt.stdout(), rt.stderr(), &bytes[..length], read.class);
     }
 }

@@ -4,22 +4,26 @@ ghost use Rattle.model.specs.Store.{empty_store};
 ghost use Rattle.listing_blocks.specs.Answers.{ListReady};
 ghost use Rattle.listing_walk.specs.ListingWalk.{piece_bytes, LinesWaiting, FileListed};
 
-use libc::STDERR_FILENO;
 use listing_piece::inner::{Lines, list_read};
 use listing_text::inner::put_store;
 use netlist::inner::Loaded;
-use program_files::{at_end, end_progress, file_size, show_progress};
+use program_files::{Opened, at_end, end_progress, file_size, show_progress};
 use record_test::inner::record_length;
+use std::io::{IsTerminal, Stderr, Stdout};
 use testfile_reading::inner::{full_piece, read_part, whole_part};
 
 // No file has more bytes: it is the largest size that the system tells. What a pipe brings after so many is not read.
 const MOST_BYTES: u64 = 0x7FFF_FFFF_FFFF_FFFF;
 
-// The descriptors of a listing: the test file is read from one, the lines are written to the other.
+// The descriptor of standard output.
+const STDOUT_FILENO: i32 = 1;
+
+// The files of a listing: the test file is read from the first, the lines are written to standard output, and progress is shown on standard error.
 #[derive(Clone, Copy)]
-pub struct Descriptors {
-    pub from: i32,
-    pub to: i32,
+pub struct ListingFiles<'a> {
+    pub from: &'a Opened,
+    pub to: Stdout,
+    pub progress: Stderr,
 }
 
 // A test file whose records were listed: its bytes, the place after its last record, the bytes of the lines that wait, and whether it was read whole.
@@ -41,21 +45,21 @@ pub struct ListedFile {
 }
 
 // Whether the number of records is shown while they are listed: on a terminal, unless their lines go to one and show it.
-fn shows_progress(to: i32) -> bool {
-    libc::isatty(to) == 0 && libc::isatty(STDERR_FILENO) != 0
+fn shows_progress(to: Stdout, progress: Stderr) -> bool {
+    !to.is_terminal() && progress.is_terminal()
 }
 
 // Shows how many records are listed.
-fn show_listed(shown: bool, place: u64) {
+fn show_listed(progress: Stderr, shown: bool, place: u64) {
     if shown && 0 < place {
-        show_progress(place - 1);
+        show_progress(progress, place - 1);
     }
 }
 
 // The lines of the records of a file, all in one class, piece by piece. A piece that is not full is the last; the file was then read whole, unless a read
 // failed, more bytes came or its size is another.
 fn list_pieces(
-    files: Descriptors,
+    files: ListingFiles<'_>,
     netlist: &[u8],
     loaded: Loaded,
     class: u32,
@@ -68,12 +72,12 @@ fn list_pieces(
     ensures { LinesWaiting result.bytes result.place result.waiting netlist.now loaded class space.new store.new
         work.old work.new out.new }
 {
-    let Descriptors { from, to } = files;
+    let ListingFiles { from, to, progress } = files;
     let full = whole_part(space.len(), record_length(loaded.shape.inputs));
     let size = file_size(from);
-    let shown = shows_progress(to);
+    let shown = shows_progress(to, progress);
     let mut lines = Lines {
-        to,
+        to: STDOUT_FILENO,
         place: 1,
         bytes: 0,
     };
@@ -90,7 +94,7 @@ fn list_pieces(
                 whole: at_end(from, size),
             };
         }
-        show_listed(shown, lines.place);
+        show_listed(progress, shown, lines.place);
     }
     ListedPieces {
         bytes: so_far,
@@ -100,9 +104,9 @@ fn list_pieces(
     }
 }
 
-// Writes the lines of the records of a file to a descriptor, from an empty store on; the buffer then begins with the lines after them.
+// Writes the lines of the records of a file to standard output, from an empty store on; the buffer then begins with the lines after them.
 pub fn list_file(
-    files: Descriptors,
+    files: ListingFiles<'_>,
     netlist: &[u8],
     loaded: Loaded,
     class: u32,
@@ -115,9 +119,9 @@ pub fn list_file(
     ensures { FileListed result netlist.now loaded class space.new store.new work.old work.new out.new }
 {
     let listed = list_pieces(files, netlist, loaded, class, space, store, work, out);
-    end_progress();
+    end_progress(files.progress);
     let waiting = listed.waiting;
-    io::write_all(files.to, &out[..waiting]);
+    io::write_all(STDOUT_FILENO, &out[..waiting]);
     let end = put_store(out, store);
     ListedFile {
         bytes: listed.bytes,

@@ -1,5 +1,3 @@
 -- The cases that the proofs of the functions cite.
 pub mod NameLaws
 pub mod TextLaws
-pub mod JudgeLaws
-pub mod ClassLaws

@@ -3,14 +3,19 @@
 
 mod arguments;
 mod class_file;
+mod failures;
 mod files;
 
-pub use arguments::{file_name, is_argument};
+pub use arguments::{argument, file_name, has_argument, is_argument};
 pub use class_file::{ClassRead, class_chosen, read_class, read_listed_class};
+pub use failures::print_failure;
 pub use files::{
-    Content, Opened, at_end, close_file, file_size, load_argument, load_file, open_file,
+    Content, Opened, at_end, close_file, file_size, load_argument, load_file, open_file, read_full,
 };
-use libc::STDERR_FILENO;
+use std::io::{IsTerminal, Stderr};
+
+// The descriptor of standard error.
+const STDERR_FILENO: i32 = 2;
 
 // Writes a text to standard error. Nothing is returned by this and the functions of progress, so there is nothing to promise: no contract can say what the
 // system takes.
@@ -19,8 +24,8 @@ pub fn print_error(text: &[u8]) {
 }
 
 // Where standard error is a terminal, shows how many test records are done, over what it showed before.
-pub fn show_progress(records: u64) {
-    if libc::isatty(STDERR_FILENO) == 0 {
+pub fn show_progress(stderr: Stderr, records: u64) {
+    if !stderr.is_terminal() {
         return;
     }
     print_error(b"\r");
@@ -29,8 +34,8 @@ pub fn show_progress(records: u64) {
 }
 
 // Clears the line of progress.
-pub fn end_progress() {
-    if libc::isatty(STDERR_FILENO) == 0 {
+pub fn end_progress(stderr: Stderr) {
+    if !stderr.is_terminal() {
         return;
     }
     print_error(b"\r                            \r");

@@ -15,6 +15,11 @@ use text_buffer::inner::put_line;
 pub use text_line::{LINE_BYTES, Line, empty_line, with_number, with_refusal, with_text};
 pub use version::{print_version, version_line};
 
+// The descriptors to which the programs write.
+pub const STDOUT_FILENO: i32 = 1;
+
+pub const STDERR_FILENO: i32 = 2;
+
 // One byte more than the longest legal netlist has, so that a longer file is refused as it would be whole.
 pub const NETLIST_BYTES: usize = 10485;
 

@@ -4,8 +4,7 @@ ghost use Rattle.text_line.specs.Lines.{text_of};
 ghost use Rattle.program_sentences.specs.Version.{version_text};
 
 use crate::conditions::alone;
-use crate::print_line;
-use libc::STDOUT_FILENO;
+use crate::{STDOUT_FILENO, print_line};
 use text_line::Line;
 
 // What `--version` writes.

@@ -4,14 +4,16 @@
 
 ghost use Rattle.std.specs.Prelude.{◌≡◌, length};
 
-use libc::{STDERR_FILENO, STDOUT_FILENO};
 use netlist::{SurveyAnswer, survey};
 use path_faults::PathNo;
 use path_text::{print_bench_path, print_path};
-use program_files::{file_name, is_argument, load_file};
+use program_files::{argument, file_name, has_argument, is_argument, load_file};
 use program_sentences::{
-    NETLIST_BYTES, empty_line, print, print_line, print_version, with_number, with_text,
+    NETLIST_BYTES, STDERR_FILENO, STDOUT_FILENO, empty_line, print, print_line, print_version,
+    with_number, with_text,
 };
+use std::fs::File;
+use std::rt::{Env, Files};
 
 // The number that a word stands for.
 #[derive(Drop)]
@@ -75,9 +77,9 @@ fn say_number(number: u64, netlist: &[u8]) {
 }
 
 // The number that an argument gives; 0 stands for what is no number.
-fn number_argument() -> u64 {
+fn number_argument(rt: &impl Env) -> u64 {
     let mut word = io::buffer();
-    let digits = os::arg(1, &mut word);
+    let digits = argument(rt, 1, &mut word);
     let number = number_in(&word[..digits]);
     match number {
         Number::Nothing => {
@@ -116,9 +118,9 @@ fn is_text_name(name: &[u8]) -> bool {
 }
 
 // The path of a number in the netlist of a file.
-fn show_netlist(name: &[u8], number: u64) {
+fn show_netlist(rt: &impl Files<File = File>, name: &[u8], number: u64) {
     let mut bytes = [0u8; NETLIST_BYTES];
-    let circuit = load_file(name, &mut bytes);
+    let circuit = load_file(rt, name, &mut bytes);
     let length = circuit.bytes;
     if circuit.whole {
         say_number(number, &bytes[..length]);
@@ -137,9 +139,9 @@ fn text_space() -> [u8; 2097153]
 }
 
 // The path of a number in the .bench text of a file, with the names of the nets.
-fn show_text(name: &[u8], number: u64) {
+fn show_text(rt: &impl Files<File = File>, name: &[u8], number: u64) {
     let mut bytes = text_space();
-    let text = load_file(name, &mut bytes);
+    let text = load_file(rt, name, &mut bytes);
     let length = text.bytes;
     if !text.whole {
         return;
@@ -154,25 +156,25 @@ fn show_text(name: &[u8], number: u64) {
     print_bench_path(STDOUT_FILENO, &bytes[..length], PathNo(number));
 }
 
-fn main() {
-    if is_argument(1, b"--help") {
+fn main(rt: HostRuntime) {
+    if is_argument(&rt, 1, b"--help") {
         print_usage(STDOUT_FILENO);
         return;
     }
-    if is_argument(1, b"--version") {
+    if is_argument(&rt, 1, b"--version") {
         print_version();
         return;
     }
-    if 3 < os::arg_count() {
+    if has_argument(&rt, 3) {
         print_usage(STDERR_FILENO);
         return;
     }
-    let number = number_argument();
+    let number = number_argument(&rt);
     let mut name = io::buffer();
-    let n = file_name(2, b"circuit.nl", &mut name);
+    let n = file_name(&rt, 2, b"circuit.nl", &mut name);
     if is_text_name(&name[..n]) {
-        show_text(&name[..n], number);
+        show_text(&rt, &name[..n], number);
     } else {
-        show_netlist(&name[..n], number);
+        show_netlist(&rt, &name[..n], number);
     }
 }

@@ -13,6 +13,9 @@ use model::{REPORT_BYTES, WORK_WORDS};
 use program_files::{close_file, file_name, open_file};
 pub use refusing::{print_refused, refused_line};
 use report::WriteAnswer;
+use std::fs::File;
+use std::io::Stderr;
+use std::rt::{Env, Files};
 use testfile_judged::{Reported, report_stream};
 
 // What is told of the report of a test file: whether the program may judge by the file, the bytes that were read of it, and the length of its report, 0
@@ -42,6 +45,8 @@ fn no_work() -> [u64; WORK_WORDS]
 // The report, in a class, of the test file of a name. `whole` says whether the program may judge by it: the file was read whole, or is missing and counts
 // as empty.
 pub fn report_file(
+    rt: &impl Files<File = File>,
+    stderr: Stderr,
     name: &[u8],
     netlist: &[u8],
     test_class: u32,
@@ -53,9 +58,9 @@ pub fn report_file(
 {
     let mut space = io::large_buffer();
     let mut work = no_work();
-    let opened = open_file(name);
+    let opened = open_file(rt, name);
     let reported = report_stream(
-        opened.fd, netlist, test_class, truth, &mut space, store, &mut work,
+        &opened, stderr, netlist, test_class, truth, &mut space, store, &mut work,
     );
     let answer = reported.answer;
     Reported {
@@ -76,7 +81,9 @@ fn say_refused(answer: WriteAnswer, taken: usize) {
 }
 
 // The report, in a class, of the test file that an argument names, tests.tp where there is no such argument: its bytes are at the start of `truth`.
-pub fn report_of_tests(
+pub fn report_of_tests<R: Env + Files<File = File>>(
+    rt: &R,
+    stderr: Stderr,
     place: usize,
     netlist: &[u8],
     test_class: u32,
@@ -87,8 +94,8 @@ pub fn report_of_tests(
         × IsPrefixLen result.length truth.new }
 {
     let mut name = io::buffer();
-    let n = file_name(place, b"tests.tp", &mut name);
-    let reported = report_file(&name[..n], netlist, test_class, truth, store);
+    let n = file_name(rt, place, b"tests.tp", &mut name);
+    let reported = report_file(rt, stderr, &name[..n], netlist, test_class, truth, store);
     if !reported.whole {
         return ToldReport {
             whole: false,
@@ -106,11 +113,18 @@ pub fn report_of_tests(
 }
 
 // The store that the same file leaves, and whether its tests were all taken.
-pub fn store_of_tests(place: usize, netlist: &[u8], test_class: u32, store: &mut [u64]) -> ToldStore
+pub fn store_of_tests<R: Env + Files<File = File>>(
+    rt: &R,
+    stderr: Stderr,
+    place: usize,
+    netlist: &[u8],
+    test_class: u32,
+    store: &mut [u64],
+) -> ToldStore
     ensures { TestsStored result netlist.now test_class store.old store.new }
 {
     let mut report = [0u8; REPORT_BYTES];
-    let told = report_of_tests(place, netlist, test_class, &mut report, store);
+    let told = report_of_tests(rt, stderr, place, netlist, test_class, &mut report, store);
     ToldStore {
         whole: told.whole,
         bytes: told.bytes,

@@ -4,10 +4,9 @@ ghost use Rattle.model.specs.Refusals.{refusal_number_of};
 ghost use Rattle.text_line.specs.Lines.{text_of};
 ghost use Rattle.testfile_argument.specs.Refusing.{last_place, refused_line_of};
 
-use libc::STDERR_FILENO;
 use model::Refusal;
 use program_sentences::{
-    Line, empty_line, print_condition, print_line, with_number, with_refusal, with_text,
+    Line, STDERR_FILENO, empty_line, print_condition, print_line, with_number, with_refusal, with_text,
 };
 use report_verdict::is_of_record;
 

@@ -1,4 +1,4 @@
-// A test file of any length, read from a descriptor, and audited or reported.
+// A test file of any length, read piece by piece, and audited or reported.
 #![tactic(auto)]
 
 mod writing;
@@ -10,7 +10,9 @@ use crate::writing::true_report;
 use audit_judging::AuditAnswer;
 use audit_piece_steps::BeginAnswer;
 use audit_piece_steps::inner::{begin, finish};
+use program_files::Opened;
 use report::WriteAnswer;
+use std::io::Stderr;
 use testfile_walk::inner::walk_file;
 pub use writing::Written;
 
@@ -35,10 +37,11 @@ pub struct Reported {
     pub whole: bool,
 }
 
-// The audit of a report, in a class, with the test file that a descriptor gives. Where all records are taken, `truth` then begins with the true report. The
+// The audit of a report, in a class, with a test file that was opened. Where all records are taken, `truth` then begins with the true report. The
 // last piece that was read is left in the space.
 pub fn audit_stream(
-    fd: i32,
+    opened: &Opened,
+    stderr: Stderr,
     netlist: &[u8],
     report: &[u8],
     test_class: u32,
@@ -62,7 +65,7 @@ pub fn audit_stream(
             whole: true,
         },
         BeginAnswer::Ready => {
-            let walk = walk_file(fd, netlist, loaded, test_class, space, store, work);
+            let walk = walk_file(opened, stderr, netlist, loaded, test_class, space, store, work);
             let records = walk.records;
             let written = true_report(netlist, records, store, truth);
             let taken = records.answer;
@@ -78,9 +81,10 @@ pub fn audit_stream(
     }
 }
 
-// The report, in a class, of the test file that a descriptor gives: the true report at the start of `truth`, or the first refusal.
+// The report, in a class, of a test file that was opened: the true report at the start of `truth`, or the first refusal.
 pub fn report_stream(
-    fd: i32,
+    opened: &Opened,
+    stderr: Stderr,
     netlist: &[u8],
     test_class: u32,
     truth: &mut [u8],
@@ -103,7 +107,7 @@ pub fn report_stream(
             whole: true,
         },
         BeginAnswer::Ready => {
-            let walk = walk_file(fd, netlist, loaded, test_class, space, store, work);
+            let walk = walk_file(opened, stderr, netlist, loaded, test_class, space, store, work);
             let records = walk.records;
             let written = true_report(netlist, records, store, truth);
             let answer = written.answer;

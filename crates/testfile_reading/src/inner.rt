@@ -2,6 +2,8 @@
 ghost use Rattle.std.specs.Prelude.{◌≡◌, ◌+◌, ◌%◌, ◌≤◌, ◌<◌, length};
 ghost use Rattle.io.specs.Counts.{IsPrefixLen};
 
+use program_files::{Opened, read_full};
+
 // The bytes of the whole records in a space.
 pub fn whole_part(space: usize, bytes: usize) -> usize
     requires { 2 ≤ bytes }
@@ -17,11 +19,11 @@ pub fn full_piece(full: usize) -> usize
     if full == 0 { 1 } else { full }
 }
 
-// Reads at most so many bytes to the start of a space.
-pub fn read_part(fd: i32, most: usize, space: &mut [u8]) -> usize
+// Reads at most so many bytes of a file to the start of a space.
+pub fn read_part(opened: &Opened, most: usize, space: &mut [u8]) -> usize
     requires { most ≤ length space.old }
     ensures prefix_len { IsPrefixLen result space.new }
     ensures upper_bound { result ≤ most }
 {
-    io::read_full(fd, &mut space[..most])
+    read_full(opened, &mut space[..most])
 }

@@ -9,8 +9,9 @@ use audit_judging::inner::whole_length;
 use audit_piece_steps::inner::apply_piece;
 use model::{MAX_TESTS, Refusal};
 use netlist::inner::Loaded;
-use program_files::{at_end, end_progress, file_size, show_progress};
+use program_files::{Opened, at_end, end_progress, file_size, show_progress};
 use record_test::inner::record_length;
+use std::io::Stderr;
 use store_coverage::inner::StageAnswer;
 use store_writing::inner::clear;
 use testfile_reading::inner::{full_piece, read_part, whole_part};
@@ -32,7 +33,8 @@ pub struct Walk {
 // The test calls with the records of a file, all in one class, piece by piece. A piece that is not full is the last; the file was then read whole, unless a read
 // failed, more bytes came or its size is another. A file of too many bytes is not read further: the rest changes nothing.
 fn apply_pieces(
-    fd: i32,
+    opened: &Opened,
+    stderr: Stderr,
     netlist: &[u8],
     loaded: Loaded,
     class: u32,
@@ -46,24 +48,24 @@ fn apply_pieces(
     let bytes = record_length(loaded.shape.inputs);
     let full = whole_part(space.len(), bytes);
     let least = full_piece(full);
-    let size = file_size(fd);
+    let size = file_size(opened);
     let mut records = TakenRecords {
         taken: 0,
         answer: StageAnswer::Taken,
     };
     let mut so_far: u64 = 0;
     while so_far <= MAX_BYTES {
-        let n = read_part(fd, full, space);
+        let n = read_part(opened, full, space);
         records = apply_piece(netlist, loaded, records, &space[..n], class, store, work);
         so_far += n as u64;
         if n < least {
             return Walk {
                 bytes: so_far,
                 records,
-                whole: at_end(fd, size),
+                whole: at_end(opened, size),
             };
         }
-        show_progress(records.taken as u64);
+        show_progress(stderr, records.taken as u64);
     }
     Walk {
         bytes: so_far,
@@ -74,7 +76,8 @@ fn apply_pieces(
 
 // The same, and the length of the whole file: 33 comes before a record's refusal and leaves the store empty, too.
 pub fn walk_file(
-    fd: i32,
+    opened: &Opened,
+    stderr: Stderr,
     netlist: &[u8],
     loaded: Loaded,
     class: u32,
@@ -85,8 +88,8 @@ pub fn walk_file(
     requires { Ready netlist.now loaded store.old work.old × (store.old ≡ empty_store) }
     ensures { Walked file_taken result netlist.now loaded class space.new store.new work.old work.new }
 {
-    let walk = apply_pieces(fd, netlist, loaded, class, space, store, work);
-    end_progress();
+    let walk = apply_pieces(opened, stderr, netlist, loaded, class, space, store, work);
+    end_progress(stderr);
     let each = record_length(loaded.shape.inputs) as u64;
     if whole_length(walk.bytes, each) {
         return walk;

@@ -4,14 +4,16 @@
 // prints nothing, and says why on standard error; so where a file can't be read whole. A list of places that is none is refused on standard output.
 #![tactic(auto)]
 
-use libc::{STDERR_FILENO, STDOUT_FILENO};
 use listing_text::inner::OUT_BYTES;
 use model::{Refusal, STORE_WORDS};
-use program_files::{file_name, is_argument, load_argument, load_file, read_class};
+use program_files::{file_name, has_argument, is_argument, load_argument, load_file, read_class};
 use program_sentences::{
-    NETLIST_BYTES, empty_line, print, print_condition, print_line, print_version, with_number,
-    with_text,
+    NETLIST_BYTES, STDERR_FILENO, STDOUT_FILENO, empty_line, print, print_condition, print_line,
+    print_version, with_number, with_text,
 };
+use std::fs::File;
+use std::io::Stderr;
+use std::rt::{Env, Files};
 use testfile_argument::store_of_tests;
 use viewer::ViewAnswer;
 use viewer_place_lines::{PlacesAnswer, read_places};
@@ -53,9 +55,15 @@ fn print_view(netlist: &[u8], store: &[u64], places: &[u16]) {
 }
 
 // The same of what the test file that the second argument names leaves, in a class.
-fn view_tests(netlist: &[u8], class: u32, places: &[u16]) {
+fn view_tests<R: Env + Files<File = File>>(
+    rt: &R,
+    stderr: Stderr,
+    netlist: &[u8],
+    class: u32,
+    places: &[u16],
+) {
     let mut store = [0u64; STORE_WORDS];
-    let tests = store_of_tests(2, netlist, class, &mut store);
+    let tests = store_of_tests(rt, stderr, 2, netlist, class, &mut store);
     if tests.taken {
         print_view(netlist, &store, places);
     }
@@ -72,7 +80,14 @@ fn print_bad_line(name: &[u8], line: usize) {
 }
 
 // The view of the places that a text lists.
-fn view_listed(netlist: &[u8], class: u32, name: &[u8], text: &[u8]) {
+fn view_listed<R: Env + Files<File = File>>(
+    rt: &R,
+    stderr: Stderr,
+    netlist: &[u8],
+    class: u32,
+    name: &[u8],
+    text: &[u8],
+) {
     let read = read_places(text);
     let answer = read.answer;
     let list = read.list;
@@ -80,16 +95,16 @@ fn view_listed(netlist: &[u8], class: u32, name: &[u8], text: &[u8]) {
     let count = list.count;
     match answer {
         PlacesAnswer::BadLine(line) => print_bad_line(name, line),
-        PlacesAnswer::Listed => view_tests(netlist, class, &places[..count]),
+        PlacesAnswer::Listed => view_tests(rt, stderr, netlist, class, &places[..count]),
     }
 }
 
 // The view of the places in the file that the fourth argument names. A file that fills the space is not judged.
-fn view_places(netlist: &[u8], class: u32) {
+fn view_places<R: Env + Files<File = File>>(rt: &R, stderr: Stderr, netlist: &[u8], class: u32) {
     let mut name = io::buffer();
-    let n = file_name(4, b"places.txt", &mut name);
+    let n = file_name(rt, 4, b"places.txt", &mut name);
     let mut text = io::large_buffer();
-    let content = load_file(&name[..n], &mut text);
+    let content = load_file(rt, &name[..n], &mut text);
     let length = content.bytes;
     if !content.whole {
         return;
@@ -102,27 +117,27 @@ fn view_places(netlist: &[u8], class: u32) {
         );
         return;
     }
-    view_listed(netlist, class, &name[..n], &text[..length]);
+    view_listed(rt, stderr, netlist, class, &name[..n], &text[..length]);
 }
 
-fn main() {
-    if is_argument(1, b"--help") {
+fn main(rt: HostRuntime) {
+    if is_argument(&rt, 1, b"--help") {
         print_usage(STDOUT_FILENO);
         return;
     }
-    if is_argument(1, b"--version") {
+    if is_argument(&rt, 1, b"--version") {
         print_version();
         return;
     }
-    if 5 < os::arg_count() {
+    if has_argument(&rt, 5) {
         print_usage(STDERR_FILENO);
         return;
     }
     let mut bytes = [0u8; NETLIST_BYTES];
-    let circuit = load_argument(1, b"circuit.nl", &mut bytes);
+    let circuit = load_argument(&rt, 1, b"circuit.nl", &mut bytes);
     let length = circuit.bytes;
-    let read = read_class(3);
+    let read = read_class(&rt, 3);
     if circuit.whole && read.whole {
-        view_places(&bytes[..length], read.class);
+        view_places(&rt, rt.stderr(), &bytes[..length], read.class);
     }
 }
