@@ -61,7 +61,7 @@ pub fn no_words() -> Answer {
 }
 
 // Whether an answer has space for another number.
-pub(crate) fn has_space(answer: Answer) -> bool {
+pub fn has_space(answer: Answer) -> bool {
     answer.count < MOST
 }
 

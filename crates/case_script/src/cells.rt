@@ -98,7 +98,7 @@ fn change_bytes(what: &[u8], cells: &mut [u64], length: usize) -> Length {
 }
 
 // A line that sets a memory whose words are not over `most`: `cut` and a length, or as a memory of bytes or of words.
-pub(crate) fn change(what: &[u8], cells: &mut [u64], length: usize, most: u64) -> Length {
+pub fn change(what: &[u8], cells: &mut [u64], length: usize, most: u64) -> Length {
     let key = key_of(what);
     if key == CUT {
         let numbers = numbers_in(after_word(what));
@@ -121,7 +121,7 @@ fn one_if(test: bool) -> usize
 }
 
 // At how many places two memories have the same word.
-pub(crate) fn same_places(a: &[u64], b: &[u64]) -> Answer {
+pub fn same_places(a: &[u64], b: &[u64]) -> Answer {
     let mut found = 0;
     let mut at = 0;
     while at < a.len() {

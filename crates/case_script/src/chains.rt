@@ -65,7 +65,7 @@ fn fit(numbers: Numbers) -> bool {
 }
 
 // Adds a chain to the netlist, where its numbers fit and there is space for the longest: gates, kind, pins, and the net of the first gate's pins.
-pub(crate) fn add_chain(cells: &mut [u64], length: usize, numbers: Numbers) -> Length {
+pub fn add_chain(cells: &mut [u64], length: usize, numbers: Numbers) -> Length {
     if cells.len() < CHAIN_BYTES {
         return wrong();
     }

@@ -4,7 +4,7 @@
 
 pub mod answers;
 pub mod cells;
-mod chains;
+pub mod chains;
 pub mod copies;
 pub mod memory;
 pub mod names;

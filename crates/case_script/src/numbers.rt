@@ -122,11 +122,11 @@ pub fn are(numbers: Numbers, count: usize) -> bool {
 
 // The bytes written so far. `good`: nothing but bytes was found, and there was space; `waits`: `half` is the first digit of the next byte.
 #[derive(Drop)]
-struct Hex {
-    good: bool,
-    waits: bool,
-    half: u8,
-    count: usize,
+pub struct Hex {
+    pub good: bool,
+    pub waits: bool,
+    pub half: u8,
+    pub count: usize,
 }
 
 // The state after the first digit of a byte, or after what is no byte.
@@ -176,12 +176,12 @@ pub struct Length {
 }
 
 // The length after a line that is understood.
-pub(crate) fn length_of(length: usize) -> Length {
+pub fn length_of(length: usize) -> Length {
     Length { good: true, length }
 }
 
 // What a line that is not understood, or that goes past a memory's end, leaves.
-pub(crate) fn wrong() -> Length {
+pub fn wrong() -> Length {
     Length {
         good: false,
         length: 0,

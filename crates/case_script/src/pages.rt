@@ -42,7 +42,7 @@ pub const VIEW_PLACE: usize = 7;
 pub const PLACES_PLACE: usize = 8;
 
 // The words of the greatest store. A copy of the store that is kept follows after them.
-pub(crate) const STORE_WORDS: usize = 8192;
+pub const STORE_WORDS: usize = 8192;
 
 // Where the cells begin.
 pub const NETLIST_START: usize = 0;
@@ -106,11 +106,12 @@ pub fn part(cells: &[u64], start: usize, length: usize) -> &[u64] {
     &cells[start..end]
 }
 
-// The end of a memory; its start where there is no such end.
+// The end of a memory.
 pub fn end_of(start: usize, length: usize) -> usize
+    requires { start ≤ 65536 }
     ensures { start ≤ result }
 {
-    if usize::MAX - start < length {
+    if 65536 < length {
         return start;
     }
     start + length

@@ -1,9 +1,10 @@
 // Lines of a script and the words on them.
-ghost use Rattle.std.specs.Prelude.{◌≤◌, max, length};
+ghost use Rattle.std.specs.Prelude.{◌≤◌, length};
 
-// The first place, from a place on, at which a text has a byte; the text's end where it has none, or the place where that is past the end.
+// The first place, from a place on, at which a text has a byte; the text's end where it has none.
 pub fn find_byte(text: &[u8], from: usize, byte: u8) -> usize
-    ensures { (from ≤ result) × (result ≤ max from (length text.now)) }
+    requires { from ≤ length text.now }
+    ensures { (from ≤ result) × (result ≤ length text.now) }
 {
     let mut at = from;
     while at < text.len() {

@@ -39,14 +39,14 @@ pub(crate) fn record_buffer() -> [u8; 128]
 }
 
 // The words of a path.
-pub(crate) fn path_buffer() -> [u16; 1024]
+pub fn path_buffer() -> [u16; 1024]
     ensures { 1024 ≡ length result }
 {
     [0; 1024]
 }
 
 // Test records, or .bench text.
-pub(crate) fn tests_buffer() -> [u8; 1024]
+pub fn tests_buffer() -> [u8; 1024]
     ensures { 1024 ≡ length result }
 {
     [0; 1024]

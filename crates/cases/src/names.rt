@@ -1,11 +1,11 @@
 // The calls' words as numbers: the letters of a word, two hexadecimal digits each, as `case_script::words::key_of` gives them.
 
 // Verbs of more than one kind of calls. `empty` is also one that writes a store.
-pub(crate) const EMPTY: u64 = 0x656d707479;
+pub const EMPTY: u64 = 0x656d707479;
 
-pub(crate) const HOLDS: u64 = 0x686f6c6473;
+pub const HOLDS: u64 = 0x686f6c6473;
 
-pub(crate) const TOTALS: u64 = 0x746f74616c73;
+pub const TOTALS: u64 = 0x746f74616c73;
 
 // Calls that only read.
 pub(crate) const SURVEY: u64 = 0x737572766579;

@@ -137,7 +137,7 @@ fn numbers_before(text: &[u8], rest: usize) -> Numbers {
 }
 
 // The same: `class`, a number of 32 bits and a call, or a call in class 1.
-pub(crate) fn ask_storing(
+pub fn ask_storing(
     line: &[u8],
     netlist: &[u8],
     tests: &[u64],

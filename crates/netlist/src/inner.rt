@@ -14,7 +14,7 @@ use netlist_outputs::inner::{OutputsAnswer, read_outputs};
 use record_bytes::inner::{u16_at, wide_word};
 
 // How many inputs, nets and outputs a legal netlist has.
-#[derive(Drop)]
+#[derive(Clone, Copy)]
 pub struct Shape {
     pub inputs: usize,
     pub nets: usize,
@@ -29,7 +29,7 @@ pub enum LoadAnswer {
 }
 
 // The tables of a netlist by value. Those of a refused one say nothing.
-#[derive(Drop)]
+#[derive(Clone, Copy)]
 pub struct Loaded {
     pub answer: SurveyAnswer,
     pub shape: Shape,

@@ -21,7 +21,7 @@ pub struct NetlistSurvey {
     pub total: u64,
 }
 
-#[derive(Drop)]
+#[derive(Clone, Copy)]
 pub enum SurveyAnswer {
     Legal,
     Refused(Refusal),
