@@ -1,7 +1,7 @@
 /* Genduwal for C and C++: netlists, also from .bench text, path numbers, tests, stores of tested faults, coverage by length, what a viewer sees of
  * a store, reports and their audit, interval 2-3 trees of path numbers.
  *
- * Link target/staticlib/libgenduwal.a (rt staticlib genduwal), on Linux x86-64; it needs memcpy and memset of the C library alone.
+ * Link crates/exports/out/libexports.a (`rt lib` in crates/exports), on Linux x86-64; it needs memcpy and memset of the C library alone.
  *
  * Each function returns 0 if the call was taken, else the number of the refusal; no refusal has the number 0. What is proved of each
  * function holds for every content and every length of the parts that it is handed, if these hold of the pointers:

@@ -1,0 +1,14 @@
+-- `exports::genduwal_bench_to_netlist` meets its contract: code and words are those of the answer of the call beneath.
+use Rattle.model.proofs.Prelude.{rules}
+use Rattle.c_answer_words.proofs.CodeLaws.{answered-by}
+use Rattle.exports.proofs.genduwal_bench_to_netlist.Statement.{statement}
+use Rattle.exports.proofs.genduwal_bench_to_netlist.Tie as tie
+
+returns : tie.Need-returns
+returns c =
+    let called = c.before.before.before.before.bench-to-netlist.ensures in
+    (answered-by called.answer c.bench-code.ensures, called.buffer)
+
+pub genduwal_bench_to_netlist_spec : {M : Type 1} → statement M
+genduwal_bench_to_netlist_spec =
+    tie.close (tie.spec (λ c κs. search rules) (λ c κs. search rules) (λ c. search rules) returns)

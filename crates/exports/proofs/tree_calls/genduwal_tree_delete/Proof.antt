@@ -1,0 +1,12 @@
+-- `exports::tree_calls::genduwal_tree_delete` meets its contract: code and words are those of the answer of the call beneath.
+use Rattle.model.proofs.Prelude.{◌∙◌, rules}
+use Rattle.exports.proofs.tree_calls.genduwal_tree_delete.Statement.{statement}
+use Rattle.exports.proofs.tree_calls.genduwal_tree_delete.Tie as tie
+
+returns : tie.Need-returns
+returns c =
+    let called = c.before.before.before.tree-delete.ensures in
+    (c.changed-code.ensures ∙ called.answer, called.holding)
+
+pub genduwal_tree_delete_spec : {M : Type 1} → statement M
+genduwal_tree_delete_spec = tie.close (tie.spec (λ c κs. search rules) (λ c κs. search rules) (λ c. search rules) returns)

@@ -1,0 +1,12 @@
+-- `exports::tree_calls::genduwal_tree_empty` meets its contract: code and words are those of the answer of the call beneath.
+use Rattle.model.proofs.Prelude.{◌∙◌, rules}
+use Rattle.exports.proofs.tree_calls.genduwal_tree_empty.Statement.{statement}
+use Rattle.exports.proofs.tree_calls.genduwal_tree_empty.Tie as tie
+
+returns : tie.Need-returns
+returns c =
+    let called = c.before.before.before.tree-empty.ensures in
+    (c.emptied-code.ensures ∙ called.answer, called.words)
+
+pub genduwal_tree_empty_spec : {M : Type 1} → statement M
+genduwal_tree_empty_spec = tie.close (tie.spec (λ c κs. search rules) (λ c κs. search rules) (λ c. search rules) returns)
