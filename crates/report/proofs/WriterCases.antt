@@ -90,13 +90,13 @@ module _ (netlist ws buffer : List ℕ) where
         writer_total = paths-fit netlist s st e
 
         module _ (k : StoreCheck) (checked : check_of k ≡ checks (store_rules s.survey.total ws)) where
-          rules : check_of k ≡ checks (store_rules (path_total is.netlist) ws)
-          rules = checked ∙ ap (λ t. checks (store_rules t ws)) is.total_is
+          by_total : check_of k ≡ checks (store_rules (path_total is.netlist) ws)
+          by_total = checked ∙ ap (λ t. checks (store_rules t ws)) is.total_is
 
           pub writer_words : (w : Refusal) → k ≡ check.Refused w → WriteTrue (write.Refused w) netlist ws buffer buffer
           unfolding writer_call writer_answer writer_buffer
           writer_words w f =
-              let z : checks (store_rules (path_total is.netlist) ws) ≡ refused (refusal_number_of w) = sym rules ∙ ap check_of f in
+              let z : checks (store_rules (path_total is.netlist) ws) ≡ refused (refusal_number_of w) = sym by_total ∙ ap check_of f in
               record {
                 answer = rw (eq-eqb (length ws) store_words_count l, le-leb report_buffer_bytes (length buffer) h, is.is_read) (rw z refl);
                 buffer = rw (eq-eqb (length ws) store_words_count l, le-leb report_buffer_bytes (length buffer) h, is.is_read) (rw z refl);
@@ -111,7 +111,7 @@ module _ (netlist ws buffer : List ℕ) where
             unfolding writer_call writer_answer writer_buffer
             writer_written tests r left et p =
                 let R : List ℕ = report_record (tests_taken_of ws) (path_total is.netlist) (runs_by_edge ws) in
-                let z : checks (store_rules (path_total is.netlist) ws) ≡ value tt = sym rules ∙ ap check_of f in
+                let z : checks (store_rules (path_total is.netlist) ws) ≡ value tt = sym by_total ∙ ap check_of f in
                 let same : report_record tests s.survey.total (runs_by_edge ws) ≡ R = ap₂ (λ n t. report_record n t (runs_by_edge ws)) et is.total_is in
                 let fits : length R ≤ length buffer = omega (arith, record_fits (tests_taken_of ws) (path_total is.netlist) ws writer_sound.few) in
                 let n : 0 + length R ≡ length R = omega arith in

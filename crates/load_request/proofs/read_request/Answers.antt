@@ -1,5 +1,4 @@
 -- `load_request::read_request` meets its contract: another length, or the three fields.
-use Rattle.model.proofs.Prelude.{rules}
 use Rattle.load_request.proofs.RequestCases.{request-cases}
 use Rattle.load_request.proofs.read_request.Goals as goal
 

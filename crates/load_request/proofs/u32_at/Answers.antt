@@ -1,5 +1,4 @@
 -- `load_request::u32_at` meets its contract: the fields of two bytes, low one first.
-use Rattle.model.proofs.Prelude.{rules}
 use Rattle.load_request.proofs.RequestCases.{request-cases}
 use Rattle.load_request.proofs.u32_at.Goals as goal
 

@@ -1,5 +1,4 @@
 -- `load_vectors::next_state` meets its contract: the sum does not leave 64 bits, and the remainder is the step.
-use Rattle.model.proofs.Prelude.{rules}
 use Rattle.load_vectors.proofs.DrawSteps.{step_is}
 use Rattle.load_vectors.proofs.next_state.Goals as goal
 

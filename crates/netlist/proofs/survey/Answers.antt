@@ -1,5 +1,4 @@
 -- `netlist::survey` meets its contract: the survey is made of the tables of a legal netlist.
-use Rattle.model.proofs.Prelude.{rules}
 use Rattle.netlist.proofs.LoadCases.{survey-cases}
 use Rattle.netlist.proofs.survey.Goals as goal
 

@@ -1,5 +1,4 @@
 -- `path_of_number::number_to_path` meets its contract: each return is a case of the buffer, the netlist and the number.
-use Rattle.model.proofs.Prelude.{rules}
 use Rattle.path_of_number.proofs.PathCallCases.{number-to-path-cases}
 use Rattle.path_of_number.proofs.number_to_path.Goals as goal
 

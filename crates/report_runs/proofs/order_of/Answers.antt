@@ -1,6 +1,5 @@
 -- `report_runs::order_of` meets its contract. The invariant: the runs before the place ascend, and the last of them ends with `last`.
-use Rattle.model.proofs.Prelude.{◌≤◌, ◌-◌, ◌/◌, ◌≡◌, length, take, arith, rules}
-use Rattle.report_runs.specs.ReportRuns.{runs_of_bytes, Ascends, least_at_of}
+use Rattle.model.proofs.Prelude.{◌-◌, arith, rules}
 use Rattle.report_runs.proofs.OrderCases.{least_after, least-none, one_more, least_more, out_of_order, all-ascend}
 use Rattle.report_runs.proofs.order_of.Goals as goal
 

@@ -1,7 +1,7 @@
 -- `report_runs::order_of` meets its contract. The invariant: the runs before the place ascend, and the last of them ends with `last`.
-use Rattle.model.proofs.Prelude.{◌≤◌, ◌-◌, ◌/◌, ◌≡◌, length, take, arith, rules}
+use Rattle.model.proofs.Prelude.{◌≤◌, ◌-◌, ◌/◌, ◌≡◌, length, take}
 use Rattle.report_runs.specs.ReportRuns.{runs_of_bytes, Ascends, least_at_of}
-use Rattle.report_runs.proofs.OrderCases.{least_after, least-none, one_more, least_more, out_of_order, all-ascend}
+use Rattle.report_runs.proofs.OrderCases.{least_after}
 use Rattle.report_runs.proofs.order_of.Given as goal
 
 abbrev pub invariant-loop-at : goal.invariant-loop-at

@@ -1,7 +1,7 @@
 -- `viewer_place_lines::read_places` meets its contract: the lines that are left, after the places so far, give the whole.
-use Rattle.model.proofs.Prelude.{◌≤◌, ◌-◌, length, rules}
+use Rattle.model.proofs.Prelude.{◌-◌, rules}
 use Rattle.bench_lines.proofs.TextLineLaws.{line_low, line-stop-in, line-less, line-counted}
-use Rattle.viewer_place_lines.proofs.PlaceListLaws.{PlacesSoFar, text-cases}
+use Rattle.viewer_place_lines.proofs.PlaceListLaws.{text-cases}
 use Rattle.viewer_place_lines.proofs.read_places.Goals as goal
 
 pub loop-at-init : goal.loop-at-init

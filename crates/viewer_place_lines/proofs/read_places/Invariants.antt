@@ -1,7 +1,6 @@
 -- `viewer_place_lines::read_places` meets its contract: the lines that are left, after the places so far, give the whole.
-use Rattle.model.proofs.Prelude.{◌≤◌, ◌-◌, length, rules}
-use Rattle.bench_lines.proofs.TextLineLaws.{line_low, line-stop-in, line-less, line-counted}
-use Rattle.viewer_place_lines.proofs.PlaceListLaws.{PlacesSoFar, text-cases}
+use Rattle.model.proofs.Prelude.{◌≤◌, ◌-◌, length}
+use Rattle.viewer_place_lines.proofs.PlaceListLaws.{PlacesSoFar}
 use Rattle.viewer_place_lines.proofs.read_places.Given as goal
 
 abbrev pub invariant-loop-at : goal.invariant-loop-at

@@ -1,7 +1,6 @@
 -- `bench_names::inner::pins_known` meets its contract: the pins so far are looked up, those that are left are to be.
-use Rattle.model.proofs.Prelude.{◌-◌, length, rules}
-use Rattle.bench_names.proofs.NameNetLaws.{KnownSoFar, known_start, known-inside, known-end, known-stop, known-again}
-use Rattle.bench_lines.proofs.PinWalkLaws.{pin-name, pin-less}
+use Rattle.model.proofs.Prelude.{◌-◌, length}
+use Rattle.bench_names.proofs.NameNetLaws.{KnownSoFar}
 use Rattle.bench_names.proofs.inner.pins_known.Given as goal
 
 abbrev pub invariant-loop-more : goal.invariant-loop-more

@@ -1,6 +1,5 @@
 -- `bench_outputs::inner::put_outputs` meets its contract: the names that are left, written from here on, give the whole.
-use Rattle.model.proofs.Prelude.{rules}
-use Rattle.bench_outputs.proofs.OutputFileLaws.{OutputsLeft, outputs-start, outputs-same, outputs-end, outputs-room, outputs-again}
+use Rattle.bench_outputs.proofs.OutputFileLaws.{OutputsLeft}
 use Rattle.bench_outputs.proofs.inner.put_outputs.Given as goal
 
 abbrev pub invariant-loop-left : goal.invariant-loop-left

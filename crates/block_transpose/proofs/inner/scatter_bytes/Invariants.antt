@@ -1,6 +1,6 @@
 -- `block_transpose::inner::scatter_bytes` meets its contract. The loop's invariant: the bytes below i are put, those from i on are left.
-use Rattle.model.proofs.Prelude.{◌-◌, arith}
-use Rattle.block_transpose.proofs.ScatterBytesCases.{Scattering, scatter_bytes-start, scatter_bytes-step, scatter_bytes-end}
+use Rattle.model.proofs.Prelude.{◌-◌}
+use Rattle.block_transpose.proofs.ScatterBytesCases.{Scattering}
 use Rattle.block_transpose.proofs.inner.scatter_bytes.Given as goal
 
 abbrev pub invariant-loop-i : goal.invariant-loop-i

@@ -1,5 +1,5 @@
 -- `block_transpose::inner::spread_bits` meets its contract: its rule is computed at all 256 bytes at once.
-use Rattle.model.proofs.Prelude.{arith, rules}
+use Rattle.model.proofs.Prelude.{arith}
 use Rattle.block_transpose.proofs.SpreadBitsCases.{sum_fits, spread-bits-is}
 use Rattle.block_transpose.proofs.inner.spread_bits.Goals as goal
 

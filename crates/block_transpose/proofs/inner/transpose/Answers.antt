@@ -1,6 +1,6 @@
 -- `block_transpose::inner::transpose` meets its contract. The loop's invariant: the inputs below 8 * byte have their words, the others have 0.
 use Rattle.model.proofs.Prelude.{◌<◌, ◌-◌, arith}
-use Rattle.block_transpose.proofs.TransposeCases.{Transposing, transpose_start, transpose_step, transpose_end}
+use Rattle.block_transpose.proofs.TransposeCases.{transpose_start, transpose_step, transpose_end}
 use Rattle.block_transpose.proofs.inner.transpose.Goals as goal
 
 pub loop-byte-init : goal.loop-byte-init

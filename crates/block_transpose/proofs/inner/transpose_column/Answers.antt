@@ -1,6 +1,6 @@
 -- `block_transpose::inner::transpose_column` meets its contract. The loop's invariant: the records below t stand in the eight words, and nothing above them.
 use Rattle.model.proofs.Prelude.{◌-◌, ◌∙◌, arith}
-use Rattle.block_transpose.proofs.TransposeCases.{Standing, transpose_column-start, transpose_column-step, transpose_column-end}
+use Rattle.block_transpose.proofs.TransposeCases.{transpose_column-start, transpose_column-step, transpose_column-end}
 use Rattle.block_transpose.proofs.inner.transpose_column.Goals as goal
 
 pub loop-t-init : goal.loop-t-init

@@ -1,5 +1,4 @@
 -- `detection::inner::digit` meets its contract: the lowest bit of the shifted word.
-use Rattle.model.proofs.Prelude.{rules}
 use Rattle.record_bytes.proofs.BitLaws.{word-digit}
 use Rattle.detection.proofs.inner.digit.Goals as goal
 

@@ -1,7 +1,7 @@
 -- `exhaust_pairs::inner::put_pairs` meets its contract. The invariant: the words hold the pairs with the V2 counted so far.
 use Rattle.model.proofs.Prelude.{rules}
-use Rattle.model.proofs.Prelude.{◌-◌, ⊎_elim}
-use Rattle.exhaust_pairs.proofs.HeldPairLaws.{HeldSoFar, held-skip, held-put, held-end, held-cases}
+use Rattle.model.proofs.Prelude.{◌-◌}
+use Rattle.exhaust_pairs.proofs.HeldPairLaws.{held-skip, held-put, held-end, held-cases}
 use Rattle.exhaust_pairs.proofs.inner.put_pairs.Goals as goal
 
 pub vectors_of-count-requires : goal.vectors_of-count-requires

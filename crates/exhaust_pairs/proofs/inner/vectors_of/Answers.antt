@@ -1,5 +1,5 @@
 -- `exhaust_pairs::inner::vectors_of` meets its contract: the shifted 1 does not leave the word.
-use Rattle.model.proofs.Prelude.{◌≤◌, sym, subst, arith, rules}
+use Rattle.model.proofs.Prelude.{◌≤◌, sym, subst, arith}
 use lib.Pow.{pow_mono}
 use Rattle.record_bytes.proofs.BitLaws.{one_shifted}
 use Rattle.exhaust_pairs.proofs.inner.vectors_of.Goals as goal

@@ -1,5 +1,5 @@
 -- `gate_logic::inner::gate_steady` meets its contract: the `or` of two bits.
-use Rattle.model.proofs.Prelude.{not, eqb, rules}
+use Rattle.model.proofs.Prelude.{not, eqb}
 use lib.Bits.{bit_and}
 use Rattle.gate_logic.proofs.StateLaws.{either}
 use Rattle.gate_logic.proofs.inner.gate_steady.Goals as goal

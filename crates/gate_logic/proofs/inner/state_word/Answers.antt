@@ -1,5 +1,5 @@
 -- `gate_logic::inner::state_word` meets its contract: three bits, a byte apart.
-use Rattle.model.proofs.Prelude.{ℕ, ◌+◌, ◌*◌, ◌≡◌, refl, arith, rules}
+use Rattle.model.proofs.Prelude.{ℕ, ◌+◌, ◌*◌, ◌≡◌, refl, arith}
 use Rattle.gate_logic.proofs.inner.state_word.Goals as goal
 
 three-bits : {x y z a b c : ℕ} → x ≡ a → y ≡ b → z ≡ c → x + 256 * y + 65536 * z ≡ a + 256 * b + 65536 * c

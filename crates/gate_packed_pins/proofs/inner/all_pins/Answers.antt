@@ -1,5 +1,5 @@
 -- `gate_packed_pins::inner::all_pins` meets its contract: below 8 pins the shifted 1 does not leave the byte.
-use Rattle.model.proofs.Prelude.{arith, rules}
+use Rattle.model.proofs.Prelude.{arith}
 use lib.Pow.{pow_pos}
 use Rattle.gate_packed_pins.proofs.KindCases.{eight-pins, shifted_one}
 use Rattle.gate_packed_pins.proofs.inner.all_pins.Goals as goal

@@ -1,6 +1,6 @@
 -- `gate_packed_pins::inner::open_pins` meets its contract, kind by kind.
 use Rattle.model.proofs.Prelude.{rules}
-use Rattle.gate_packed_pins.proofs.KindCases.{few, open_and, open_nand, open_or, open_nor, open_rest}
+use Rattle.gate_packed_pins.proofs.KindCases.{open_and, open_nand, open_or, open_nor, open_rest}
 use Rattle.gate_packed_pins.proofs.inner.open_pins.Goals as goal
 
 pub returns-in-3 : goal.returns-in-3

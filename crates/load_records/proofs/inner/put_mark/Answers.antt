@@ -1,5 +1,5 @@
 -- `load_records::inner::put_mark` meets its contract: two bytes stored one after the other.
-use Rattle.model.proofs.Prelude.{length-set, arith, rules}
+use Rattle.model.proofs.Prelude.{length-set, arith}
 use Rattle.load_records.proofs.TestPutLaws.{mark-put}
 use Rattle.load_records.proofs.inner.put_mark.Goals as goal
 

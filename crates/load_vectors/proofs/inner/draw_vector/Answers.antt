@@ -1,6 +1,6 @@
 -- `load_vectors::inner::draw_vector` meets its contract. The invariant: the values drawn so far, and those that are left to draw from here, give the vector.
-use Rattle.model.proofs.Prelude.{◌-◌, rules}
-use Rattle.load_vectors.proofs.DrawSteps.{Drawing, draw-cases}
+use Rattle.model.proofs.Prelude.{◌-◌}
+use Rattle.load_vectors.proofs.DrawSteps.{draw-cases}
 use Rattle.load_vectors.proofs.inner.draw_vector.Goals as goal
 
 pub loop-input-init : goal.loop-input-init

@@ -1,5 +1,4 @@
 -- `netlist::header::in_range` meets its contract: each return's tests are known.
-use Rattle.model.proofs.Prelude.{rules}
 use Rattle.record_bytes.proofs.Tests.{tests}
 use Rattle.netlist.proofs.header.in_range.Goals as goal
 

@@ -1,5 +1,4 @@
 -- `netlist::header::read_header` meets its contract: each return is a case of the header, by its mark and its numbers.
-use Rattle.model.proofs.Prelude.{rules}
 use Rattle.netlist.proofs.HeaderCases.{header-cases}
 use Rattle.netlist.proofs.header.read_header.Goals as goal
 

@@ -1,5 +1,4 @@
 -- `netlist::inner::load` meets its contract: a refused header refuses the netlist, a header that was found leaves the body to answer.
-use Rattle.model.proofs.Prelude.{rules}
 use Rattle.netlist.proofs.LoadCases.{load-cases}
 use Rattle.netlist.proofs.inner.load.Goals as goal
 

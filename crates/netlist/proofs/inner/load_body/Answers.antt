@@ -1,5 +1,4 @@
 -- `netlist::inner::load_body` meets its contract: the netlist is read as its gates, its outputs and the bytes left over were.
-use Rattle.model.proofs.Prelude.{rules}
 use Rattle.netlist.proofs.LoadCases.{body-cases}
 use Rattle.netlist.proofs.inner.load_body.Goals as goal
 

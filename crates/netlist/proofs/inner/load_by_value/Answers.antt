@@ -1,5 +1,4 @@
 -- `netlist::inner::load_by_value` meets its contract: the arrays are those that were filled.
-use Rattle.model.proofs.Prelude.{rules}
 use Rattle.netlist.proofs.LoadCases.{by-value-cases}
 use Rattle.netlist.proofs.inner.load_by_value.Goals as goal
 

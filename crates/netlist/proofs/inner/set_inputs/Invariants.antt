@@ -1,7 +1,6 @@
 -- `netlist::inner::set_inputs` meets its contract: the array so far holds a one for each input so far.
 use Rattle.model.proofs.Prelude.{◌≤◌, ◌-◌, ◌≡◌, replicate}
 use Rattle.model.specs.Calls.{padded}
-use Rattle.netlist.proofs.OnesCases.{ones-cases}
 use Rattle.netlist.proofs.inner.set_inputs.Given as goal
 
 abbrev pub invariant-loop-i : goal.invariant-loop-i

@@ -1,7 +1,6 @@
 -- `netlist_gates::inner::pin_sum` meets its contract: the sum so far and the sum over the pins that are left make the whole, and the test by
 -- subtraction keeps the sum so far at most 2^62.
-use Rattle.model.proofs.Prelude.{◌≤◌, ◌+◌, ◌*◌, ◌^◌, ◌≡◌, true, length, rules}
-use Rattle.netlist_gates.specs.GateReading.{pins_lower_of, pin_sum_of}
+use Rattle.model.proofs.Prelude.{rules}
 use Rattle.netlist_gates.proofs.PinSteps.{lower-first, lower-rest, sum-again, sum-stop, sum-end, sum_fits, two-lower-still, sum-as_two}
 use Rattle.netlist_gates.proofs.inner.pin_sum.Goals as goal
 

@@ -1,7 +1,6 @@
 -- `netlist_gates::inner::pins_lower` meets its contract: whether the pins that are left are lower says it of all pins.
-use Rattle.model.proofs.Prelude.{◌≤◌, ◌+◌, ◌*◌, ◌≡◌, length, rules}
+use Rattle.model.proofs.Prelude.{◌≤◌, ◌+◌, ◌*◌, ◌≡◌, length}
 use Rattle.netlist_gates.specs.GateReading.{pins_lower_of}
-use Rattle.netlist_gates.proofs.PinSteps.{lower-again, lower-stop, lower-end, lower-as_two}
 use Rattle.netlist_gates.proofs.inner.pins_lower.Given as goal
 
 abbrev pub invariant-loop-left : goal.invariant-loop-left

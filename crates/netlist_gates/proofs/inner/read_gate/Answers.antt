@@ -1,5 +1,4 @@
 -- `netlist_gates::inner::read_gate` meets its contract: each return is a case of the gate, by what was read before it.
-use Rattle.model.proofs.Prelude.{rules}
 use Rattle.netlist_gates.proofs.GateCases.{gate-cases, lower-more}
 use Rattle.netlist_gates.proofs.inner.read_gate.Goals as goal
 

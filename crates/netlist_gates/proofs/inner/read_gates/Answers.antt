@@ -1,8 +1,5 @@
 -- `netlist_gates::inner::read_gates` meets its contract: the readings and the positions that are left, from the state so far, give the whole.
-use Rattle.model.proofs.Prelude.{◌≤◌, ◌+◌, ◌*◌, ◌++◌, length, replicate}
-use Rattle.netlist_gates.specs.GateReading.{starts}
-use Rattle.netlist_gates.proofs.PositionSteps.{PositionsLeft}
-use Rattle.netlist_gates.proofs.GateSteps.{GatesLeft, read-gates-cases}
+use Rattle.netlist_gates.proofs.GateSteps.{read-gates-cases}
 use Rattle.netlist_gates.proofs.inner.read_gates.Goals as goal
 
 pub loop-left-init : goal.loop-left-init

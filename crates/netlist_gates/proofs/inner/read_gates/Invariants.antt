@@ -2,7 +2,7 @@
 use Rattle.model.proofs.Prelude.{◌≤◌, ◌+◌, ◌*◌, ◌++◌, length, replicate}
 use Rattle.netlist_gates.specs.GateReading.{starts}
 use Rattle.netlist_gates.proofs.PositionSteps.{PositionsLeft}
-use Rattle.netlist_gates.proofs.GateSteps.{GatesLeft, read-gates-cases}
+use Rattle.netlist_gates.proofs.GateSteps.{GatesLeft}
 use Rattle.netlist_gates.proofs.inner.read_gates.Given as goal
 
 abbrev pub invariant-loop-left : goal.invariant-loop-left

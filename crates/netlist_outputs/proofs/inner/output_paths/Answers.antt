@@ -1,5 +1,4 @@
 -- `netlist_outputs::inner::output_paths` meets its contract: each return is a case of the net.
-use Rattle.model.proofs.Prelude.{rules}
 use Rattle.netlist_outputs.proofs.OutputCases.{paths-cases}
 use Rattle.netlist_outputs.proofs.inner.output_paths.Goals as goal
 

@@ -1,5 +1,4 @@
 -- `netlist_outputs::inner::read_output` meets its contract: each return is a case of the output, by what was read before it.
-use Rattle.model.proofs.Prelude.{rules}
 use Rattle.netlist_outputs.proofs.OutputCases.{output-cases}
 use Rattle.netlist_outputs.proofs.inner.read_output.Goals as goal
 

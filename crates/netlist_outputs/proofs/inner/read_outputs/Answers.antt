@@ -1,7 +1,6 @@
 -- `netlist_outputs::inner::read_outputs` meets its contract: the readings that are left, from the state so far, give the whole.
-use Rattle.model.proofs.Prelude.{◌≤◌, ◌^◌, length, drop, rules}
-use Rattle.model.specs.Read.{read_outputs_of}
-use Rattle.netlist_outputs.proofs.OutputCases.{OutputsLeft, outputs-start, outputs-stop, outputs-fit, outputs-at-fit, outputs-small, outputs-within, outputs-again, outputs-end}
+use Rattle.model.proofs.Prelude.{rules}
+use Rattle.netlist_outputs.proofs.OutputCases.{outputs-start, outputs-stop, outputs-fit, outputs-at-fit, outputs-small, outputs-within, outputs-again, outputs-end}
 use Rattle.netlist_outputs.proofs.inner.read_outputs.Goals as goal
 
 pub loop-left-init : goal.loop-left-init

@@ -1,7 +1,7 @@
 -- `netlist_outputs::inner::read_outputs` meets its contract: the readings that are left, from the state so far, give the whole.
-use Rattle.model.proofs.Prelude.{◌≤◌, ◌^◌, length, drop, rules}
+use Rattle.model.proofs.Prelude.{◌≤◌, ◌^◌, length, drop}
 use Rattle.model.specs.Read.{read_outputs_of}
-use Rattle.netlist_outputs.proofs.OutputCases.{OutputsLeft, outputs-start, outputs-stop, outputs-fit, outputs-at-fit, outputs-small, outputs-within, outputs-again, outputs-end}
+use Rattle.netlist_outputs.proofs.OutputCases.{OutputsLeft}
 use Rattle.netlist_outputs.proofs.inner.read_outputs.Given as goal
 
 abbrev pub invariant-loop-left : goal.invariant-loop-left

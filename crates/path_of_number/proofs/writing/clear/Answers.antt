@@ -1,6 +1,5 @@
 -- `path_of_number::writing::clear` meets its contract.
-use Rattle.model.proofs.Prelude.{◌≤◌, ◌-◌, ◌≡◌, length}
-use Rattle.path_of_number.specs.Tasks.{blank}
+use Rattle.model.proofs.Prelude.{◌-◌}
 use Rattle.path_of_number.proofs.PathWordLaws.{blank-cases}
 use Rattle.path_of_number.proofs.writing.clear.Goals as goal
 

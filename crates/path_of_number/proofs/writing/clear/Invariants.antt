@@ -1,7 +1,6 @@
 -- `path_of_number::writing::clear` meets its contract.
 use Rattle.model.proofs.Prelude.{◌≤◌, ◌-◌, ◌≡◌, length}
 use Rattle.path_of_number.specs.Tasks.{blank}
-use Rattle.path_of_number.proofs.PathWordLaws.{blank-cases}
 use Rattle.path_of_number.proofs.writing.clear.Given as goal
 
 abbrev pub invariant-loop-i : goal.invariant-loop-i

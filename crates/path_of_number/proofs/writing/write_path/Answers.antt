@@ -1,5 +1,4 @@
 -- `path_of_number::writing::write_path` meets its contract: output, pins and number of pins, over zeros, are the words of the path.
-use Rattle.model.proofs.Prelude.{rules}
 use Rattle.path_of_number.proofs.PathWordLaws.{end-room, same-words}
 use Rattle.path_of_number.proofs.WritingCases.{writing-cases, picked_pin, end_back, end_fits}
 use Rattle.path_of_number.proofs.writing.write_path.Goals as goal

@@ -1,5 +1,4 @@
 -- `record_bytes::inner::begins_with` meets its contract: each return's tests are known.
-use Rattle.model.proofs.Prelude.{rules}
 use Rattle.record_bytes.proofs.Tests.{tests}
 use Rattle.record_bytes.proofs.inner.begins_with.Goals as goal
 

@@ -1,7 +1,6 @@
 -- `record_bytes::inner::put` meets its contract: what is left to write, written, gives the whole.
-use Rattle.model.proofs.Prelude.{◌+◌, ◌≡◌, ◌∙◌, sym, length, length-set, sets, arith, rules}
+use Rattle.model.proofs.Prelude.{◌+◌, ◌≡◌, length, sets}
 use Rattle.model.specs.Base.{little_endian}
-use Rattle.record_bytes.proofs.ByteLaws.{put_step, put-none}
 use Rattle.record_bytes.proofs.inner.put.Given as goal
 
 abbrev pub invariant-loop-left : goal.invariant-loop-left

@@ -1,7 +1,5 @@
 -- `record_bytes::inner::same` meets its contract: what is left decides.
-use Rattle.model.proofs.Prelude.{◌+◌, ◌≡◌, ◌∙◌, sym, drop, take, arith, rules}
-use Rattle.model.specs.Base.{little_endian}
-use Rattle.model.specs.Report.{same_bytes}
+use Rattle.model.proofs.Prelude.{◌∙◌, sym, arith}
 use Rattle.record_bytes.proofs.ByteLaws.{same-yes, same-no, same_none}
 use Rattle.record_bytes.proofs.inner.same.Goals as goal
 

@@ -1,8 +1,7 @@
 -- `record_bytes::inner::same` meets its contract: what is left decides.
-use Rattle.model.proofs.Prelude.{◌+◌, ◌≡◌, ◌∙◌, sym, drop, take, arith, rules}
+use Rattle.model.proofs.Prelude.{◌+◌, ◌≡◌, drop, take}
 use Rattle.model.specs.Base.{little_endian}
 use Rattle.model.specs.Report.{same_bytes}
-use Rattle.record_bytes.proofs.ByteLaws.{same-yes, same-no, same_none}
 use Rattle.record_bytes.proofs.inner.same.Given as goal
 
 abbrev pub invariant-loop-left : goal.invariant-loop-left

@@ -1,6 +1,5 @@
 -- `record_test::inner::check_record` meets its contract: each return is one case of the place Test.
-use Rattle.model.proofs.Prelude.{arith, rules}
-use Rattle.record_test.proofs.RecordCases.{record-cases, test-passed}
+use Rattle.record_test.proofs.RecordCases.{record-cases}
 use Rattle.record_test.proofs.inner.check_record.Goals as goal
 
 pub returns-then-test-bytes : goal.returns-then-test-bytes

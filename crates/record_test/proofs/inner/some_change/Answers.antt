@@ -1,6 +1,6 @@
 -- `record_test::inner::some_change` meets its contract. The loop's invariant: the bytes before k are equal.
-use Rattle.model.proofs.Prelude.{◌≤◌, ◌-◌, arith, rules}
-use Rattle.record_test.proofs.ChangeLaws.{EqualBefore, equal-more, no_change, changed-byte}
+use Rattle.model.proofs.Prelude.{◌-◌, arith, rules}
+use Rattle.record_test.proofs.ChangeLaws.{equal-more, no_change, changed-byte}
 use Rattle.record_test.proofs.inner.some_change.Goals as goal
 
 pub loop-k-init : goal.loop-k-init

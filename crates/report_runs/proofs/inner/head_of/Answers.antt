@@ -1,5 +1,4 @@
 -- `report_runs::inner::head_of` meets its contract: each field is read at its place.
-use Rattle.model.proofs.Prelude.{rules}
 use Rattle.report_runs.proofs.EightByteLaws.{head_read}
 use Rattle.report_runs.proofs.inner.head_of.Goals as goal
 

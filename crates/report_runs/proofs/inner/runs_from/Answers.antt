@@ -1,5 +1,5 @@
 -- `report_runs::inner::runs_from` meets its contract: the part lies within the report.
-use Rattle.model.proofs.Prelude.{ℕ, ◌+◌, ◌-◌, ◌*◌, ◌≡◌, ◌∙◌, ap, drop, take, arith, rules}
+use Rattle.model.proofs.Prelude.{ℕ, ◌+◌, ◌-◌, ◌*◌, ◌≡◌, ◌∙◌, ap, drop, take, arith}
 use Rattle.report_runs.proofs.inner.runs_from.Goals as goal
 
 pub returns : goal.returns

@@ -1,6 +1,6 @@
 -- `run_intersection::inner::common` meets its contract: what is put so far, then what the runs that are left have in common, is what the lists have in common.
-use Rattle.model.proofs.Prelude.{◌+◌, ◌-◌}
-use Rattle.run_intersection.proofs.MeetCases.{Meeting, meet-cases}
+use Rattle.model.proofs.Prelude.{◌-◌}
+use Rattle.run_intersection.proofs.MeetCases.{meet-cases}
 use Rattle.run_intersection.proofs.inner.common.Goals as goal
 
 pub loop-i-init : goal.loop-i-init

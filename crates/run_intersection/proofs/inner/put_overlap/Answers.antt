@@ -1,5 +1,4 @@
 -- `run_intersection::inner::put_overlap` meets its contract: nothing is put where the larger low is over the smaller high, else one run after those that stand there.
-use Rattle.model.proofs.Prelude.{rules}
 use Rattle.run_intersection.proofs.MeetCases.{put-cases}
 use Rattle.run_intersection.proofs.inner.put_overlap.Goals as goal
 

@@ -1,6 +1,6 @@
 -- `run_lists::inner::contains` meets its contract: the number lies in the whole list exactly where it lies in the part lo..hi that is left.
-use Rattle.model.proofs.Prelude.{◌-◌, rules}
-use Rattle.run_lists.proofs.ContainsSteps.{Left, left-all, left-none, left-hit, left_up, left_down}
+use Rattle.model.proofs.Prelude.{◌-◌}
+use Rattle.run_lists.proofs.ContainsSteps.{Left}
 use Rattle.run_lists.proofs.inner.contains.Given as goal
 
 abbrev pub invariant-loop-lo : goal.invariant-loop-lo

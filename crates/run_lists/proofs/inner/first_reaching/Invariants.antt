@@ -1,5 +1,5 @@
 -- `run_lists::inner::first_reaching` meets its contract. The loop's invariant: what is left of the runs from..to begins at `at`.
-use Rattle.model.proofs.Prelude.{◌≤◌, ◌+◌, rules}
+use Rattle.model.proofs.Prelude.{◌≤◌, ◌+◌}
 use Rattle.run_lists.proofs.inner.first_reaching.Given as goal
 
 abbrev pub invariant-loop-left : goal.invariant-loop-left

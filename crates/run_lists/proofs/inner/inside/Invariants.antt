@@ -1,6 +1,6 @@
 -- `run_lists::inner::inside` meets its contract: the runs that the walk has passed lie inside.
-use Rattle.model.proofs.Prelude.{◌-◌, rules}
-use Rattle.run_lists.proofs.InsideSteps.{Walked, walked_none, walked_start, walked_more, walked_end, no_answer}
+use Rattle.model.proofs.Prelude.{◌-◌}
+use Rattle.run_lists.proofs.InsideSteps.{Walked}
 use Rattle.run_lists.proofs.inner.inside.Given as goal
 
 abbrev pub invariant-loop-j : goal.invariant-loop-j

@@ -1,5 +1,5 @@
 -- `run_lists::inner::next_reaching` is safe and ends within its bounds.
-use Rattle.model.proofs.Prelude.{◌≤◌, ◌-◌, rules}
+use Rattle.model.proofs.Prelude.{◌≤◌, ◌-◌}
 use Rattle.run_lists.proofs.inner.next_reaching.Given as goal
 
 abbrev pub invariant-loop-i : goal.invariant-loop-i

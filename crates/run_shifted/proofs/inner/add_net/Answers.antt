@@ -1,5 +1,4 @@
 -- `run_shifted::inner::add_net` meets its contract: as many runs of the net as the place lets through.
-use Rattle.model.proofs.Prelude.{rules}
 use Rattle.run_shifted.proofs.OpenNetLaws.{net-cases}
 use Rattle.run_shifted.proofs.inner.add_net.Goals as goal
 

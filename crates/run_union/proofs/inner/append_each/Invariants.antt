@@ -1,6 +1,6 @@
 -- `run_union::inner::append_each` meets its contract: what is added so far and the runs that are left, shifted, make the total.
-use Rattle.model.proofs.Prelude.{◌-◌, rules}
-use Rattle.run_union.proofs.EachSteps.{Shifting, shifting_start, shifting_room, shifting_run, shifting_full, shifting_more, shifting_end}
+use Rattle.model.proofs.Prelude.{◌-◌}
+use Rattle.run_union.proofs.EachSteps.{Shifting}
 use Rattle.run_union.proofs.inner.append_each.Given as goal
 
 abbrev pub invariant-loop-i : goal.invariant-loop-i

@@ -1,6 +1,6 @@
 -- `run_union::inner::append_rest` meets its contract: runs that begin apart from the list are placed, others added one by one.
 use Rattle.model.proofs.Prelude.{rules}
-use Rattle.run_union.proofs.ShiftedCases.{nothing-more, first_run, placed-room, placed}
+use Rattle.run_union.proofs.ShiftedCases.{nothing-more, first_run, placed}
 use Rattle.run_union.proofs.inner.append_rest.Goals as goal
 
 pub returns-then-to-from : goal.returns-then-to-from

@@ -1,6 +1,6 @@
 -- `run_union::inner::place_shifted` meets its contract: the words are those with the runs placed so far written.
-use Rattle.model.proofs.Prelude.{◌-◌, length-set, arith, rules}
-use Rattle.run_union.proofs.PlacingSteps.{Placing, placing_start, placing_low, placing_high, placing_more, placing_end}
+use Rattle.model.proofs.Prelude.{◌-◌}
+use Rattle.run_union.proofs.PlacingSteps.{Placing}
 use Rattle.run_union.proofs.inner.place_shifted.Given as goal
 
 abbrev pub invariant-loop-i : goal.invariant-loop-i

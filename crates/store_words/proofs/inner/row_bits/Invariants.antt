@@ -1,7 +1,6 @@
 -- `store_words::inner::row_bits` meets its contract: the words are all zero as the bits seen and the words that are left of the row are.
 use Rattle.model.proofs.Prelude.{◌≤◌, ◌+◌, ◌-◌, ◌≡◌, ◌&&◌, eqb}
 use Rattle.store_words.specs.WordAnswers.{zero_words_of, row_words}
-use Rattle.store_words.proofs.ZeroSteps.{row-cases}
 use Rattle.store_words.proofs.inner.row_bits.Given as goal
 
 abbrev pub invariant-loop-i : goal.invariant-loop-i

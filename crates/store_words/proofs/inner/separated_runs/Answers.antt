@@ -1,5 +1,4 @@
 -- `store_words::inner::separated_runs` meets its contract: the test of the rising runs decides, or that of the falling runs does.
-use Rattle.model.proofs.Prelude.{rules}
 use Rattle.store_words.proofs.CheckSteps.{separated_first, separated_both}
 use Rattle.store_words.proofs.inner.separated_runs.Goals as goal
 

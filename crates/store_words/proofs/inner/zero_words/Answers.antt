@@ -1,6 +1,4 @@
 -- `store_words::inner::zero_words` meets its contract: the words are all zero as the bits seen and the words that are left are.
-use Rattle.model.proofs.Prelude.{◌+◌, ◌≡◌, ◌&&◌, eqb}
-use Rattle.store_words.specs.WordAnswers.{zero_words_of}
 use Rattle.store_words.proofs.ZeroSteps.{zero-cases}
 use Rattle.store_words.proofs.inner.zero_words.Goals as goal
 

@@ -1,5 +1,4 @@
 -- `store_words::inner::zeros_after` meets its contract: the test of the rising places decides, or that of the falling places does.
-use Rattle.model.proofs.Prelude.{rules}
 use Rattle.store_words.proofs.CheckSteps.{zeros-first, zeros-both}
 use Rattle.store_words.proofs.inner.zeros_after.Goals as goal
 

@@ -1,7 +1,6 @@
 -- `store_writing::inner::clear_part` meets its contract: what is left to be made zero, from here, gives the whole.
-use Rattle.model.proofs.Prelude.{◌-◌, ◌≡◌, ◌∙◌, sym, length, length-set, rules}
+use Rattle.model.proofs.Prelude.{◌-◌, ◌≡◌, length}
 use Rattle.store_writing.specs.Writing.{zeroed}
-use Rattle.store_writing.proofs.EdgeWriteLaws.{zeroed-next, zeroed-end}
 use Rattle.store_writing.proofs.inner.clear_part.Given as goal
 
 abbrev pub invariant-loop-i : goal.invariant-loop-i

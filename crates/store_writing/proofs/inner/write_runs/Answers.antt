@@ -1,6 +1,5 @@
 -- `store_writing::inner::write_runs` meets its contract: the number of runs at the head, then the edge's places after it.
 use Rattle.model.proofs.Prelude.{◌∙◌, length-set, rules}
-use Rattle.path_faults.specs.Answers.{model_edge}
 use Rattle.store_writing.proofs.EdgeWriteCases.{cut-order, cut-held, few-held, few-after, made_inside, places-long, places-zero, runs-made, write-runs-cases}
 use Rattle.store_writing.proofs.inner.write_runs.Goals as goal
 

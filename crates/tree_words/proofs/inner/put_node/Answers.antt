@@ -1,5 +1,5 @@
 -- `tree_words::inner::put_node` meets its contract: eight words are set one after the other, each inside the words.
-use Rattle.model.proofs.Prelude.{refl, length-set, arith, rules}
+use Rattle.model.proofs.Prelude.{refl, length-set, arith}
 use Rattle.tree_words.specs.Nodes.{put_node_of}
 use Rattle.tree_words.proofs.inner.put_node.Goals as goal
 

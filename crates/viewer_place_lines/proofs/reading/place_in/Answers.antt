@@ -1,6 +1,6 @@
 -- `viewer_place_lines::reading::place_in` meets its contract: the digits so far make the number, and a byte that is none or a number over 16 bits ends it.
-use Rattle.model.proofs.Prelude.{◌-◌, length, rules}
-use Rattle.viewer_place_lines.proofs.PlaceLineLaws.{NumberSoFar, place-cases}
+use Rattle.model.proofs.Prelude.{◌-◌}
+use Rattle.viewer_place_lines.proofs.PlaceLineLaws.{place-cases}
 use Rattle.viewer_place_lines.proofs.reading.place_in.Goals as goal
 
 pub returns-then-line-eq0 : goal.returns-then-line-eq0

@@ -1,6 +1,5 @@
 -- `bench_circuit::inner::ending::outputs_known` meets its contract: the outputs that are left decide.
-use Rattle.model.proofs.Prelude.{◌≤◌, ◌+◌, ◌*◌, ◌≡◌, length, rules}
-use Rattle.bench_circuit.specs.Ending.{pairs_known}
+use Rattle.model.proofs.Prelude.{rules}
 use Rattle.bench_circuit.proofs.EndLaws.{outs-again, outs-stop, outs-end}
 use Rattle.bench_circuit.proofs.inner.ending.outputs_known.Goals as goal
 

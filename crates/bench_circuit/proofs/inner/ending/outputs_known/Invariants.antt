@@ -1,7 +1,6 @@
 -- `bench_circuit::inner::ending::outputs_known` meets its contract: the outputs that are left decide.
-use Rattle.model.proofs.Prelude.{◌≤◌, ◌+◌, ◌*◌, ◌≡◌, length, rules}
+use Rattle.model.proofs.Prelude.{◌≤◌, ◌+◌, ◌*◌, ◌≡◌, length}
 use Rattle.bench_circuit.specs.Ending.{pairs_known}
-use Rattle.bench_circuit.proofs.EndLaws.{outs-again, outs-stop, outs-end}
 use Rattle.bench_circuit.proofs.inner.ending.outputs_known.Given as goal
 
 abbrev pub invariant-loop-left : goal.invariant-loop-left

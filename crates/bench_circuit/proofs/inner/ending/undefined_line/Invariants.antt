@@ -1,7 +1,6 @@
 -- `bench_circuit::inner::ending::undefined_line` meets its contract: the lines that are left give the first line.
-use Rattle.model.proofs.Prelude.{◌≤◌, ◌-◌, length, rules, not-true, not-false}
-use Rattle.bench_circuit.proofs.EndLaws.{UndefinedLeft, undefined_start, undefined_none, undefined_found, undefined_again}
-use Rattle.bench_lines.proofs.TextLineLaws.{line_low, line-stop-in, line-less, line-counted}
+use Rattle.model.proofs.Prelude.{◌≤◌, ◌-◌, length}
+use Rattle.bench_circuit.proofs.EndLaws.{UndefinedLeft}
 use Rattle.bench_circuit.proofs.inner.ending.undefined_line.Given as goal
 
 abbrev pub invariant-loop-at : goal.invariant-loop-at

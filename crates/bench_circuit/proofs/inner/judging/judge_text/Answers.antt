@@ -1,6 +1,6 @@
 -- `bench_circuit::inner::judging::judge_text` meets its contract: the lines that are left, from the circuit so far, give the whole; so does the number of the first bad one.
-use Rattle.model.proofs.Prelude.{◌≤◌, ◌-◌, length, rules}
-use Rattle.bench_circuit.proofs.TextCases.{JudgedSoFar, text-start, text-room, text-end, text-refused, text-again}
+use Rattle.model.proofs.Prelude.{◌-◌, rules}
+use Rattle.bench_circuit.proofs.TextCases.{text-start, text-room, text-end, text-refused, text-again}
 use Rattle.bench_lines.proofs.TextLineLaws.{line_low, line-stop-in, line-less, line-counted}
 use Rattle.bench_circuit.proofs.inner.judging.judge_text.Goals as goal
 

@@ -1,7 +1,6 @@
 -- `bench_circuit::inner::judging::judge_text` meets its contract: the lines that are left, from the circuit so far, give the whole; so does the number of the first bad one.
-use Rattle.model.proofs.Prelude.{◌≤◌, ◌-◌, length, rules}
-use Rattle.bench_circuit.proofs.TextCases.{JudgedSoFar, text-start, text-room, text-end, text-refused, text-again}
-use Rattle.bench_lines.proofs.TextLineLaws.{line_low, line-stop-in, line-less, line-counted}
+use Rattle.model.proofs.Prelude.{◌≤◌, ◌-◌, length}
+use Rattle.bench_circuit.proofs.TextCases.{JudgedSoFar}
 use Rattle.bench_circuit.proofs.inner.judging.judge_text.Given as goal
 
 abbrev pub invariant-loop-at : goal.invariant-loop-at

@@ -1,6 +1,6 @@
 -- `bench_lines::inner::lines::line_end` meets its contract: the bytes passed belong to the line.
-use Rattle.model.proofs.Prelude.{◌-◌, length, rules}
-use Rattle.bench_lines.proofs.TextLineLaws.{LineSoFar, line-start, line-more, line-ends, line-last}
+use Rattle.model.proofs.Prelude.{◌-◌, rules}
+use Rattle.bench_lines.proofs.TextLineLaws.{line-start, line-more, line-ends, line-last}
 use Rattle.bench_lines.proofs.inner.lines.line_end.Goals as goal
 
 pub loop-i-init : goal.loop-i-init

@@ -1,6 +1,5 @@
 -- `bench_lines::inner::statements::close_io` meets its contract: by the sign after the name.
 use Rattle.model.proofs.Prelude.{rules, not-true, not-false}
-use Rattle.bench_lines.proofs.StatementLaws.{sign-in}
 use Rattle.bench_lines.proofs.StateCases.{io_cut, io_names_lem, io_bad, io_goes-on, io_input, io_output, io_neither}
 use Rattle.bench_lines.proofs.inner.statements.close_io.Goals as goal
 

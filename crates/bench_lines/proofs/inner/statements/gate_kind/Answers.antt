@@ -1,6 +1,5 @@
 -- `bench_lines::inner::statements::gate_kind` meets its contract: by the sign after the kind.
 use Rattle.model.proofs.Prelude.{rules}
-use Rattle.bench_lines.proofs.StatementLaws.{sign-in}
 use Rattle.bench_lines.proofs.StateCases.{gate-cut, gate-names, gate-bad, gate-no-kind, gate-pins}
 use Rattle.bench_lines.proofs.inner.statements.gate_kind.Goals as goal
 

@@ -1,6 +1,6 @@
 -- `bench_lines::inner::statements::pin_sign` meets its contract: by the sign after the name.
 use Rattle.model.proofs.Prelude.{rules, not-true, not-false}
-use Rattle.bench_lines.proofs.StatementLaws.{pin-cut, pin-names, pin-comma, pin-bad, pin-goes-on, pin-last, sign-in}
+use Rattle.bench_lines.proofs.StatementLaws.{pin-cut, pin-names, pin-comma, pin-bad, pin-goes-on, pin-last}
 use Rattle.bench_lines.proofs.inner.statements.pin_sign.Goals as goal
 
 pub returns-then-byte-eq44 : goal.returns-then-byte-eq44

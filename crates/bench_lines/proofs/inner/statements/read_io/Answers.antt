@@ -1,6 +1,5 @@
 -- `bench_lines::inner::statements::read_io` meets its contract: by its first token.
 use Rattle.model.proofs.Prelude.{rules}
-use Rattle.bench_lines.proofs.StatementLaws.{name_in}
 use Rattle.bench_lines.proofs.StateCases.{io_end, io_sign, io_named}
 use Rattle.bench_lines.proofs.inner.statements.read_io.Goals as goal
 

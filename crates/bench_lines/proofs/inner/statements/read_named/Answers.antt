@@ -1,6 +1,5 @@
 -- `bench_lines::inner::statements::read_named` meets its contract: by the sign after the name.
 use Rattle.model.proofs.Prelude.{rules}
-use Rattle.bench_lines.proofs.StatementLaws.{sign-in}
 use Rattle.bench_lines.proofs.StateCases.{named-cut, named-names, named-io, named-gate, named_other}
 use Rattle.bench_lines.proofs.inner.statements.read_named.Goals as goal
 

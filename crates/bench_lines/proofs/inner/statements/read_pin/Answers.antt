@@ -1,6 +1,6 @@
 -- `bench_lines::inner::statements::read_pin` meets its contract: by its first token.
 use Rattle.model.proofs.Prelude.{rules}
-use Rattle.bench_lines.proofs.StatementLaws.{no-pin-end, no-pin-sign, pin-named, name_in}
+use Rattle.bench_lines.proofs.StatementLaws.{no-pin-end, no-pin-sign, pin-named}
 use Rattle.bench_lines.proofs.inner.statements.read_pin.Goals as goal
 
 pub returns-in-End : goal.returns-in-End

@@ -1,6 +1,6 @@
 -- `bench_lines::inner::statements::read_pins` meets its contract: the pins so far, with those that are left, are the whole.
-use Rattle.model.proofs.Prelude.{◌-◌, length, rules}
-use Rattle.bench_lines.proofs.StatementLaws.{PinsSoFar, pins-start, pins-inside, pins-stop, pins-again, pins-end, pins-count, pins-less}
+use Rattle.model.proofs.Prelude.{◌-◌, rules}
+use Rattle.bench_lines.proofs.StatementLaws.{pins-start, pins-stop, pins-again, pins-end, pins-count, pins-less}
 use Rattle.bench_lines.proofs.inner.statements.read_pins.Goals as goal
 
 pub loop-more-init : goal.loop-more-init

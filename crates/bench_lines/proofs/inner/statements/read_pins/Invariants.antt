@@ -1,6 +1,6 @@
 -- `bench_lines::inner::statements::read_pins` meets its contract: the pins so far, with those that are left, are the whole.
-use Rattle.model.proofs.Prelude.{◌-◌, length, rules}
-use Rattle.bench_lines.proofs.StatementLaws.{PinsSoFar, pins-start, pins-inside, pins-stop, pins-again, pins-end, pins-count, pins-less}
+use Rattle.model.proofs.Prelude.{◌-◌, length}
+use Rattle.bench_lines.proofs.StatementLaws.{PinsSoFar}
 use Rattle.bench_lines.proofs.inner.statements.read_pins.Given as goal
 
 abbrev pub invariant-loop-more : goal.invariant-loop-more

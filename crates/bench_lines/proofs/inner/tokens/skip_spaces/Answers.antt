@@ -1,6 +1,6 @@
 -- `bench_lines::inner::tokens::skip_spaces` meets its contract: the bytes passed are spaces.
-use Rattle.model.proofs.Prelude.{◌-◌, length, rules}
-use Rattle.bench_lines.proofs.TokenLaws.{SpacesSoFar, spaces_start, spaces_more, spaces_stop, spaces_last}
+use Rattle.model.proofs.Prelude.{◌-◌, rules}
+use Rattle.bench_lines.proofs.TokenLaws.{spaces_start, spaces_more, spaces_stop, spaces_last}
 use Rattle.bench_lines.proofs.inner.tokens.skip_spaces.Goals as goal
 
 pub loop-i-init : goal.loop-i-init

@@ -1,6 +1,6 @@
 -- `bench_lines::inner::tokens::skip_spaces` meets its contract: the bytes passed are spaces.
-use Rattle.model.proofs.Prelude.{◌-◌, length, rules}
-use Rattle.bench_lines.proofs.TokenLaws.{SpacesSoFar, spaces_start, spaces_more, spaces_stop, spaces_last}
+use Rattle.model.proofs.Prelude.{◌-◌, length}
+use Rattle.bench_lines.proofs.TokenLaws.{SpacesSoFar}
 use Rattle.bench_lines.proofs.inner.tokens.skip_spaces.Given as goal
 
 abbrev pub invariant-loop-i : goal.invariant-loop-i

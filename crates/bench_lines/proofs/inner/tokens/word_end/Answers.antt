@@ -1,6 +1,6 @@
 -- `bench_lines::inner::tokens::word_end` meets its contract: the bytes passed belong to the word.
-use Rattle.model.proofs.Prelude.{◌-◌, length, rules, not-true, not-false}
-use Rattle.bench_lines.proofs.TokenLaws.{WordSoFar, word-start, word_more, word-stop, word-last}
+use Rattle.model.proofs.Prelude.{◌-◌, rules, not-true, not-false}
+use Rattle.bench_lines.proofs.TokenLaws.{word-start, word_more, word-stop, word-last}
 use Rattle.bench_lines.proofs.inner.tokens.word_end.Goals as goal
 
 pub loop-i-init : goal.loop-i-init

@@ -1,7 +1,5 @@
 -- `path_step::inner::outputs::outputs_before` meets its contract: the sum so far is that of the counts of the outputs before the one at hand.
-use Rattle.model.proofs.Prelude.{◌≤◌, ◌-◌, ◌≡◌}
-use Rattle.model.specs.Path.{counts_before}
-use Rattle.path_step.specs.Picks.{output_counts_in}
+use Rattle.model.proofs.Prelude.{◌-◌}
 use Rattle.path_step.proofs.OutputPicks.{outputs-before-cases}
 use Rattle.path_step.proofs.inner.outputs.outputs_before.Goals as goal
 

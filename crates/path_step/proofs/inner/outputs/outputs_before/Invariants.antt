@@ -2,7 +2,6 @@
 use Rattle.model.proofs.Prelude.{◌≤◌, ◌-◌, ◌≡◌}
 use Rattle.model.specs.Path.{counts_before}
 use Rattle.path_step.specs.Picks.{output_counts_in}
-use Rattle.path_step.proofs.OutputPicks.{outputs-before-cases}
 use Rattle.path_step.proofs.inner.outputs.outputs_before.Given as goal
 
 abbrev pub invariant-loop-before : goal.invariant-loop-before

@@ -2,7 +2,6 @@
 use Rattle.model.proofs.Prelude.{◌<◌, ◌-◌}
 use Rattle.path_step.specs.Picks.{output_counts_in}
 use Rattle.path_step.proofs.SplitLaws.{Passed}
-use Rattle.path_step.proofs.OutputPicks.{output-cases}
 use Rattle.path_step.proofs.inner.outputs.pick_output.Given as goal
 
 abbrev pub invariant-loop-place : goal.invariant-loop-place

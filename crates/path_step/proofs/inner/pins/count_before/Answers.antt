@@ -1,7 +1,5 @@
 -- `path_step::inner::pins::count_before` meets its contract: the sum so far is that of the counts before the pin at hand.
-use Rattle.model.proofs.Prelude.{◌≤◌, ◌-◌, ◌≡◌}
-use Rattle.model.specs.Path.{counts_before}
-use Rattle.path_step.specs.Picks.{pin_counts_in}
+use Rattle.model.proofs.Prelude.{◌-◌}
 use Rattle.path_step.proofs.PinCases.{pins-before-cases}
 use Rattle.path_step.proofs.inner.pins.count_before.Goals as goal
 

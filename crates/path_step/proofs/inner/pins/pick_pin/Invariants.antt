@@ -3,7 +3,6 @@ use Rattle.model.proofs.Prelude.{◌≤◌, ◌<◌, ◌-◌}
 use Rattle.netlist.specs.Tables.{pin_count_in}
 use Rattle.path_step.specs.Picks.{pin_counts_in}
 use Rattle.path_step.proofs.SplitLaws.{Passed}
-use Rattle.path_step.proofs.PinCases.{pick-cases}
 use Rattle.path_step.proofs.inner.pins.pick_pin.Given as goal
 
 abbrev pub invariant-loop-pin : goal.invariant-loop-pin

@@ -1,5 +1,4 @@
 -- `report_bytes::inner::comparing::same_head` meets its contract: the first field that differs decides.
-use Rattle.model.proofs.Prelude.{rules}
 use Rattle.report_bytes.proofs.HeadLaws.{head-cases}
 use Rattle.report_bytes.proofs.inner.comparing.same_head.Goals as goal
 

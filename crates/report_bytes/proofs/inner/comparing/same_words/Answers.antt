@@ -1,8 +1,6 @@
 -- `report_bytes::inner::comparing::same_words` meets its contract. The invariant: the words that are left, compared from here on, decide the whole.
-use Rattle.model.proofs.Prelude.{◌≤◌, ◌-◌, ◌*◌, ◌≡◌, length, drop, take, rules}
-use Rattle.model.specs.Report.{same_bytes}
-use Rattle.report_bytes.specs.Layout.{word_bytes}
-use Rattle.report_bytes.proofs.WordSteps.{rest_same, same_cases}
+use Rattle.model.proofs.Prelude.{◌-◌, rules}
+use Rattle.report_bytes.proofs.WordSteps.{same_cases}
 use Rattle.report_bytes.proofs.inner.comparing.same_words.Goals as goal
 
 pub loop-i-init : goal.loop-i-init

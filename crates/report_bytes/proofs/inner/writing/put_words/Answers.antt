@@ -1,7 +1,6 @@
 -- `report_bytes::inner::writing::put_words` meets its contract. The invariant: the words that are left, written from here on, give the whole.
-use Rattle.model.proofs.Prelude.{◌≤◌, ◌+◌, ◌-◌, ◌*◌, ◌≡◌, length, drop, sets, rules}
-use Rattle.report_bytes.specs.Layout.{word_bytes}
-use Rattle.report_bytes.proofs.WordSteps.{put_next, put-cases}
+use Rattle.model.proofs.Prelude.{◌-◌, rules}
+use Rattle.report_bytes.proofs.WordSteps.{put-cases}
 use Rattle.report_bytes.proofs.inner.writing.put_words.Goals as goal
 
 pub loop-i-init : goal.loop-i-init

@@ -1,7 +1,6 @@
 -- `report_bytes::inner::writing::put_words` meets its contract. The invariant: the words that are left, written from here on, give the whole.
-use Rattle.model.proofs.Prelude.{◌≤◌, ◌+◌, ◌-◌, ◌*◌, ◌≡◌, length, drop, sets, rules}
+use Rattle.model.proofs.Prelude.{◌≤◌, ◌+◌, ◌-◌, ◌*◌, ◌≡◌, length, drop, sets}
 use Rattle.report_bytes.specs.Layout.{word_bytes}
-use Rattle.report_bytes.proofs.WordSteps.{put_next, put-cases}
 use Rattle.report_bytes.proofs.inner.writing.put_words.Given as goal
 
 abbrev pub invariant-loop-i : goal.invariant-loop-i

@@ -1,8 +1,8 @@
 -- `run_shifted::inner::gates::gate_runs` meets its contract: the list holds the runs of the pins so far.
-use Rattle.model.proofs.Prelude.{◌-◌, ◌≡◌, refl, length, arith, rules}
+use Rattle.model.proofs.Prelude.{◌-◌, ◌≡◌, length}
 use Rattle.model.specs.Store.{max_runs}
 use Rattle.run_shifted.specs.RunsOfPlaces.{gate_places}
-use Rattle.run_shifted.proofs.PlaceRunSteps.{PlacesDone, place-cases, places-room, places-small, place-net, place-below, place-more}
+use Rattle.run_shifted.proofs.PlaceRunSteps.{PlacesDone}
 use Rattle.run_shifted.proofs.inner.gates.gate_runs.Given as goal
 
 abbrev pub invariant-loop-pin : goal.invariant-loop-pin

@@ -1,9 +1,8 @@
 -- `run_shifted::inner::outputs::out_runs` meets its contract: the list holds the runs of the outputs so far.
-use Rattle.model.proofs.Prelude.{◌-◌, ◌≡◌, length, arith, rules}
+use Rattle.model.proofs.Prelude.{◌-◌, ◌≡◌, length}
 use Rattle.model.specs.Store.{max_runs}
-use Rattle.netlist.proofs.OutputLaws.{output-here}
 use Rattle.run_shifted.specs.RunsOfPlaces.{output_places}
-use Rattle.run_shifted.proofs.PlaceRunSteps.{PlacesDone, output-cases, places-room, places-small, place-net}
+use Rattle.run_shifted.proofs.PlaceRunSteps.{PlacesDone}
 use Rattle.run_shifted.proofs.inner.outputs.out_runs.Given as goal
 
 abbrev pub invariant-loop-place : goal.invariant-loop-place

@@ -1,6 +1,6 @@
 -- `run_union::inner::merging::union` meets its contract: the runs added so far and those left of both lists, by ascending low, make the runs of the union.
-use Rattle.model.proofs.Prelude.{◌+◌, ◌-◌, arith, rules}
-use Rattle.run_union.proofs.UnionSteps.{Merging, merging_start, merging_room, merging_end, left_below, left-run, left-full, left-more, right-below, right-run, right-full, right-more}
+use Rattle.model.proofs.Prelude.{◌+◌, ◌-◌}
+use Rattle.run_union.proofs.UnionSteps.{Merging}
 use Rattle.run_union.proofs.inner.merging.union.Given as goal
 
 abbrev pub invariant-loop-i : goal.invariant-loop-i

@@ -1,6 +1,6 @@
 -- `run_union::inner::moving::move_up` meets its contract: the words are those with the runs from the last down to this one written.
 use Rattle.model.proofs.Prelude.{length-set, arith, rules}
-use Rattle.run_union.proofs.MoveSteps.{MovedFrom, up_start, up_more, up-end}
+use Rattle.run_union.proofs.MoveSteps.{up_start, up_more, up-end}
 use Rattle.run_union.proofs.inner.moving.move_up.Goals as goal
 
 pub loop-k-init : goal.loop-k-init

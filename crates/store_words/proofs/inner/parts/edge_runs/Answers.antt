@@ -1,5 +1,5 @@
 -- `store_words::inner::parts::edge_runs` meets its contract: the words from where the edge begins, two for each of its runs.
-use Rattle.model.proofs.Prelude.{refl, rules}
+use Rattle.model.proofs.Prelude.{rules}
 use Rattle.store_words.proofs.RunPlaceLaws.{rising-words, falling-words}
 use Rattle.store_words.proofs.inner.parts.edge_runs.Goals as goal
 
