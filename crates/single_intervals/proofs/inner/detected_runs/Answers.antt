@@ -1,5 +1,4 @@
 -- `single_intervals::inner::detected_runs` meets its contract: the runs of the inputs, of the gates' nets, then of the detected numbers, and none without an edge.
-use Rattle.model.proofs.Prelude.{rules}
 use Rattle.model.proofs.Prelude.{refl, arith}
 use Rattle.netlist.proofs.TableLaws.{few-inputs}
 use Rattle.single_intervals.proofs.EdgeLaws.{edge-cases, edge-full}
@@ -24,3 +23,6 @@ out_runs-requires c = search edge-cases
 
 pub returns-in-Count : goal.returns-in-Count
 returns-in-Count c = search edge-cases
+
+pub returns-in-Full : goal.returns-in-Full
+returns-in-Full c = λ K a. edge-full c.input_runs-first.ensures.0 c.input_runs-first.ensures.1 c.net_runs.ensures K a c.in-Full.is

@@ -1,34 +1,29 @@
 -- `tree_check::inner::count_at` meets its contract: the height falls at each call, and the leaves of a node are those of its children.
-use Rattle.model.proofs.Prelude.{ℕ, ◌<◌, rules}
-use borrow.Fn.Kinds.{In}
-use borrow.Fn.PlainCycle.{Measures, is, falls, and}
-use Rattle.tree_check.proofs.CountCases.{count-leaf, count-first, count-second, count-third, count_fits, count-two, count-fits3, count-three}
-use Rattle.tree_words.proofs.ChildLaws.{height_less, node-ends, some-height}
-use Rattle.tree_check.proofs.inner.+count_at.{statement}
-use Rattle.tree_check.proofs.inner.+count_at.Tie.{close}
+-- what the calls of the body are asked and give
+use Rattle.model.proofs.Prelude.{rules}
+use Rattle.tree_check.proofs.CountCases.{count-leaf, count_fits, count-two, count-fits3, count-three}
 use Rattle.tree_check.proofs.inner.count_at.Reads as count-at
 use Rattle.tree_check.proofs.inner.count_at.Kinds as count-at-kinds
 use Rattle.tree_check.proofs.inner.+count_at.Lts-count_at as count-at-lts
 use Rattle.tree_words.proofs.inner.first_child.Reads as first-child-reads
 use Rattle.tree_words.proofs.inner.second_child.Reads as second-child-reads
 use Rattle.tree_words.proofs.inner.third_child.Reads as third-child-reads
--- what the calls of the body are asked and give
 use Rattle.tree_check.proofs.inner.+count_at.Goals as goal
 
 pub overflow_add-result : goal.overflow_add-result
-overflow_add-result t c = search (count-leaf, count-first, count-second, count-third, count_fits, count-two, count-fits3, count-three, height_less, node-ends, some-height, rules)
+overflow_add-result t c = search (count_fits, rules)
 
 pub overflow_add-result-2 : goal.overflow_add-result-2
-overflow_add-result-2 t c = search (count-leaf, count-first, count-second, count-third, count_fits, count-two, count-fits3, count-three, height_less, node-ends, some-height, rules)
+overflow_add-result-2 t c = search (count_fits, rules)
 
 pub overflow_add-result-3 : goal.overflow_add-result-3
-overflow_add-result-3 t c = search (count-leaf, count-first, count-second, count-third, count_fits, count-two, count-fits3, count-three, height_less, node-ends, some-height, rules)
+overflow_add-result-3 t c = search (count-fits3, rules)
 
 pub returns : goal.returns
-returns t c = search (count-leaf, count-first, count-second, count-third, count_fits, count-two, count-fits3, count-three, height_less, node-ends, some-height, rules)
+returns t c = search (count-three, rules)
 
 pub returns-then-height-eq0 : goal.returns-then-height-eq0
-returns-then-height-eq0 t c = search (count-leaf, count-first, count-second, count-third, count_fits, count-two, count-fits3, count-three, height_less, node-ends, some-height, rules)
+returns-then-height-eq0 t c = search (count-leaf, rules)
 
 pub returns-then-third-eq0 : goal.returns-then-third-eq0
-returns-then-third-eq0 t c = search (count-leaf, count-first, count-second, count-third, count_fits, count-two, count-fits3, count-three, height_less, node-ends, some-height, rules)
+returns-then-third-eq0 t c = search (count-two, rules)

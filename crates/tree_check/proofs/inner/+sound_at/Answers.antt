@@ -1,12 +1,8 @@
 -- `tree_check::inner::sound_at` meets its contract: the height falls at each call, and each test is one of the definition, in its order.
-use Rattle.model.proofs.Prelude.{ℕ, ◌<◌, rules}
-use borrow.Fn.Kinds.{In}
-use borrow.Fn.PlainCycle.{Measures, is, falls, and}
+-- what the calls of the body are asked and give
+use Rattle.model.proofs.Prelude.{rules}
 use Rattle.tree_check.proofs.TreeTestCases.{at_leaf, at-node, at_first, at_second, at-two, at-third}
 use Rattle.tree_check.proofs.NodeTestCases.{node-inside}
-use Rattle.tree_words.proofs.ChildLaws.{height_less, some-height}
-use Rattle.tree_check.proofs.inner.+sound_at.{statement}
-use Rattle.tree_check.proofs.inner.+sound_at.Tie.{close}
 use Rattle.tree_check.proofs.inner.sound_at.Reads as sound-at
 use Rattle.tree_check.proofs.inner.sound_at.Kinds as sound-at-kinds
 use Rattle.tree_check.proofs.inner.+sound_at.Lts-sound_at as sound-at-lts
@@ -15,32 +11,31 @@ use Rattle.tree_words.proofs.inner.second_child.Reads as second-child-reads
 use Rattle.tree_words.proofs.inner.third_child.Reads as third-child-reads
 use Rattle.tree_check.proofs.inner.leaf_sound.Reads as leaf-sound-reads
 use Rattle.tree_check.proofs.inner.node_sound.Reads as node-sound-reads
--- what the calls of the body are asked and give
 use Rattle.tree_check.proofs.inner.+sound_at.Goals as goal
 
 pub first_child-b-requires : goal.first_child-b-requires
-first_child-b-requires t c = search (at_leaf, at-node, at_first, at_second, at-two, at-third, node-inside, height_less, some-height, rules)
+first_child-b-requires t c = search (node-inside, rules)
 
 pub returns : goal.returns
-returns t c = search (at_leaf, at-node, at_first, at_second, at-two, at-third, node-inside, height_less, some-height, rules)
+returns t c = search (at-third, rules)
 
 pub returns-then-d-eq0 : goal.returns-then-d-eq0
-returns-then-d-eq0 t c = search (at_leaf, at-node, at_first, at_second, at-two, at-third, node-inside, height_less, some-height, rules)
+returns-then-d-eq0 t c = search (at-two, rules)
 
 pub returns-then-height-eq0 : goal.returns-then-height-eq0
-returns-then-height-eq0 t c = search (at_leaf, at-node, at_first, at_second, at-two, at-third, node-inside, height_less, some-height, rules)
+returns-then-height-eq0 t c = search (at_leaf, rules)
 
 pub returns-then-not-node_sound : goal.returns-then-not-node_sound
-returns-then-not-node_sound t c = search (at_leaf, at-node, at_first, at_second, at-two, at-third, node-inside, height_less, some-height, rules)
+returns-then-not-node_sound t c = search (at-node, rules)
 
 pub returns-then-not-sound_at : goal.returns-then-not-sound_at
-returns-then-not-sound_at t c = search (at_leaf, at-node, at_first, at_second, at-two, at-third, node-inside, height_less, some-height, rules)
+returns-then-not-sound_at t c = search (at_first, rules)
 
 pub returns-then-not-sound_at-2 : goal.returns-then-not-sound_at-2
-returns-then-not-sound_at-2 t c = search (at_leaf, at-node, at_first, at_second, at-two, at-third, node-inside, height_less, some-height, rules)
+returns-then-not-sound_at-2 t c = search (at_second, rules)
 
 pub second_child-c-requires : goal.second_child-c-requires
-second_child-c-requires t c = search (at_leaf, at-node, at_first, at_second, at-two, at-third, node-inside, height_less, some-height, rules)
+second_child-c-requires t c = search (node-inside, rules)
 
 pub third_child-d-requires : goal.third_child-d-requires
-third_child-d-requires t c = search (at_leaf, at-node, at_first, at_second, at-two, at-third, node-inside, height_less, some-height, rules)
+third_child-d-requires t c = search (node-inside, rules)

@@ -34,4 +34,4 @@ pub returns : goal.returns
 returns c = search (node-three, rules)
 
 pub three_sound-requires : goal.three_sound-requires
-three_sound-requires c = search (node-no0, node-no1, node-no2, node-room, in_length, node-two, node-third, node-three, rules)
+three_sound-requires c = search (in_length, rules)

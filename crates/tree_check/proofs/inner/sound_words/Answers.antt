@@ -25,4 +25,4 @@ pub returns : goal.returns
 returns c = search (all-counted, rules)
 
 pub count_at-requires-clause-good : goal.count_at-requires-clause-good
-count_at-requires-clause-good c = search (empty-both, empty-first, many-levels, past_end, free-inside, not_sound, root_good, all-counted, rules)
+count_at-requires-clause-good c = search (root_good, rules)

@@ -1,5 +1,4 @@
 -- `tree_split::inner::in_second` meets its contract: without a third child the second is the last.
-use Rattle.model.proofs.Prelude.{rules}
 use Rattle.tree_split.proofs.SecondCases.{second-yes, second-ask}
 use Rattle.tree_split.proofs.inner.in_second.Goals as goal
 

@@ -1,0 +1,46 @@
+-- `block_intervals::nets::net_spans` meets its contract: the live nets before the next one listed have their spans.
+use Rattle.model.proofs.Prelude.{◌-◌}
+use Rattle.block_intervals.proofs.NetSpanSteps.{spans-cases}
+use Rattle.block_intervals.proofs.nets.net_spans.Goals as goal
+
+pub loop-i-init : goal.loop-i-init
+loop-i-init c = search spans-cases
+
+pub offset_bounds-entries-i : goal.offset_bounds-entries-i
+offset_bounds-entries-i c = search spans-cases
+
+pub bounds-entries-i : goal.bounds-entries-i
+bounds-entries-i c = search spans-cases
+
+pub net_span-requires : goal.net_span-requires
+net_span-requires c = search spans-cases
+
+pub enum_known-count : goal.enum_known-count
+enum_known-count c = search spans-cases
+
+pub overflow_add-total : goal.overflow_add-total
+overflow_add-total c = search spans-cases
+
+pub enum_told-1 : goal.enum_told-1
+enum_told-1 c = search spans-cases
+
+pub shape_of-words-in-Over : goal.shape_of-words-in-Over
+shape_of-words-in-Over c = search spans-cases
+
+pub returns-in-Over : goal.returns-in-Over
+returns-in-Over c = search spans-cases
+
+pub overflow_add-i : goal.overflow_add-i
+overflow_add-i c = search spans-cases
+
+pub loop-i-smaller : goal.loop-i-smaller
+loop-i-smaller c = search spans-cases
+
+pub loop-i-preserved : goal.loop-i-preserved
+loop-i-preserved c = search spans-cases
+
+pub shape_of-words : goal.shape_of-words
+shape_of-words c = search spans-cases
+
+pub returns : goal.returns
+returns c = search spans-cases
