@@ -1,6 +1,6 @@
 -- `tree::tree_delete` meets its contract: the checks come first, in their order, and write nothing.
 use Rattle.model.proofs.Prelude.{ap, not, rules}
-use Rattle.tree.proofs.ChangeCallCases.{delete_absent, delete_bad, delete_deletes, delete_range, delete_short, delete_taken}
+use Rattle.tree.proofs.ChangeCallCases.{delete_absent, delete_bad, delete_range, delete_short, delete_taken}
 use Rattle.tree.proofs.TreeCallCases.{sound-tree}
 use Rattle.tree.proofs.tree_delete.Goals as goal
 

@@ -1,6 +1,6 @@
 -- `tree::tree_holds` meets its contract: the checks come first, in their order.
 use Rattle.model.proofs.Prelude.{rules}
-use Rattle.tree.proofs.TreeCallCases.{holds-short, holds-bad, sound-tree, holds-zero, holds-high, holds-yes, holds-no}
+use Rattle.tree.proofs.TreeCallCases.{holds-short, holds-bad, holds-zero, holds-high, holds-yes, holds-no}
 use Rattle.tree.proofs.tree_holds.Goals as goal
 
 pub returns-then-words-lt-TREE_WORDS : goal.returns-then-words-lt-TREE_WORDS

@@ -11,7 +11,7 @@ pub answer_each-requires : goal.answer_each-requires
 answer_each-requires c = search (sound-tree, rules)
 
 pub returns : goal.returns
-returns c = search (each-short, each-short-same, each-bad, each-bad-same, each-taken, each-words, sound-tree, rules)
+returns c = search (each-taken, each-words, rules)
 
 pub returns-then-not-sound_words : goal.returns-then-not-sound_words
-returns-then-not-sound_words c = search (each-short, each-short-same, each-bad, each-bad-same, each-taken, each-words, sound-tree, rules)
+returns-then-not-sound_words c = search (each-bad, each-bad-same, rules)

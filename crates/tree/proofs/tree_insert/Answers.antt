@@ -18,10 +18,10 @@ pub returns-then-is_full : goal.returns-then-is_full
 returns-then-is_full c = search (insert_full, rules)
 
 pub insert_run-requires : goal.insert_run-requires
-insert_run-requires c = search (insert_bad, insert_full, insert_inserts, insert_range, insert_short, insert_taken, sound-tree, legal-low, legal-both, legal-high, rules)
+insert_run-requires c = search (insert_inserts, rules)
 
 pub is_full-requires : goal.is_full-requires
-is_full-requires c = search (insert_bad, insert_full, insert_inserts, insert_range, insert_short, insert_taken, sound-tree, legal-low, legal-both, legal-high, rules)
+is_full-requires c = search (sound-tree, legal-low, legal-both, legal-high, rules)
 
 pub returns : goal.returns
 returns c =

@@ -17,4 +17,4 @@ pub returns : goal.returns
 returns c = search (search_taken, rules)
 
 pub search_runs-requires : goal.search_runs-requires
-search_runs-requires c = search (search_short, search_bad, search_range, search_taken, legal-low, legal-both, legal-high, sound-tree, rules)
+search_runs-requires c = search (legal-low, legal-both, legal-high, sound-tree, rules)

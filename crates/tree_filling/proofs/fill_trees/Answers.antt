@@ -1,5 +1,4 @@
 -- `tree_filling::fill_trees` meets its contract: lent memory, the netlist, then what stands on its number of paths.
-use Rattle.model.proofs.Prelude.{rules}
 use Rattle.tree_filling.proofs.TreeFillCases.{trees-cases}
 use Rattle.tree_filling.proofs.fill_trees.Goals as goal
 

@@ -1,6 +1,6 @@
 -- `ask_text::inner::put_answers` meets its contract. The invariant, `AnsweringPiece`: what is put, with the answers to what is left, is the whole.
-use Rattle.model.proofs.Prelude.{◌-◌, length, rules}
-use Rattle.ask_text.proofs.AnswerSteps.{AnsweringPiece, piece-start, piece-ready, piece-next, piece-done}
+use Rattle.model.proofs.Prelude.{◌-◌, rules}
+use Rattle.ask_text.proofs.AnswerSteps.{piece-start, piece-next, piece-done}
 use Rattle.ask_text.proofs.inner.put_answers.Goals as goal
 
 pub loop-i-init : goal.loop-i-init
@@ -10,4 +10,4 @@ pub returns : goal.returns
 returns c = piece-done _ _ _ _ _ _ c.loop-i.invariant c.loop-i-test.false
 
 pub loop-i-preserved : goal.loop-i-preserved
-loop-i-preserved c = search (piece-start, piece-ready, piece-next, piece-done, rules)
+loop-i-preserved c = search (piece-next, rules)

@@ -1,5 +1,4 @@
 -- `ask_text::inner::put_last` meets its contract: no text where the last line has no byte, else its answer.
-use Rattle.model.proofs.Prelude.{rules}
 use Rattle.ask_text.proofs.AnswerSteps.{last-cases}
 use Rattle.ask_text.proofs.inner.put_last.Goals as goal
 

@@ -4,7 +4,7 @@ use Rattle.ask_text.proofs.AnswerSteps.{byte-end, byte-other}
 use Rattle.ask_text.proofs.inner.take_byte.Goals as goal
 
 pub returns-then-byte-eq10 : goal.returns-then-byte-eq10
-returns-then-byte-eq10 c = search (byte-end, byte-other, rules)
+returns-then-byte-eq10 c = search (byte-end, rules)
 
 pub returns : goal.returns
 returns c =

@@ -1,7 +1,7 @@
 -- `tree::asking::search_runs` meets its contract: an overlapping run comes before an adjacent one.
 use Rattle.model.proofs.Prelude.{rules}
 use Rattle.tree_lookup.proofs.LookupCases.{found_inside}
-use Rattle.tree.proofs.SearchCases.{search_over, search_clear, search_near, search_none}
+use Rattle.tree.proofs.SearchCases.{search_over, search_near, search_none}
 use Rattle.tree.proofs.asking.search_runs.Goals as goal
 
 pub run_at-requires : goal.run_at-requires

@@ -1,7 +1,6 @@
 -- `tree::each::answer_each` meets its contract: the answers so far, and those that the numbers left are given, are the answers of all numbers.
-use Rattle.model.proofs.Prelude.{◌≤◌, ◌-◌, rules}
-use Rattle.tree_words.specs.TreeLayout.{tree_runs}
-use Rattle.tree.proofs.EachCases.{Answering, each_step, each-end}
+use Rattle.model.proofs.Prelude.{◌-◌, rules}
+use Rattle.tree.proofs.EachCases.{each_step, each-end}
 use Rattle.tree.proofs.each.answer_each.Goals as goal
 
 pub loop-i-preserved : goal.loop-i-preserved

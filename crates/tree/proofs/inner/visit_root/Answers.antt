@@ -11,7 +11,7 @@ pub returns : goal.returns
 returns c = (search (visit_answer, rules), search (visit_way, rules))
 
 pub descend-requires-clause-free_in_bounds : goal.descend-requires-clause-free_in_bounds
-descend-requires-clause-free_in_bounds c = search (visit_nothing, visit_zero, visit_answer, visit_way, root_good, root_free, root_few, rules)
+descend-requires-clause-free_in_bounds c = search (root_good, root_free, root_few, rules)
 
 pub descend-requires-clause-good : goal.descend-requires-clause-good
-descend-requires-clause-good c = search (visit_nothing, visit_zero, visit_answer, visit_way, root_good, root_free, root_few, rules)
+descend-requires-clause-good c = search (root_good, rules)

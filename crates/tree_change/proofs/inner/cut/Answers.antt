@@ -4,10 +4,10 @@ use Rattle.tree_change.proofs.CutCases.{cut-first, cut-second, cut-done}
 use Rattle.tree_change.proofs.inner.cut.Goals as goal
 
 pub above-over-requires : goal.above-over-requires
-above-over-requires c = search (cut-first, cut-second, cut-done, rules)
+above-over-requires c = search (cut-second, rules)
 
 pub below-under-requires : goal.below-under-requires
-below-under-requires c = search (cut-first, cut-second, cut-done, rules)
+below-under-requires c = search (cut-first, rules)
 
 pub returns : goal.returns
-returns c = search (cut-first, cut-second, cut-done, rules)
+returns c = search (cut-done, rules)

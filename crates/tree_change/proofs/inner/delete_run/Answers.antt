@@ -1,5 +1,4 @@
 -- `tree_change::inner::delete_run` meets its contract: room is made first, which leaves the runs.
-use Rattle.model.proofs.Prelude.{rules}
 use Rattle.tree_change.proofs.ChangeCases.{delete_asks, delete_done}
 use Rattle.tree_change.proofs.inner.delete_run.Goals as goal
 

@@ -8,13 +8,13 @@ pub join-tree-requires-clause-room : goal.join-tree-requires-clause-room
 join-tree-requires-clause-room c = search (between-room, between-order, between-most, between-fits, front-room, front-both, whole_room, whole-both, whole_ready, whole-done, rules)
 
 pub put_leaf-requires : goal.put_leaf-requires
-put_leaf-requires c = search (between-room, between-order, between-most, between-fits, front-room, front-both, whole_room, whole-both, whole_ready, whole-done, rules)
+put_leaf-requires c = search (between-room, between-order, between-most, rules)
 
 pub put_tree-requires : goal.put_tree-requires
-put_tree-requires c = search (between-room, between-order, between-most, between-fits, front-room, front-both, whole_room, whole-both, whole_ready, whole-done, rules)
+put_tree-requires c = search (whole_ready, rules)
 
 pub returns : goal.returns
-returns c = search (between-room, between-order, between-most, between-fits, front-room, front-both, whole_room, whole-both, whole_ready, whole-done, rules)
+returns c = search (whole-done, rules)
 
 pub join-front-requires-clause-room : goal.join-front-requires-clause-room
 join-front-requires-clause-room c =

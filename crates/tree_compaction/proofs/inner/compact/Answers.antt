@@ -19,7 +19,7 @@ pub returns : goal.returns
 returns c = search (room-made, rules)
 
 pub copy_at-copied-requires-clause-copy_ask : goal.copy_at-copied-requires-clause-copy_ask
-copy_at-copied-requires-clause-copy_ask c = search (room-none, room-long, room_fits, room-enough, room-ask, room-ready, room-made, rules)
+copy_at-copied-requires-clause-copy_ask c = search (room-ask, rules)
 
 pub copy_at-copied-requires-clause-end_in_bounds : goal.copy_at-copied-requires-clause-end_in_bounds
-copy_at-copied-requires-clause-end_in_bounds c = search (room-none, room-long, room_fits, room-enough, room-ask, room-ready, room-made, rules)
+copy_at-copied-requires-clause-end_in_bounds c = search (room-long, room-ask, rules)

@@ -1,6 +1,6 @@
 -- `tree_filling::filling::fill` meets its contract. The invariant, `FillingTree`: the leaves are the first i runs.
-use Rattle.model.proofs.Prelude.{◌-◌, refl, rules}
-use Rattle.tree_filling.proofs.FillSteps.{FillingTree, fill_start, fill_inserts, fill_next, fill_done}
+use Rattle.model.proofs.Prelude.{◌-◌, rules}
+use Rattle.tree_filling.proofs.FillSteps.{fill_start, fill_inserts, fill_next, fill_done}
 use Rattle.tree_filling.proofs.filling.fill.Goals as goal
 
 pub loop-i-init : goal.loop-i-init
@@ -10,10 +10,10 @@ loop-i-init c =
     fill_start _ _ _ _ at-start.requires at-empty.tree_empty.ensures.words
 
 pub insert_run-requires : goal.insert_run-requires
-insert_run-requires c = search (fill_start, fill_inserts, fill_next, fill_done, rules)
+insert_run-requires c = search (fill_inserts, rules)
 
 pub loop-i-preserved : goal.loop-i-preserved
-loop-i-preserved c = search (fill_start, fill_inserts, fill_next, fill_done, rules)
+loop-i-preserved c = search (fill_next, rules)
 
 pub returns : goal.returns
-returns c = search (fill_start, fill_inserts, fill_next, fill_done, rules)
+returns c = search (fill_done, rules)

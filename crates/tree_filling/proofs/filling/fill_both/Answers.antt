@@ -1,5 +1,4 @@
 -- `tree_filling::filling::fill_both` meets its contract: the checks of the words, then each edge's runs in a tree.
-use Rattle.model.proofs.Prelude.{rules}
 use Rattle.tree_filling.proofs.TreeFillCases.{both-cases}
 use Rattle.tree_filling.proofs.filling.fill_both.Goals as goal
 

@@ -19,7 +19,7 @@ pub returns : goal.returns
 returns c = search attach-cases
 
 pub group-requires-2-clause-neighbours : goal.group-requires-2-clause-neighbours
-group-requires-2-clause-neighbours c = search (attach-cases, last-two-asks, last-three-asks, rules)
+group-requires-2-clause-neighbours c = search (last-three-asks, rules)
 
 pub group-requires-clause-neighbours : goal.group-requires-clause-neighbours
-group-requires-clause-neighbours c = search (attach-cases, last-two-asks, last-three-asks, rules)
+group-requires-clause-neighbours c = search (last-two-asks, rules)

@@ -16,7 +16,7 @@ pub returns : goal.returns
 returns c = search (root_two, rules)
 
 pub put_two-requires-clause-at_in_bounds : goal.put_two-requires-clause-at_in_bounds
-put_two-requires-clause-at_in_bounds c = search (root_one, root_room, root_a, root_b, root_total, root_two, rules)
+put_two-requires-clause-at_in_bounds c = search (root_room, root_a, root_b, root_total, rules)
 
 pub put_two-requires-clause-second_bound : goal.put_two-requires-clause-second_bound
-put_two-requires-clause-second_bound c = search (root_one, root_room, root_a, root_b, root_total, root_two, rules)
+put_two-requires-clause-second_bound c = search (root_room, root_a, root_b, root_total, rules)

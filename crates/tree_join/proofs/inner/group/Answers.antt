@@ -1,5 +1,4 @@
 -- `tree_join::inner::group` meets its contract: the neighbours are separated, so their totals fit and the new nodes are sound.
-use Rattle.model.proofs.Prelude.{rules}
 use Rattle.tree_join.proofs.GroupCases.{group-cases}
 use Rattle.tree_join.proofs.inner.group.Goals as goal
 

@@ -1,7 +1,6 @@
 -- `tree_join::inner::join` meets its contract: an empty tree leaves the other as it is; else the lower is put into the higher, and what comes out gets a root.
 use Rattle.model.proofs.Prelude.{rules}
-use Rattle.tree_join.proofs.TreeCases.{join_second, join_first, level_a, level_b, join_sep, right-room, right-two, right-root_room, right-pair, right-joins, left-room, left-two}
-use Rattle.tree_join.proofs.TreeCases.{left-root_room, left-pair, left-joins}
+use Rattle.tree_join.proofs.TreeCases.{join_second, join_first, level_a, level_b, right-two, right-joins, left-two, left-joins}
 use Rattle.tree_join.proofs.inner.join.Goals as goal
 
 pub returns-then-levels1-eq0 : goal.returns-then-levels1-eq0
@@ -20,7 +19,7 @@ pub returns : goal.returns
 returns c = search (left-joins, rules)
 
 pub join_left-g-requires-clause-beside : goal.join_left-g-requires-clause-beside
-join_left-g-requires-clause-beside c = search (join_second, join_first, level_a, level_b, join_sep, right-room, right-two, right-root_room, right-pair, right-joins, left-room, left-two, left-root_room, left-pair, left-joins, rules)
+join_left-g-requires-clause-beside c = search (left-two, rules)
 
 pub join_right-g-requires-clause-beside : goal.join_right-g-requires-clause-beside
-join_right-g-requires-clause-beside c = search (join_second, join_first, level_a, level_b, join_sep, right-room, right-two, right-root_room, right-pair, right-joins, left-room, left-two, left-root_room, left-pair, left-joins, rules)
+join_right-g-requires-clause-beside c = search (right-two, rules)

@@ -11,7 +11,7 @@ pub returns : goal.returns
 returns c = search (count-root, rules)
 
 pub count_at-requires-clause-free_in_bounds : goal.count_at-requires-clause-free_in_bounds
-count_at-requires-clause-free_in_bounds c = search (count-empty, count-root, root_good, root_free, root_few, rules)
+count_at-requires-clause-free_in_bounds c = search (root_good, root_free, root_few, rules)
 
 pub count_at-requires-clause-good : goal.count_at-requires-clause-good
-count_at-requires-clause-good c = search (count-empty, count-root, root_good, root_free, root_few, rules)
+count_at-requires-clause-good c = search (root_good, rules)

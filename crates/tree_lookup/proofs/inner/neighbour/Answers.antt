@@ -19,4 +19,4 @@ pub returns-then-high-low_at : goal.returns-then-high-low_at
 returns-then-high-low_at c = search (near-far, rules)
 
 pub returns : goal.returns
-returns c = search (found_inside, near-zero, near-below, near-far, near-above, rules)
+returns c = search (near-above, rules)

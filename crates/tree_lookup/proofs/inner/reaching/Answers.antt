@@ -17,7 +17,7 @@ pub returns : goal.returns
 returns c = search (reach_there, rules)
 
 pub first_reaching-requires-clause-free_in_bounds : goal.first_reaching-requires-clause-free_in_bounds
-first_reaching-requires-clause-free_in_bounds c = search (reach_empty, reach_over, reach_ask, reach_there, root_end, root_good, root_free, rules)
+first_reaching-requires-clause-free_in_bounds c = search (reach_ask, root_good, root_free, rules)
 
 pub first_reaching-requires-clause-good : goal.first_reaching-requires-clause-good
-first_reaching-requires-clause-good c = search (reach_empty, reach_over, reach_ask, reach_there, root_end, root_good, root_free, rules)
+first_reaching-requires-clause-good c = search (root_good, rules)

@@ -17,7 +17,7 @@ pub returns : goal.returns
 returns c = search (start-there, rules)
 
 pub last_starting-requires-clause-free_in_bounds : goal.last_starting-requires-clause-free_in_bounds
-last_starting-requires-clause-free_in_bounds c = search (start-empty, start_under, start-ask, start-there, root_end, root_good, root_free, rules)
+last_starting-requires-clause-free_in_bounds c = search (start-ask, root_good, root_free, rules)
 
 pub last_starting-requires-clause-good : goal.last_starting-requires-clause-good
-last_starting-requires-clause-good c = search (start-empty, start_under, start-ask, start-there, root_end, root_good, root_free, rules)
+last_starting-requires-clause-good c = search (root_good, rules)

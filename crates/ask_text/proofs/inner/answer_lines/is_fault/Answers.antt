@@ -1,5 +1,4 @@
 -- `ask_text::inner::answer_lines::is_fault` meets its contract: 0 is no fault; else the test against 2T decides.
-use Rattle.model.proofs.Prelude.{rules}
 use Rattle.ask_text.proofs.AskedFaultCases.{fault-cases}
 use Rattle.ask_text.proofs.inner.answer_lines.is_fault.Goals as goal
 

@@ -1,5 +1,4 @@
 -- `ask_text::inner::answer_lines::visit_fault` meets its contract: the tree of the edge is asked for the path number.
-use Rattle.model.proofs.Prelude.{rules}
 use Rattle.ask_text.proofs.AskedFaultCases.{fault-cases}
 use Rattle.ask_text.proofs.inner.answer_lines.visit_fault.Goals as goal
 

@@ -1,5 +1,4 @@
 -- `ask_text::inner::numbers::byte_after` meets its contract: a byte that is no digit, and a digit by what the line states so far.
-use Rattle.model.proofs.Prelude.{rules}
 use Rattle.ask_text.proofs.LineNumberCases.{number-cases}
 use Rattle.ask_text.proofs.inner.numbers.byte_after.Goals as goal
 

@@ -1,5 +1,4 @@
 -- `ask_text::inner::numbers::with_digit` meets its contract: ten times the number and the digit, where both steps stay within 64 bits.
-use Rattle.model.proofs.Prelude.{rules}
 use Rattle.ask_text.proofs.LineNumberCases.{number-cases}
 use Rattle.ask_text.proofs.inner.numbers.with_digit.Goals as goal
 

@@ -37,4 +37,4 @@ pub first_joined-from-requires : goal.first_joined-from-requires
 first_joined-from-requires c = search (first-low, final_high, union_found, union_held, join-new-cases, rules)
 
 pub union-requires-clause-sound : goal.union-requires-clause-sound
-union-requires-clause-sound c = search (first-low, final_high, union_found, union_held, join-new-cases, rules)
+union-requires-clause-sound c = search (union_found, union_held, join-new-cases, rules)
