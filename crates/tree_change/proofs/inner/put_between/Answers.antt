@@ -1,11 +1,12 @@
 -- `tree_change::inner::put_between` meets its contract: the parts below, between and above are separated as the merged runs are, so they join to a tree of these runs.
 use Rattle.model.proofs.Prelude.{◌∙◌, ap, rules}
 use Rattle.tree_words.specs.TreeLayout.{space_start_of}
-use Rattle.tree_change.proofs.BetweenCases.{between-room, between-order, between-most, between-fits, front-room, front-both, whole_room, whole-both, whole_ready, whole-done}
+use Rattle.tree_change.proofs.BetweenCases.{between-room, between-order, between-most, front-room, front-both, whole_room, whole-both, whole_ready, whole-done}
 use Rattle.tree_change.proofs.inner.put_between.Goals as goal
 
 pub join-tree-requires-clause-room : goal.join-tree-requires-clause-room
-join-tree-requires-clause-room c = search (between-room, between-order, between-most, between-fits, front-room, front-both, whole_room, whole-both, whole_ready, whole-done, rules)
+join-tree-requires-clause-room c =
+    whole_room c.requires (c.space_start-start.ensures ∙ ap space_start_of c.word-root.ensures) c.cut-parts.ensures c.put_leaf.ensures c.join-front.ensures
 
 pub put_leaf-requires : goal.put_leaf-requires
 put_leaf-requires c = search (between-room, between-order, between-most, rules)
