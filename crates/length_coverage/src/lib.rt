@@ -27,7 +27,7 @@ pub struct LengthRows {
     pub falling: [[u64; 64]; 2],
 }
 
-// The rows of an edge. These two functions are proved by hand: a caller of them is not.
+// The rows of an edge.
 pub fn rising_rows(rows: LengthRows) -> [[u64; 64]; 2]
     ensures { result ≡ rows.rising }
 {
