@@ -2,7 +2,7 @@
 use Rattle.model.proofs.Prelude.{ℕ, ◌≤◌, ◌<◌, ◌+◌, ◌-◌, ◌*◌, suc, zero, ◌≡◌, ◌∙◌, ap, refl, sym, subst, List, length, get_or, drop, length-drop, arith}
 use Rattle.model.proofs.Prelude.{rules}
 use Rattle.model.specs.Base.{sum_of}
-use Rattle.model.specs.Netlist.{Netlist, nets, counts, pin_net, pin_counts, output_count, output_counts, path_total}
+use Rattle.model.specs.Netlist.{Netlist, counts, pin_net, pin_counts, output_count, output_counts, path_total}
 use Rattle.model.specs.Path.{counts_before}
 use Rattle.model.proofs.ListLaws.{get_d_map-in}
 use Rattle.model.proofs.NetLaws.{count-gate}

@@ -2,7 +2,7 @@
 use Rattle.model.proofs.Prelude.{ℕ, ◌≤◌, ◌<◌, ◌+◌, ◌*◌, ◌≡◌, ◌∙◌, ap, refl, sym, subst, true, Bool, false, ◌&&◌, List, length, get_or, T, arith, rules}
 use lib.Bits.{bit_and}
 use Rattle.model.specs.Base.{bit, sum_of}
-use Rattle.model.specs.Netlist.{Netlist, nets, counts, pins_of, pin_net}
+use Rattle.model.specs.Netlist.{Netlist, counts, pins_of, pin_net}
 use Rattle.model.specs.Path.{Edge, path_at}
 use Rattle.model.specs.Detect.{Test, all_open, open_pin, has_edge, in_net_set}
 use Rattle.model.specs.Read.{class_of}

@@ -1,5 +1,6 @@
 -- What the set bits of a word add: nothing where none is set, else what the lowest adds and then the others; and runs that are apart or shifted.
-use Rattle.model.proofs.Prelude.{ℕ, ◌≤◌, ◌<◌, ◌+◌, ◌-◌, suc, ◌^◌, zero, ◌/◌, ◌%◌, ◌≡◌, ◌∙◌, ap, refl, sym, ⊎_elim, true, false, ◌&&◌, List, [], ◌∷◌}
+use Rattle.model.proofs.Prelude.{ℕ, ◌≤◌, ◌<◌, ◌+◌, ◌-◌, suc, ◌^◌, zero, ◌/◌, ◌%◌, ◌≡◌, ◌∙◌, ap, refl, sym, ⊎_elim, true, false, ◌&&◌}
+use Rattle.model.proofs.Prelude.{List, [], ◌∷◌}
 use Rattle.model.proofs.Prelude.{◌++◌, append_assoc, append-nil, eqb, not-suc-le-zero, le_of_suc-le-suc, div-eq_of_lt, lt_of_lt_of_le, arith}
 use lib.Bits.{bit_and}
 use lib.Count.{count_trailing_zeros, under}
@@ -23,7 +24,8 @@ unfolding count_trailing_zeros
 below-low zero n t h = absurd (not-suc-le-zero h)
 below-low (suc d) n t h = go (n % 2) refl t h (below-low d (n / 2))
   where
-    go : (r : ℕ) → n % 2 ≡ r → (t : ℕ) → t < under r (count_trailing_zeros d (n / 2)) → ((t : ℕ) → t < count_trailing_zeros d (n / 2) → bit (n / 2) t ≡ false) → bit n t ≡ false
+    go : (r : ℕ) → n % 2 ≡ r → (t : ℕ) → t < under r (count_trailing_zeros d (n / 2))
+        → ((t : ℕ) → t < count_trailing_zeros d (n / 2) → bit (n / 2) t ≡ false) → bit n t ≡ false
     go zero e zero h ih = first_bit n ∙ ap (λ x. eqb x 1) e
     go zero e (suc t) h ih = half-bit n t ∙ ih t (le_of_suc-le-suc h)
     go (suc r) e t h ih = absurd (not-suc-le-zero h)

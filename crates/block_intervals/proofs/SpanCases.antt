@@ -1,5 +1,6 @@
 -- The span of one listed net: that of its one active pin's net, shifted, or of the runs that its active pins make at the end of those that stand.
-use Rattle.model.proofs.Prelude.{ℕ, ◌≤◌, ◌<◌, ◌+◌, ◌-◌, ◌*◌, ◌^◌, ◌/◌, ◌%◌, ◌≡◌, ◌∙◌, ap, refl, sym, subst, ap₂, List, [], ◌++◌, append-nil, length}
+use Rattle.model.proofs.Prelude.{ℕ, ◌≤◌, ◌<◌, ◌+◌, ◌-◌, ◌*◌, ◌^◌, ◌/◌, ◌%◌, ◌≡◌, ◌∙◌, ap, refl, sym, subst, ap₂}
+use Rattle.model.proofs.Prelude.{List, [], ◌++◌, append-nil, length}
 use Rattle.model.proofs.Prelude.{get_or, take, set, length-set, get_or-set_same, get_or-set_other, arith, rules}
 use mathlib.Core.Path.{subst₂}
 use lib.Bits.{bit_and}
@@ -154,7 +155,8 @@ module _ {table offsets : List ℕ} {entry : ℕ} {spans ws : List ℕ} {made : 
         → spans' ≡ with_span spans (entry / 256) (first_of spans (source_at table (8 * (entry / 256) + count_trailing_zeros 64 (entry % 256))))
         (end_of spans (source_at table (8 * (entry / 256) + count_trailing_zeros 64 (entry % 256))))
         (shift_at table offsets spans (8 * (entry / 256) + count_trailing_zeros 64 (entry % 256)))
-        → count ≡ end_of spans (source_at table (8 * (entry / 256) + count_trailing_zeros 64 (entry % 256))) - first_of spans (source_at table (8 * (entry / 256) + count_trailing_zeros 64 (entry % 256)))
+        → count ≡ end_of spans (source_at table (8 * (entry / 256) + count_trailing_zeros 64 (entry % 256)))
+        - first_of spans (source_at table (8 * (entry / 256) + count_trailing_zeros 64 (entry % 256)))
         → NetSpanned made (entry / 256) (entry_runs_of table offsets entry spans ws) spans ws spans' ws (Made count made)
     one_span {spans'} {count} e n = record {
       kept = kept_refl ws;

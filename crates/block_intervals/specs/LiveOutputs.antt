@@ -34,7 +34,8 @@ pub record OutputReady (offsets spans ws : List ℕ) (o : ℕ) : Type 0 where
 
 -- the runs of an output, shifted, end no later than the paths before output p do
 pub record EndsBefore (offsets spans ws : List ℕ) (o p : ℕ) : Type 0 where
-  pub each : (i : ℕ) → first_of spans (out_at offsets o) ≤ i → i < end_of spans (out_at offsets o) → get_or ws (2 * i + 1) 0 + out_shift offsets spans o ≤ get_or offsets (output_offsets_at + p) 0
+  pub each : (i : ℕ) → first_of spans (out_at offsets o) ≤ i → i < end_of spans (out_at offsets o)
+      → get_or ws (2 * i + 1) 0 + out_shift offsets spans o ≤ get_or offsets (output_offsets_at + p) 0
 
 -- those of each output of a word, each before the outputs after it up to another of the word; and there is room in the second quarter
 pub record OutputsReady (offsets : List ℕ) (outs : ℕ) (spans ws : List ℕ) : Type 0 where

@@ -82,7 +82,8 @@ module _ {N : Netlist} {tests : ℕ → Test} {table offsets risingLists falling
           memory = m;
         } in
         subst (λ (e : RecordEdges). ListedBoth N (tests t) table offsets (list_of risingLists marks up_lengths_at t) (list_of fallingLists marks down_lengths_at t) e ws spans work) (sym ee)
-        (subst (λ (n : ℕ). ListedBoth N (tests t) table offsets (list_of risingLists marks up_lengths_at t) (take n (drop (list_size * t) fallingLists)) (edges_at marks t inputs outputs) ws spans work)
+        (subst (λ (n : ℕ). ListedBoth N (tests t) table offsets (list_of risingLists marks up_lengths_at t) (take n (drop (list_size * t) fallingLists))
+        (edges_at marks t inputs outputs) ws spans work)
         (part down)
         (subst (λ (n : ℕ). ListedBoth N (tests t) table offsets (take n (drop (list_size * t) risingLists)) (entries_of fallingLists down t) (edges_at marks t inputs outputs) ws spans work)
         (part up) both))

@@ -116,7 +116,8 @@ module _ {file positions : List ℕ} {shape : Shape} (s : SomeCircuit file posit
           above : (i : ℕ) → kinds_at ≤ i → get_or table' i 0 ≡ get_or (set (set table (kinds_at + net) kind) (pin_counts_at + net) count) i 0
           above i h = f.same i (inr (omega (arith, few, t, x.few_nets)))
 
-          other : (i : ℕ) → (i ≡ pin_counts_at + net → ⊥) → (i ≡ kinds_at + net → ⊥) → get_or (set (set table (kinds_at + net) kind) (pin_counts_at + net) count) i 0 ≡ get_or table i 0
+          other : (i : ℕ) → (i ≡ pin_counts_at + net → ⊥) → (i ≡ kinds_at + net → ⊥)
+              → get_or (set (set table (kinds_at + net) kind) (pin_counts_at + net) count) i 0 ≡ get_or table i 0
           other i a b = get_or-set_other (set table (kinds_at + net) kind) (pin_counts_at + net) i count 0 a ∙ get_or-set_other table (kinds_at + net) i kind 0 b
 
           low : kinds_at + net < length table

@@ -1,5 +1,6 @@
 -- The active pins of a record as a byte, the last pin first.
-use Rattle.model.proofs.Prelude.{ℕ, ◌≤◌, ◌<◌, ◌+◌, ◌-◌, ◌*◌, suc, ◌^◌, zero, ◌/◌, ◌%◌, ◌≡◌, ◌∙◌, ap, refl, sym, ap₂, true, Bool, false, List, [], ◌∷◌}
+use Rattle.model.proofs.Prelude.{ℕ, ◌≤◌, ◌<◌, ◌+◌, ◌-◌, ◌*◌, suc, ◌^◌, zero, ◌/◌, ◌%◌, ◌≡◌, ◌∙◌, ap, refl, sym, ap₂, true, Bool, false}
+use Rattle.model.proofs.Prelude.{List, [], ◌∷◌}
 use Rattle.model.proofs.Prelude.{get_or, eqb, add-zero, mod-lt, pow-suc, lt_of_lt_of_le, arith, rules}
 use lib.Bits.{bit_and, and_mask}
 use lib.Pow.{pow_mono}

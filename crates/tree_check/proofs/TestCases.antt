@@ -85,7 +85,8 @@ module _ (ws : List ℕ) (a : ℕ) where
       let w2 : leb (high_at_of ws a) (2 ^ 62) ≡ false = lt-leb (high_at_of ws a) (2 ^ 62) q in
       rw (w0, w1, w2, leaf_true_of) refl
 
-  pub leaf_last : (p0 : 1 ≤ low_at_of ws a) (p1 : low_at_of ws a ≤ high_at_of ws a) (p2 : high_at_of ws a ≤ 2 ^ 62) (r : Bool) → r ≡ eqb (total_at_of ws a) (suc (high_at_of ws a) - low_at_of ws a) → r ≡
+  pub leaf_last : (p0 : 1 ≤ low_at_of ws a) (p1 : low_at_of ws a ≤ high_at_of ws a) (p2 : high_at_of ws a ≤ 2 ^ 62) (r : Bool) → r
+      ≡ eqb (total_at_of ws a) (suc (high_at_of ws a) - low_at_of ws a) → r ≡
       leaf_true_of ws a
   unfolding leaf_true_of
   leaf_last p0 p1 p2 r e =
@@ -98,7 +99,8 @@ module _ (ws : List ℕ) (a : ℕ) where
       (eqb (total_at_of ws a) (suc (high_at_of ws a) - low_at_of ws a) ≡ true)
   unfolding leaf_true_of
   leaf-true e =
-      let s4 = and_parts ((leb (1) (low_at_of ws a)) && (leb (low_at_of ws a) (high_at_of ws a)) && (leb (high_at_of ws a) (2 ^ 62))) (eqb (total_at_of ws a) (suc (high_at_of ws a) - low_at_of ws a)) e in
+      let s4 = and_parts ((leb (1) (low_at_of ws a)) && (leb (low_at_of ws a) (high_at_of ws a))
+      && (leb (high_at_of ws a) (2 ^ 62))) (eqb (total_at_of ws a) (suc (high_at_of ws a) - low_at_of ws a)) e in
       let s3 = and_parts ((leb (1) (low_at_of ws a)) && (leb (low_at_of ws a) (high_at_of ws a))) (leb (high_at_of ws a) (2 ^ 62)) s4.0 in
       let s2 = and_parts ((leb (1) (low_at_of ws a))) (leb (low_at_of ws a) (high_at_of ws a)) s3.0 in
       (s2.0, s2.1, s3.1, s4.1)
@@ -133,7 +135,8 @@ module _ (ws : List ℕ) (a b c : ℕ) where
       let w2 : eqb (second_at_of ws a) (low_at_of ws c) ≡ false = ne_eqb (second_at_of ws a) (low_at_of ws c) q in
       rw (w0, w1, w2, two_sound_of) refl
 
-  pub two-no3 : (p0 : low_at_of ws a ≡ low_at_of ws b) (p1 : high_at_of ws a ≡ high_at_of ws c) (p2 : second_at_of ws a ≡ low_at_of ws c) (q : third_at ws a ≡ 0 → ⊥) → false ≡ two_sound_of ws a b c
+  pub two-no3 : (p0 : low_at_of ws a ≡ low_at_of ws b) (p1 : high_at_of ws a ≡ high_at_of ws c) (p2 : second_at_of ws a ≡ low_at_of ws c) (q : third_at ws a ≡ 0 → ⊥)
+      → false ≡ two_sound_of ws a b c
   unfolding two_sound_of
   two-no3 p0 p1 p2 q =
       let w0 : eqb (low_at_of ws a) (low_at_of ws b) ≡ true = eq-eqb (low_at_of ws a) (low_at_of ws b) p0 in
@@ -164,7 +167,8 @@ module _ (ws : List ℕ) (a b c : ℕ) where
       let w4 : leb (high_at_of ws b + 2) (low_at_of ws c) ≡ true = sym e4 ∙ not-false t4 p4 in
       rw (w0, w1, w2, w3, w4, two_sound_of) e
 
-  pub two-true : two_sound_of ws a b c ≡ true → (eqb (low_at_of ws a) (low_at_of ws b) ≡ true) × (eqb (high_at_of ws a) (high_at_of ws c) ≡ true) × (eqb (second_at_of ws a) (low_at_of ws c) ≡ true) ×
+  pub two-true : two_sound_of ws a b c ≡ true → (eqb (low_at_of ws a) (low_at_of ws b) ≡ true) × (eqb (high_at_of ws a) (high_at_of ws c) ≡ true)
+      × (eqb (second_at_of ws a) (low_at_of ws c) ≡ true) ×
       (eqb (third_at ws a) (0) ≡ true) × (leb (high_at_of ws b + 2) (low_at_of ws c) ≡ true) × (eqb (total_at_of ws a) (total_at_of ws b + total_at_of ws c) ≡ true)
   unfolding two_sound_of
   two-true e =
@@ -177,7 +181,8 @@ module _ (ws : List ℕ) (a b c : ℕ) where
       let s2 = and_parts ((eqb (low_at_of ws a) (low_at_of ws b))) (eqb (high_at_of ws a) (high_at_of ws c)) s3.0 in
       (s2.0, s2.1, s3.1, s4.1, s5.1, s6.1)
 
-  pub two-so : (eqb (low_at_of ws a) (low_at_of ws b) ≡ true) → (eqb (high_at_of ws a) (high_at_of ws c) ≡ true) → (eqb (second_at_of ws a) (low_at_of ws c) ≡ true) → (eqb (third_at ws a) (0) ≡ true) →
+  pub two-so : (eqb (low_at_of ws a) (low_at_of ws b) ≡ true) → (eqb (high_at_of ws a) (high_at_of ws c) ≡ true) → (eqb (second_at_of ws a) (low_at_of ws c) ≡ true)
+      → (eqb (third_at ws a) (0) ≡ true) →
       (leb (high_at_of ws b + 2) (low_at_of ws c) ≡ true) → (eqb (total_at_of ws a) (total_at_of ws b + total_at_of ws c) ≡ true) → two_sound_of ws a b c ≡ true
   unfolding two_sound_of
   two-so a0 a1 a2 a3 a4 a5 = rw (a0, a1, a2, a3, a4, a5, two_sound_of) refl
@@ -204,7 +209,8 @@ module _ (ws : List ℕ) (a b c d : ℕ) where
       let w2 : eqb (second_at_of ws a) (low_at_of ws c) ≡ false = ne_eqb (second_at_of ws a) (low_at_of ws c) q in
       rw (w0, w1, w2, three_sound_of) refl
 
-  pub three-no3 : (p0 : low_at_of ws a ≡ low_at_of ws b) (p1 : high_at_of ws a ≡ high_at_of ws d) (p2 : second_at_of ws a ≡ low_at_of ws c) (q : third_at ws a ≡ low_at_of ws d → ⊥) → false ≡ three_sound_of ws a b
+  pub three-no3 : (p0 : low_at_of ws a ≡ low_at_of ws b) (p1 : high_at_of ws a ≡ high_at_of ws d) (p2 : second_at_of ws a ≡ low_at_of ws c) (q : third_at ws a ≡ low_at_of ws d
+      → ⊥) → false ≡ three_sound_of ws a b
       c d
   unfolding three_sound_of
   three-no3 p0 p1 p2 q =
@@ -226,7 +232,8 @@ module _ (ws : List ℕ) (a b c d : ℕ) where
       rw (w0, w1, w2, w3, w4, three_sound_of) refl
 
   pub three-no5 : (p0 : low_at_of ws a ≡ low_at_of ws b) (p1 : high_at_of ws a ≡ high_at_of ws d) (p2 : second_at_of ws a ≡ low_at_of ws c) (p3 : third_at ws a ≡ low_at_of ws d) (t4 : Bool)
-      (e4 : t4 ≡ leb (high_at_of ws b + 2) (low_at_of ws c)) (p4 : not t4 ≡ false) (t5 : Bool) (e5 : t5 ≡ leb (high_at_of ws c + 2) (low_at_of ws d)) (q : not t5 ≡ true) → false ≡ three_sound_of ws a b c
+      (e4 : t4 ≡ leb (high_at_of ws b + 2) (low_at_of ws c)) (p4 : not t4 ≡ false) (t5 : Bool) (e5 : t5 ≡ leb (high_at_of ws c + 2) (low_at_of ws d)) (q : not t5 ≡ true)
+      → false ≡ three_sound_of ws a b c
       d
   unfolding three_sound_of
   three-no5 p0 p1 p2 p3 t4 e4 p4 t5 e5 q =
@@ -239,7 +246,8 @@ module _ (ws : List ℕ) (a b c d : ℕ) where
       rw (w0, w1, w2, w3, w4, w5, three_sound_of) refl
 
   pub three-last : (p0 : low_at_of ws a ≡ low_at_of ws b) (p1 : high_at_of ws a ≡ high_at_of ws d) (p2 : second_at_of ws a ≡ low_at_of ws c) (p3 : third_at ws a ≡ low_at_of ws d) (t4 : Bool)
-      (e4 : t4 ≡ leb (high_at_of ws b + 2) (low_at_of ws c)) (p4 : not t4 ≡ false) (t5 : Bool) (e5 : t5 ≡ leb (high_at_of ws c + 2) (low_at_of ws d)) (p5 : not t5 ≡ false) (r : Bool) → r ≡ eqb
+      (e4 : t4 ≡ leb (high_at_of ws b + 2) (low_at_of ws c)) (p4 : not t4 ≡ false) (t5 : Bool) (e5 : t5 ≡ leb (high_at_of ws c + 2) (low_at_of ws d)) (p5 : not t5
+      ≡ false) (r : Bool) → r ≡ eqb
       (total_at_of ws a) (total_at_of ws b + total_at_of ws c + total_at_of ws d) → r ≡ three_sound_of ws a b c d
   unfolding three_sound_of
   three-last p0 p1 p2 p3 t4 e4 p4 t5 e5 p5 r e =
@@ -251,18 +259,22 @@ module _ (ws : List ℕ) (a b c d : ℕ) where
       let w5 : leb (high_at_of ws c + 2) (low_at_of ws d) ≡ true = sym e5 ∙ not-false t5 p5 in
       rw (w0, w1, w2, w3, w4, w5, three_sound_of) e
 
-  pub three-true : three_sound_of ws a b c d ≡ true → (eqb (low_at_of ws a) (low_at_of ws b) ≡ true) × (eqb (high_at_of ws a) (high_at_of ws d) ≡ true) × (eqb (second_at_of ws a) (low_at_of ws c) ≡ true) ×
+  pub three-true : three_sound_of ws a b c d ≡ true → (eqb (low_at_of ws a) (low_at_of ws b) ≡ true) × (eqb (high_at_of ws a) (high_at_of ws d) ≡ true)
+      × (eqb (second_at_of ws a) (low_at_of ws c) ≡ true) ×
       (eqb (third_at ws a) (low_at_of ws d) ≡ true) × (leb (high_at_of ws b + 2) (low_at_of ws c) ≡ true) × (leb (high_at_of ws c + 2) (low_at_of ws d) ≡ true) ×
       (eqb (total_at_of ws a) (total_at_of ws b + total_at_of ws c + total_at_of ws d) ≡ true)
   unfolding three_sound_of
   three-true e =
-      let s7 = and_parts ((eqb (low_at_of ws a) (low_at_of ws b)) && (eqb (high_at_of ws a) (high_at_of ws d)) && (eqb (second_at_of ws a) (low_at_of ws c)) && (eqb (third_at ws a) (low_at_of ws d)) &&
+      let s7 = and_parts ((eqb (low_at_of ws a) (low_at_of ws b)) && (eqb (high_at_of ws a) (high_at_of ws d)) && (eqb (second_at_of ws a) (low_at_of ws c))
+      && (eqb (third_at ws a) (low_at_of ws d)) &&
       (leb (high_at_of ws b + 2) (low_at_of ws c)) && (leb (high_at_of ws c + 2) (low_at_of ws d))) (eqb (total_at_of ws a) (total_at_of ws b + total_at_of ws c + total_at_of ws d)) e in
-      let s6 = and_parts ((eqb (low_at_of ws a) (low_at_of ws b)) && (eqb (high_at_of ws a) (high_at_of ws d)) && (eqb (second_at_of ws a) (low_at_of ws c)) && (eqb (third_at ws a) (low_at_of ws d)) &&
+      let s6 = and_parts ((eqb (low_at_of ws a) (low_at_of ws b)) && (eqb (high_at_of ws a) (high_at_of ws d)) && (eqb (second_at_of ws a) (low_at_of ws c))
+      && (eqb (third_at ws a) (low_at_of ws d)) &&
       (leb (high_at_of ws b + 2) (low_at_of ws c))) (leb (high_at_of ws c + 2) (low_at_of ws d)) s7.0 in
       let s5 = and_parts ((eqb (low_at_of ws a) (low_at_of ws b)) && (eqb (high_at_of ws a) (high_at_of ws d)) && (eqb (second_at_of ws a) (low_at_of ws c)) && (eqb (third_at ws a) (low_at_of ws d)))
       (leb (high_at_of ws b + 2) (low_at_of ws c)) s6.0 in
-      let s4 = and_parts ((eqb (low_at_of ws a) (low_at_of ws b)) && (eqb (high_at_of ws a) (high_at_of ws d)) && (eqb (second_at_of ws a) (low_at_of ws c))) (eqb (third_at ws a) (low_at_of ws d)) s5.0 in
+      let s4 = and_parts ((eqb (low_at_of ws a) (low_at_of ws b)) && (eqb (high_at_of ws a) (high_at_of ws d))
+      && (eqb (second_at_of ws a) (low_at_of ws c))) (eqb (third_at ws a) (low_at_of ws d)) s5.0 in
       let s3 = and_parts ((eqb (low_at_of ws a) (low_at_of ws b)) && (eqb (high_at_of ws a) (high_at_of ws d))) (eqb (second_at_of ws a) (low_at_of ws c)) s4.0 in
       let s2 = and_parts ((eqb (low_at_of ws a) (low_at_of ws b))) (eqb (high_at_of ws a) (high_at_of ws d)) s3.0 in
       (s2.0, s2.1, s3.1, s4.1, s5.1, s6.1, s7.1)

@@ -4,7 +4,8 @@ use Rattle.model.proofs.Prelude.{eqb, arith, le-leb, ne_eqb, eq-eqb, not-true, n
 use borrow.Author.Tests.{eqb-true}
 use Rattle.model.proofs.BoolLaws.{le_or_lt, and_parts}
 use Rattle.tree_words.specs.Nodes.{LeafTrue, TwoTrue, ThreeTrue, Good, good-leaf, good-two, good-three}
-use Rattle.tree_words.specs.TreeLayout.{low_at_of, high_at_of, total_at_of, second_at_of, third_at, child1, child2, child3, leaf_words, node_words, in_space, leaf_sound_of, two_sound_of, three_sound_of, node_sound_of, sound_at_of}
+use Rattle.tree_words.specs.TreeLayout.{low_at_of, high_at_of, total_at_of, second_at_of, third_at, child1, child2, child3, leaf_words, node_words, in_space, leaf_sound_of}
+use Rattle.tree_words.specs.TreeLayout.{two_sound_of, three_sound_of, node_sound_of, sound_at_of}
 use Rattle.tree_words.proofs.NodeLaws.{good-bounds}
 use Rattle.tree_check.proofs.TestCases.{two-so, leaf-so, leaf-true, two-true, three-true, inside-true, three-so}
 use Rattle.tree_check.proofs.NodeTestCases.{children_two, children_three, node-true, node-so, leafs_so, leafs_true}
@@ -20,7 +21,8 @@ module _ (ws : List ℕ) (start free h a : ℕ) where
   rest = eqb (child3 ws a) 0 || sound_at_of ws start free (h - 1) (child3 ws a)
 
   sound-suc : (k : ℕ) → h ≡ suc k → sound_at_of ws start free h a
-      ≡ (node_sound_of ws start free a && sound_at_of ws start free k (child1 ws a) && sound_at_of ws start free k (child2 ws a) && (eqb (child3 ws a) 0 || sound_at_of ws start free k (child3 ws a)))
+      ≡ (node_sound_of ws start free a && sound_at_of ws start free k (child1 ws a) && sound_at_of ws start free k (child2 ws a)
+      && (eqb (child3 ws a) 0 || sound_at_of ws start free k (child3 ws a)))
   unfolding sound_at_of
   sound-suc k e = rw (e, sound_at_of) refl
 

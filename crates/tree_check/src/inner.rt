@@ -1,7 +1,8 @@
 // Whether words are a tree in the layout, for our own crates. The check reads each node once. On words that are no tree it ends too: it goes down one level at
 // each call, and at the first node that is wrong it ends; until then the leaves read are ascending, so no leaf is read twice.
 ghost use Rattle.std.specs.Prelude.{◌≡◌, ◌+◌, ◌≤◌, leb, eqb, length};
-ghost use Rattle.tree_words.specs.TreeLayout.{tree_words_count, in_space, leaf_true_of, leaf_sound_of, two_sound_of, three_sound_of, node_sound_of, sound_at_of, sound_words_of, space_start_of, space_end_of, leaves_at};
+ghost use Rattle.tree_words.specs.TreeLayout.{tree_words_count, in_space, leaf_true_of, leaf_sound_of, two_sound_of, three_sound_of, node_sound_of, sound_at_of, sound_words_of};
+ghost use Rattle.tree_words.specs.TreeLayout.{space_start_of, space_end_of, leaves_at};
 ghost use Rattle.tree_words.specs.Nodes.{Good};
 
 use model::{MAX_COUNT, MAX_RUNS};

@@ -180,7 +180,8 @@ module _ (ws : List ℕ) (start free h a x : ℕ) (g : Good ws start free h a) w
   reach_leaf z q = record {
     begun = (good-bounds g).begun;
     ended = (good-bounds g).ended;
-    first = ap (λ (y : ℕ). first_run_of (reaches x) (leaves_at ws y a)) z ∙ ap (first_run_of (reaches x)) (leaves-leaf ws a) ∙ first-in (reaches x) (run_in_of ws a) [] (le-leb x (high_at_of ws a) q);
+    first = ap (λ (y : ℕ). first_run_of (reaches x) (leaves_at ws y a)) z ∙ ap (first_run_of (reaches x)) (leaves-leaf ws a)
+        ∙ first-in (reaches x) (run_in_of ws a) [] (le-leb x (high_at_of ws a) q);
   }
 
   pub start-leaf : h ≡ 0 → low_at_of ws a ≤ x → Starting ws start free h a x a

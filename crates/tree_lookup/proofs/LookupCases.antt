@@ -126,7 +126,8 @@ module _ (ws : List ℕ) (s : SoundTree ws) where
     near-zero z = not_found ws (first_run_of (adjacent (run_of low high)) (tree_runs ws)) (next-not low high order least (2 ^ 62) 1 (tree_runs ws) sep (subst (NotNext low high) (sym (a.absent z)) tt))
 
     module _ (some : r ≡ 0 → ⊥) where
-      near : first_run_of (overlaps (run_of low high)) (tree_runs ws) ≡ none → (high_at_of ws r < low) ⊎ (low_at_of ws r ≤ high + 1) → FoundAt ws (first_run_of (adjacent (run_of low high)) (tree_runs ws)) r
+      near : first_run_of (overlaps (run_of low high)) (tree_runs ws) ≡ none → (high_at_of ws r < low) ⊎ (low_at_of ws r ≤ high + 1)
+          → FoundAt ws (first_run_of (adjacent (run_of low high)) (tree_runs ws)) r
       near o b = record {
         absent = λ z. absurd (some z);
         present = λ n. next-found low high order least (2 ^ 62) 1 (tree_runs ws) sep o (subst (Next low high) (sym (a.present some)) b) ∙ a.present some;

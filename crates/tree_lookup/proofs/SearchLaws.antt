@@ -40,7 +40,8 @@ module _ (low high : ℕ) (order : low ≤ high) where
   over_none n least (r ∷ rs) s q =
       first_out (overlaps (run_of low high)) r rs (over-high r (omega (arith, s.0, s.1)) (omega (arith, s.0))) ∙ over_none n (r.high + 2) rs s.3 (omega (arith, s.0, s.1))
 
-  pub over-found : (n least : ℕ) (rs : List Run) → Separated n least rs → Begun high (first_run_of (reaches low) rs) → first_run_of (overlaps (run_of low high)) rs ≡ first_run_of (reaches low) rs
+  pub over-found : (n least : ℕ) (rs : List Run) → Separated n least rs → Begun high (first_run_of (reaches low) rs) → first_run_of (overlaps (run_of low high)) rs
+      ≡ first_run_of (reaches low) rs
   over-found n least [] s t = absurd (subst (Begun high) (first-nil (reaches low)) t)
   over-found n least (r ∷ rs) s t =
       ⊎_elim

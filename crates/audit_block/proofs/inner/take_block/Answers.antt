@@ -1,5 +1,4 @@
 -- `audit_block::inner::take_block` meets its contract: the records of a block are read and their tests applied, and each end is one case.
-use Rattle.model.proofs.Prelude.{rules}
 use Rattle.audit_block.proofs.BlockTakeCases.{read-ready, block_refused, block-next, block-onward, take_cases}
 use Rattle.audit_block.proofs.inner.take_block.Goals as goal
 
@@ -9,9 +8,6 @@ read_block-read-requires c = search take_cases
 pub apply_tests-applied-requires : goal.apply_tests-applied-requires
 apply_tests-applied-requires c =
     read-ready c.requires c.read_block-read.ensures.1
-
-pub enum_told-1 : goal.enum_told-1
-enum_told-1 c = search rules
 
 pub returns-in-Refused : goal.returns-in-Refused
 returns-in-Refused c =

@@ -1,5 +1,5 @@
 -- `audit_records::inner::apply_blocks` meets its contract. The invariant, `TakingBlocks`: the records that are left, from the store so far, give the whole.
-use Rattle.model.proofs.Prelude.{◌-◌, arith, rules}
+use Rattle.model.proofs.Prelude.{arith}
 use Rattle.audit_records.proofs.FileBlockSteps.{block-fits, taking_less, taking_next, blocks-cases}
 use Rattle.audit_records.proofs.inner.apply_blocks.Goals as goal
 
@@ -17,9 +17,6 @@ overflow_add-result c = search blocks-cases
 
 pub returns-in-Refused : goal.returns-in-Refused
 returns-in-Refused c = search blocks-cases
-
-pub enum_told-1 : goal.enum_told-1
-enum_told-1 c = search rules
 
 pub overflow_mul-at : goal.overflow_mul-at
 overflow_mul-at c =

@@ -1,5 +1,5 @@
 -- `block_counting::inner::count_block` meets its contract. The invariant, `CountingBlock`: the answers of the tests before test t, on the store after them.
-use Rattle.model.proofs.Prelude.{◌-◌, refl, arith}
+use Rattle.model.proofs.Prelude.{refl, arith}
 use Rattle.block_stage.proofs.BlockSteps.{block_in, block-begun, block-inputs, block-few, up-inside, down-inside}
 use Rattle.block_stage.proofs.RecordEdgeLaws.{listed-inputs}
 use Rattle.block_counting.proofs.CountSteps.{block-sound, counting-start, some-handed, some-counted, counting-next, counted-kept-memory, counted-all, counted-few}

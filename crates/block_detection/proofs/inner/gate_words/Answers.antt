@@ -1,5 +1,5 @@
 -- `block_detection::inner::gate_words` meets its contract: the words of the nets before the one at hand are right.
-use Rattle.model.proofs.Prelude.{◌-◌, refl, arith}
+use Rattle.model.proofs.Prelude.{refl, arith}
 use Rattle.block_words.proofs.GateTableLaws.{few-nets, gate-pins, low-kind, high-kind}
 use Rattle.block_detection.proofs.GateWordCases.{words-start, words_step, words-end}
 use Rattle.block_detection.proofs.inner.gate_words.Goals as goal

@@ -1,5 +1,4 @@
 -- `block_intervals::inner::input_spans` meets its contract. The loop's invariant: the spans of the inputs so far are written.
-use Rattle.model.proofs.Prelude.{◌-◌}
 use Rattle.block_intervals.proofs.InputSpanCases.{input-span-cases}
 use Rattle.block_intervals.proofs.inner.input_spans.Goals as goal
 

@@ -1,5 +1,5 @@
 -- `block_intervals::inner::listed_spans` meets its contract: the runs of the listed nets, counted with those of the inputs.
-use Rattle.model.proofs.Prelude.{length-set, arith, rules}
+use Rattle.model.proofs.Prelude.{length-set, arith}
 use Rattle.block_intervals.proofs.ListedLaws.{listed-spans, listed-full, listed-over, listed-fits, listed-cases}
 use Rattle.block_intervals.proofs.inner.listed_spans.Goals as goal
 
@@ -9,9 +9,6 @@ bounds-words-1 c =
 
 pub net_spans-requires : goal.net_spans-requires
 net_spans-requires c = search listed-cases
-
-pub enum_told-1 : goal.enum_told-1
-enum_told-1 c = search rules
 
 pub over_working-requires : goal.over_working-requires
 over_working-requires c = search listed-cases

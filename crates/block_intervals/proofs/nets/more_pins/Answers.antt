@@ -14,12 +14,6 @@ overflow_add-first c = search pin-cases
 pub add_pin-requires : goal.add_pin-requires
 add_pin-requires c = search pin-cases
 
-pub enum_known-c : goal.enum_known-c
-enum_known-c c = search pin-cases
-
-pub enum_told-1 : goal.enum_told-1
-enum_told-1 c = search pin-cases
-
 pub shape_of-words-in-Full : goal.shape_of-words-in-Full
 shape_of-words-in-Full c = search pin-cases
 

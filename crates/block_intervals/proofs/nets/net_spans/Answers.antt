@@ -1,5 +1,4 @@
 -- `block_intervals::nets::net_spans` meets its contract: the live nets before the next one listed have their spans.
-use Rattle.model.proofs.Prelude.{◌-◌}
 use Rattle.block_intervals.proofs.NetSpanSteps.{spans-cases}
 use Rattle.block_intervals.proofs.nets.net_spans.Goals as goal
 
@@ -20,9 +19,6 @@ enum_known-count c = search spans-cases
 
 pub overflow_add-total : goal.overflow_add-total
 overflow_add-total c = search spans-cases
-
-pub enum_told-1 : goal.enum_told-1
-enum_told-1 c = search spans-cases
 
 pub shape_of-words-in-Over : goal.shape_of-words-in-Over
 shape_of-words-in-Over c = search spans-cases

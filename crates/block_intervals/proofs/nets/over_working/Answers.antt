@@ -1,10 +1,6 @@
 -- `block_intervals::nets::over_working` meets its contract: the sum is `total` and the runs of the inputs so far.
-use Rattle.model.proofs.Prelude.{◌-◌}
 use Rattle.block_intervals.proofs.WorkingSteps.{working-cases}
 use Rattle.block_intervals.proofs.nets.over_working.Goals as goal
-
-pub overflow_sub-t-6 : goal.overflow_sub-t-6
-overflow_sub-t-6 c = search working-cases
 
 pub returns-then-total : goal.returns-then-total
 returns-then-total c = search working-cases

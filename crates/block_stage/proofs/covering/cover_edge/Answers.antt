@@ -9,9 +9,6 @@ returns-then-edges-eq0 c = (c.requires.ready.listed.input_spans, λ K h. edge_no
 pub listed_spans-requires : goal.listed_spans-requires
 listed_spans-requires c = search (some-spans, rules)
 
-pub enum_told-1 : goal.enum_told-1
-enum_told-1 c = search rules
-
 pub outputs_inside-requires : goal.outputs_inside-requires
 outputs_inside-requires c =
     let ready = c.requires in

@@ -1,5 +1,5 @@
 -- `block_stage::inner::apply_block` meets its contract. The invariant, `Applying`: the tests that are left, from the store so far, give the whole.
-use Rattle.model.proofs.Prelude.{◌-◌, refl, arith, rules}
+use Rattle.model.proofs.Prelude.{refl, arith}
 use Rattle.block_stage.proofs.BlockSteps.{block_in, block-begun, block-inputs, ended-kept, ended, up-inside, down-inside, some-listed, refused-kept, refused-here}
 use Rattle.block_stage.proofs.BlockSteps.{record_taken, block-few, block-cases}
 use Rattle.block_stage.proofs.inner.apply_block.Goals as goal
@@ -37,9 +37,6 @@ returns-in-Refused c =
     let more = c.loop-t-test.true in
     let so_far = c.loop-t.invariant in
     (refused-kept so_far more edges stage.ensures.1 why, λ N tests b m. refused-here so_far more edges stage.ensures.1 why N tests (block_in b m))
-
-pub enum_told-1 : goal.enum_told-1
-enum_told-1 c = search rules
 
 pub loop-t-preserved : goal.loop-t-preserved
 loop-t-preserved c =

@@ -1,5 +1,5 @@
 -- `block_activity::inner::marks::live_outputs` meets its contract. The loop's invariant: bit p of word t says for each output p before o whether it is live in record t.
-use Rattle.model.proofs.Prelude.{◌-◌, arith}
+use Rattle.model.proofs.Prelude.{arith}
 use Rattle.block_words.specs.NetStates.{plane}
 use Rattle.block_activity.proofs.OutputMarkCases.{outputs-start, outputs-step, outputs-end}
 use Rattle.block_activity.proofs.inner.marks.live_outputs.Goals as goal

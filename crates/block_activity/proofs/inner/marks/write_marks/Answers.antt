@@ -1,5 +1,5 @@
 -- `block_activity::inner::marks::write_marks` meets its contract. The loop's invariant: the marks of the records before t are written, and no other place is.
-use Rattle.model.proofs.Prelude.{◌-◌, arith}
+use Rattle.model.proofs.Prelude.{arith}
 use Rattle.block_activity.proofs.MarkWriteCases.{write_start, write_step, write_end}
 use Rattle.block_activity.proofs.inner.marks.write_marks.Goals as goal
 

@@ -1,5 +1,4 @@
 -- `block_activity::inner::offsets::gate_offsets` meets its contract. The invariant, `GatesDone`: the gates that drive the nets before `net` have their offsets.
-use Rattle.model.proofs.Prelude.{◌-◌}
 use Rattle.block_activity.proofs.OffsetCases.{gate-offsets-cases}
 use Rattle.block_activity.proofs.inner.offsets.gate_offsets.Goals as goal
 

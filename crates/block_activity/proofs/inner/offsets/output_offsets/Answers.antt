@@ -1,6 +1,5 @@
 -- `block_activity::inner::offsets::output_offsets` meets its contract. The invariant, `OutputsDone`: the first o outputs have their offsets, and `offset` is their paths
 -- together.
-use Rattle.model.proofs.Prelude.{◌-◌}
 use Rattle.block_activity.proofs.OffsetCases.{output-offsets-cases}
 use Rattle.block_activity.proofs.inner.offsets.output_offsets.Goals as goal
 

@@ -1,5 +1,4 @@
 -- `block_activity::inner::offsets::pin_offsets` meets its contract. The invariant, `PinsDone`: the first p pins have their offsets, and `offset` is their paths together.
-use Rattle.model.proofs.Prelude.{◌-◌}
 use Rattle.block_activity.proofs.OffsetCases.{pin-cases}
 use Rattle.block_activity.proofs.inner.offsets.pin_offsets.Goals as goal
 

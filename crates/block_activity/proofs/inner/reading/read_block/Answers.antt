@@ -1,6 +1,6 @@
 -- `block_activity::inner::reading::read_block` meets its contract. The invariant, `ReadSoFar`: the records before byte `at` are legal, and their vectors stand
 -- in the array.
-use Rattle.model.proofs.Prelude.{◌-◌, arith, rules}
+use Rattle.model.proofs.Prelude.{arith}
 use Rattle.block_activity.proofs.BlockReadCases.{read_more, read-cases}
 use Rattle.block_activity.proofs.inner.reading.read_block.Goals as goal
 
@@ -12,9 +12,6 @@ returns-then-tests-at c = search read-cases
 
 pub returns-in-Refused : goal.returns-in-Refused
 returns-in-Refused c = search read-cases
-
-pub enum_told-1 : goal.enum_told-1
-enum_told-1 c = search rules
 
 pub loop-records-preserved : goal.loop-records-preserved
 loop-records-preserved c =

@@ -60,12 +60,6 @@ append_shifted-requires c = record {
   sound = search output-cases;
 }
 
-pub enum_known-c : goal.enum_known-c
-enum_known-c c = search output-cases
-
-pub enum_told-1 : goal.enum_told-1
-enum_told-1 c = search output-cases
-
 pub shape_of-words-in-Full : goal.shape_of-words-in-Full
 shape_of-words-in-Full c = search output-cases
 

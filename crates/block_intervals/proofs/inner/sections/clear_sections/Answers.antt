@@ -1,5 +1,4 @@
 -- `block_intervals::inner::sections::clear_sections` meets its contract. The invariant, `Cleared`: the places so far hold 0.
-use Rattle.model.proofs.Prelude.{◌-◌}
 use Rattle.block_intervals.proofs.SectionLaws.{clear-cases}
 use Rattle.block_intervals.proofs.inner.sections.clear_sections.Goals as goal
 

@@ -1,6 +1,5 @@
 -- `block_intervals::inner::sections::find_sections` meets its contract. The invariant, `Finding`: the sections so far ascend, and nothing else has changed since the word
 -- after them was written.
-use Rattle.model.proofs.Prelude.{◌-◌}
 use Rattle.block_intervals.proofs.SectionLaws.{find_cases}
 use Rattle.block_intervals.proofs.inner.sections.find_sections.Goals as goal
 

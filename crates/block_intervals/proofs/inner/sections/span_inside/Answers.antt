@@ -1,5 +1,4 @@
 -- `block_intervals::inner::sections::span_inside` meets its contract. The invariant, `SpanWalk`: the runs so far lie in held runs.
-use Rattle.model.proofs.Prelude.{◌-◌}
 use Rattle.block_intervals.proofs.SectionCases.{span-held-cases}
 use Rattle.block_intervals.proofs.inner.sections.span_inside.Goals as goal
 

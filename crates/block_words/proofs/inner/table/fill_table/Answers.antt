@@ -1,5 +1,5 @@
 -- `block_words::inner::table::fill_table` meets its contract. The loop's invariant: the rows of the nets before `net` are filled, for every netlist that the bytes are.
-use Rattle.model.proofs.Prelude.{◌-◌, arith}
+use Rattle.model.proofs.Prelude.{arith}
 use Rattle.block_words.proofs.GateTableLaws.{table-end, table-cases}
 use Rattle.block_words.proofs.inner.table.fill_table.Goals as goal
 
@@ -16,10 +16,10 @@ pub bounds-part-3 : goal.bounds-part-3
 bounds-part-3 c = search table-cases
 
 pub overflow_cast-table : goal.overflow_cast-table
-overflow_cast-table c = omega (arith, c.shared_slice_known-in-loop-net-2-1.given 2, c.shared_slice_known-in-loop-net-2-1.given 3)
+overflow_cast-table c = omega (arith, c.type_inv.part 2, c.type_inv.part 3)
 
 pub overflow_cast-table-in-loop-net : goal.overflow_cast-table-in-loop-net
-overflow_cast-table-in-loop-net c = omega (arith, c.shared_slice_known-in-loop-net-2-1.given 3)
+overflow_cast-table-in-loop-net c = omega (arith, c.type_inv.part 3)
 
 pub fill_pins-requires : goal.fill_pins-requires
 fill_pins-requires c = search table-cases

@@ -1,6 +1,6 @@
 -- `block_words::inner::words::gate_lists` meets its contract. The loop's invariant: the words of the nets before `net` are right, each record's lists have its live gates before
 -- `net`, for every netlist whose table it is and every block of tests of the class, and what is past the words of 512 nets is kept.
-use Rattle.model.proofs.Prelude.{◌-◌, refl, arith}
+use Rattle.model.proofs.Prelude.{refl, arith}
 use Rattle.block_words.proofs.GateTableLaws.{few-nets}
 use Rattle.block_words.proofs.GateListCases.{lists-start, gate-known, lists-step, lists-end}
 use Rattle.block_words.proofs.inner.words.gate_lists.Goals as goal

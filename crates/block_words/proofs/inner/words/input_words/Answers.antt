@@ -1,5 +1,5 @@
 -- `block_words::inner::words::input_words` meets its contract. The loop's invariant: the words of the inputs before `input` are right, and what is past those of 512 nets is kept.
-use Rattle.model.proofs.Prelude.{◌-◌, arith}
+use Rattle.model.proofs.Prelude.{arith}
 use Rattle.block_words.proofs.InputWordCases.{input-start, input-step, input-end}
 use Rattle.block_words.proofs.inner.words.input_words.Goals as goal
 
@@ -36,7 +36,7 @@ loop-input-smaller c =
 pub loop-input-preserved : goal.loop-input-preserved
 loop-input-preserved c = (
   input-step _ c.loop-input.invariant.0 (omega (arith, c.loop-input-test.true, c.requires.0)) c.first_records-within.ensures
-      c.put_net.ensures c.slice_known-in-loop-input-1.given,
+      c.put_net.ensures c.type_inv.words,
   omega (arith, c.loop-input-test.true),
 )
 

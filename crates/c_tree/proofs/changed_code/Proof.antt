@@ -1,9 +1,0 @@
--- `c_tree::changed_code` meets its contract.
-use Rattle.model.proofs.Prelude.{rules}
-use Rattle.c_tree.proofs.TreeAnswerCases.{code-cases}
-use Rattle.c_tree.proofs.changed_code.Statement.{statement}
-use Rattle.c_tree.proofs.changed_code.Tie as tie
-
-pub changed_code_spec : {M : Type 1} → statement M
-changed_code_spec =
-    tie.close (tie.spec (λ c. search rules) (λ c κs. search rules) (λ c. search rules) (λ c. search code-cases) (λ c. search code-cases))

@@ -1,0 +1,13 @@
+-- `listing_blocks::blocks::next_answer` meets its contract, case by case.
+use Rattle.model.proofs.Prelude.{refl, inl, inr, arith, rules}
+use Rattle.listing_blocks.proofs.PartCases.{next-none, next-some}
+use Rattle.listing_blocks.proofs.blocks.next_answer.Goals as goal
+
+pub returns-then-records-ge64 : goal.returns-then-records-ge64
+returns-then-records-ge64 c = next-none (inl c.if-records-ge64.true)
+
+pub enum_told-1 : goal.enum_told-1
+enum_told-1 c = search rules
+
+pub returns-else-used-length : goal.returns-else-used-length
+returns-else-used-length c = next-none (inr (omega (arith, c.if-used-length.false)))
