@@ -1,5 +1,6 @@
 -- A tree filled run by run: after each step its leaves are the runs so far, and no word past the tree's is written.
-use Rattle.model.proofs.Prelude.{ℕ, ◌≤◌, ◌<◌, ◌+◌, ◌-◌, ◌*◌, suc, ◌^◌, zero, ◌/◌, ◌≡◌, ◌∙◌, ap, refl, sym, subst, List, [], ◌∷◌, ◌++◌, length, get_or}
+use Rattle.model.proofs.Prelude.{ℕ, ◌≤◌, ◌<◌, ◌+◌, ◌-◌, ◌*◌, suc, ◌^◌, zero, ◌/◌, ◌≡◌, ◌∙◌, ap, refl, sym, subst, List, [], ◌∷◌}
+use Rattle.model.proofs.Prelude.{◌++◌, length, get_or}
 use Rattle.model.proofs.Prelude.{drop, length-drop, get_or-drop, add-one, arith, rules}
 use Rattle.model.specs.Base.{value}
 use Rattle.model.specs.Runs.{Run}

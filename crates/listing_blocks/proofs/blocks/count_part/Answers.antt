@@ -5,26 +5,6 @@ use Rattle.audit_block.proofs.BlockTakeCases.{block-some, block-few, read-ready}
 use Rattle.listing_blocks.proofs.PartCases.{part-fits, whole-bytes, part-ended, part-more}
 use Rattle.listing_blocks.proofs.blocks.count_part.Goals as goal
 
-record-length-requires c κs =
-    let at-counted = c.before.before.before.before in
-    let at-lists = at-counted.before.before.before.before.before.before in
-    let at-filled = at-lists.before.before.before.before.before.before in
-    let at_read = at-filled.before.before.before.before.before.before in
-    let at-vectors = at_read.before in
-    let ready = at-vectors.before.before.before.before.before.before.requires in
-    let read = at_read.read-block.ensures.1 in
-    block-few ready
-record-end-requires c κs =
-    let at_length = c.before.before.before.before.before in
-    let at-counted = at_length.before.before.before.before.before in
-    let at-lists = at-counted.before.before.before.before.before.before in
-    let at-filled = at-lists.before.before.before.before.before.before in
-    let at_read = at-filled.before.before.before.before.before.before in
-    let at-vectors = at_read.before in
-    let ready = at-vectors.before.before.before.before.before.before.requires in
-    let read = at_read.read-block.ensures.1 in
-    whole-bytes ready read at_length.record-length.ensures.0
-
 pub read_block-read-requires : goal.read_block-read-requires
 read_block-read-requires c =
     (block-some c.requires, block-few c.requires, refl)
@@ -37,13 +17,37 @@ pub count_block-answers-requires : goal.count_block-answers-requires
 count_block-answers-requires c =
     marked-ready (read-ready c.requires c.read_block-read.ensures.1) c.fill_block.ensures.3 c.fill_block.ensures.4
 
+pub record_length-bytes-requires : goal.record_length-bytes-requires
+record_length-bytes-requires c =
+    block-few c.requires
+
 pub overflow_mul-bytes : goal.overflow_mul-bytes
 overflow_mul-bytes c =
     omega (arith, part-fits c.requires c.read_block-read.ensures.1 c.record_length-bytes.ensures.0 c.record_length-bytes.ensures.2)
 
+pub overflow_add-answers : goal.overflow_add-answers
+overflow_add-answers c =
+    omega (arith, (c.next_answer-next.ensures.some _ c.in-Refused.is).0)
+
+pub offset_bounds-answers-records : goal.offset_bounds-answers-records
+offset_bounds-answers-records c =
+    omega (arith, (c.next_answer-next.ensures.some _ c.in-Refused.is).0)
+
+pub bounds-answers-records : goal.bounds-answers-records
+bounds-answers-records c =
+    omega (arith, (c.next_answer-next.ensures.some _ c.in-Refused.is).0)
+
 pub overflow_mul-bytes-in-Refused : goal.overflow_mul-bytes-in-Refused
 overflow_mul-bytes-in-Refused c =
     omega (arith, part-fits c.requires c.read_block-read.ensures.1 c.record_length-bytes.ensures.0 c.record_length-bytes.ensures.2)
+
+pub record_end-used-requires : goal.record_end-used-requires
+record_end-used-requires c =
+    whole-bytes c.requires c.read_block-read.ensures.1 c.record_length-bytes.ensures.0
+
+pub overflow_add-lines : goal.overflow_add-lines
+overflow_add-lines c =
+    omega (arith, (c.next_answer-next.ensures.some _ c.in-Refused.is).0)
 
 pub enum_told-1 : goal.enum_told-1
 enum_told-1 c = search rules
@@ -51,3 +55,13 @@ enum_told-1 c = search rules
 pub overflow_mul-used : goal.overflow_mul-used
 overflow_mul-used c =
     omega (arith, part-fits c.requires c.read_block-read.ensures.1 c.record_length-bytes.ensures.0 c.record_length-bytes.ensures.2)
+
+pub returns-in-Refused : goal.returns-in-Refused
+returns-in-Refused c =
+    part-more c.requires c.read_block-read.ensures.1 c.fill_block.ensures.3 c.fill_block.ensures.4 c.count_block-answers.ensures.0 c.count_block-answers.ensures.1 c.fill_block.ensures.0 c.fill_block.ensures.1 c.record_length-bytes.ensures.0 c.next_answer-next.ensures
+    c.in-Refused.is c.record_end-used.ensures c.refusal_number.ensures
+
+pub returns-in-Legal : goal.returns-in-Legal
+returns-in-Legal c =
+    part-ended c.requires c.read_block-read.ensures.1 c.fill_block.ensures.3 c.fill_block.ensures.4 c.count_block-answers.ensures.0 c.count_block-answers.ensures.1 c.fill_block.ensures.0 c.fill_block.ensures.1 c.record_length-bytes.ensures.0 c.next_answer-next.ensures
+    c.in-Legal.is

@@ -1,0 +1,12 @@
+-- `path_lines::walk::put_loaded` meets its contract: a netlist that is refused has no path, and another's tables are those of the walk.
+use Rattle.path_lines.proofs.PathCases.{load-cases}
+use Rattle.path_lines.proofs.walk.put_loaded.Goals as goal
+
+pub load-answer-requires : goal.load-answer-requires
+load-answer-requires c = search load-cases
+
+pub put_walk-requires : goal.put_walk-requires
+put_walk-requires c = search load-cases
+
+pub returns-in-Refused : goal.returns-in-Refused
+returns-in-Refused c = search load-cases

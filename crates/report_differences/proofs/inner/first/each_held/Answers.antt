@@ -1,0 +1,14 @@
+-- `report_differences::inner::first::each_held` meets its contract: every number is held where there is no range of others.
+use Rattle.model.proofs.Prelude.{rules}
+use Rattle.report_differences.proofs.RunCases.{passed_none}
+use Rattle.report_differences.proofs.FirstClaimLaws.{held-cases}
+use Rattle.report_differences.proofs.inner.first.each_held.Goals as goal
+
+pub next_piece-found-requires : goal.next_piece-found-requires
+next_piece-found-requires c = search (passed_none, rules)
+
+pub returns-in-Nothing : goal.returns-in-Nothing
+returns-in-Nothing c = search held-cases
+
+pub returns-in-Range : goal.returns-in-Range
+returns-in-Range c = search held-cases
