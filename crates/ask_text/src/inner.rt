@@ -11,7 +11,7 @@ use crate::inner::answer_lines::put_answer;
 use crate::inner::numbers::byte_after;
 
 // What the bytes of a line state: nothing where there are none, a number, or something else.
-#[derive(Drop)]
+#[derive(Clone, Copy)]
 pub enum Stated {
     Nothing,
     Number(u64),
@@ -19,7 +19,7 @@ pub enum Stated {
 }
 
 // Between two bytes of a text: the place of the line at hand, what it states so far, and the bytes of the answers that wait in the buffer.
-#[derive(Drop)]
+#[derive(Clone, Copy)]
 pub struct Asking {
     pub place: u64,
     pub line: Stated,

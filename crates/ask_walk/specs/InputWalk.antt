@@ -2,7 +2,6 @@
 use Rattle.std.specs.Prelude.{◌≡◌, true, List, ℕ, ◌+◌, ◌^◌, ◌<◌, length, take}
 use Rattle.ask_text.specs.Questions.{fault_asked}
 use Rattle.ask_text.specs.Pieces.{place_after, line_after, last_text}
-use Rattle.ask_text.specs.declared.inner.Stated.{Stated}
 use Rattle.ask_text.specs.declared.inner.Stated.TheVariants as stated
 use Rattle.ask_walk.specs.declared.inner.Taken.{Taken}
 use Rattle.ask_walk.specs.declared.inner.AnsweredInput.{AnsweredInput}

@@ -6,7 +6,7 @@ ghost use Rattle.load_walk.specs.LoadWalk.{lesser, piece_of, next_walk};
 use load::inner::{put_vectors, vector_size};
 
 // A load on its way: the state that the next vector is drawn from, the vectors that are left, their inputs, and the bytes of the last piece.
-#[derive(Drop)]
+#[derive(Clone, Copy)]
 pub struct Walk {
     pub state: u32,
     pub left: usize,

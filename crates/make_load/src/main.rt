@@ -9,9 +9,7 @@ use load_request::REQUEST_BYTES;
 use load_walk::inner::{Walk, next_piece};
 use load_walk::{Start, begin};
 use model::Refusal;
-use program_files::{
-    end_progress, file_name, has_argument, is_argument, load_file, print_error,
-};
+use program_files::{end_progress, file_name, has_argument, is_argument, load_file, print_error};
 use program_sentences::{
     STDERR_FILENO, STDOUT_FILENO, empty_line, print, print_line, print_version, with_refusal,
 };
