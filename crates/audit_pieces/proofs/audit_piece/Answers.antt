@@ -1,7 +1,6 @@
 -- `audit_pieces::audit_piece` meets its contract: each return is one case of a piece.
-use Rattle.model.proofs.Prelude.{arith}
-use Rattle.model.proofs.Prelude.{rules}
-use Rattle.audit_pieces.proofs.PieceCases.{call-piece-cases}
+use Rattle.model.proofs.Prelude.{arith, ap, not}
+use Rattle.audit_pieces.proofs.PieceCases.{call-piece-cases, piece-done}
 use Rattle.audit_pieces.proofs.audit_piece.Goals as goal
 
 pub returns-then-store-ne-STORE_WORDS : goal.returns-then-store-ne-STORE_WORDS
@@ -20,4 +19,6 @@ pub returns-in-Refused : goal.returns-in-Refused
 returns-in-Refused c = search call-piece-cases
 
 pub returns-else-not-known : goal.returns-else-not-known
-returns-else-not-known c = search rules
+returns-else-not-known c =
+    piece-done _ _ _ _ _ (omega arith) (omega arith) _ c.load_by_value-loaded.ensures c.in-Legal.is _ _ _ _ c.known_class-known.ensures (ap not c.if-not-known.false)
+    c.piece_on.ensures

@@ -1,0 +1,6 @@
+-- `bench_to_netlist::text_buffer` meets its contract, by the law of a repeated value's length.
+use Rattle.model.proofs.Prelude.{ℕ, sym, length-replicate}
+use Rattle.bench_to_netlist.proofs.text_buffer.Goals as goal
+
+pub returns : goal.returns
+returns c = sym (length-replicate {A = ℕ} 2097153 0)
