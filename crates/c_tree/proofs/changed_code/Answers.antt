@@ -1,5 +1,4 @@
 -- `c_tree::changed_code` meets its contract.
-use Rattle.model.proofs.Prelude.{rules}
 use Rattle.c_tree.proofs.TreeAnswerCases.{code-cases}
 use Rattle.c_tree.proofs.changed_code.Goals as goal
 

@@ -1,5 +1,4 @@
 -- `c_tree::each_code` meets its contract.
-use Rattle.model.proofs.Prelude.{rules}
 use Rattle.c_tree.proofs.TreeAnswerCases.{each-cases}
 use Rattle.c_tree.proofs.each_code.Goals as goal
 

@@ -1,5 +1,4 @@
 -- `c_tree::found_code` meets its contract.
-use Rattle.model.proofs.Prelude.{rules}
 use Rattle.c_tree.proofs.TreeAnswerCases.{found-cases}
 use Rattle.c_tree.proofs.found_code.Goals as goal
 

@@ -1,5 +1,4 @@
 -- `c_tree::holds_code` meets its contract.
-use Rattle.model.proofs.Prelude.{rules}
 use Rattle.c_tree.proofs.TreeAnswerCases.{holds-cases}
 use Rattle.c_tree.proofs.holds_code.Goals as goal
 

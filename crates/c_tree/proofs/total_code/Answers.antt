@@ -1,5 +1,4 @@
 -- `c_tree::total_code` meets its contract.
-use Rattle.model.proofs.Prelude.{rules}
 use Rattle.c_tree.proofs.TreeAnswerCases.{total-cases}
 use Rattle.c_tree.proofs.total_code.Goals as goal
 

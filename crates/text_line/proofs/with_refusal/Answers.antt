@@ -1,5 +1,5 @@
 -- `text_line::with_refusal` meets its contract: a word, then a number at its end.
-use Rattle.model.proofs.Prelude.{ℕ, ◌∙◌, ap, List, ◌++◌, rules}
+use Rattle.model.proofs.Prelude.{ℕ, ◌∙◌, ap, List, ◌++◌}
 use Rattle.text_line.specs.Decimal.{decimal_text, refused_word, refused_text}
 use Rattle.text_line.specs.Lines.{on_line, text_of}
 use Rattle.text_line.proofs.LineLaws.{on_line-twice}

@@ -1,7 +1,6 @@
 -- `text_line::with_text` meets its contract. The invariant: the text so far with what is left at its end is, on a line, the whole.
-use Rattle.model.proofs.Prelude.{◌≤◌, ◌-◌, ◌≡◌, ◌∙◌, length, drop, take, length-set, arith, rules}
+use Rattle.model.proofs.Prelude.{◌≤◌, ◌-◌, ◌≡◌, length, drop, take}
 use Rattle.text_line.specs.Lines.{on_line, text_of}
-use Rattle.text_line.proofs.LineLaws.{line-start, line_step, line-full, line-end}
 use Rattle.text_line.proofs.with_text.Given as goal
 
 abbrev pub invariant-loop-i : goal.invariant-loop-i

@@ -1,6 +1,6 @@
 -- `ask_text::inner::put_answers` meets its contract. The invariant, `AnsweringPiece`: what is put, with the answers to what is left, is the whole.
-use Rattle.model.proofs.Prelude.{◌-◌, length, rules}
-use Rattle.ask_text.proofs.AnswerSteps.{AnsweringPiece, piece-start, piece-ready, piece-next, piece-done}
+use Rattle.model.proofs.Prelude.{◌-◌, length}
+use Rattle.ask_text.proofs.AnswerSteps.{AnsweringPiece}
 use Rattle.ask_text.proofs.inner.put_answers.Given as goal
 
 abbrev pub invariant-loop-i : goal.invariant-loop-i

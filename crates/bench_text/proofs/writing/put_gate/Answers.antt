@@ -1,5 +1,5 @@
 -- `bench_text::writing::put_gate` meets its contract: its fields one after the other.
-use Rattle.model.proofs.Prelude.{arith, rules}
+use Rattle.model.proofs.Prelude.{rules}
 use Rattle.bench_text.proofs.GateLaws.{gate-put}
 use Rattle.bench_text.proofs.writing.put_gate.Goals as goal
 

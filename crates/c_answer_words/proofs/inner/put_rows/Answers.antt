@@ -1,5 +1,5 @@
 -- `c_answer_words::inner::put_rows` meets its contract: the second row stands behind the first.
-use Rattle.model.proofs.Prelude.{ℕ, List, [], get_or, length-append, arith, rules}
+use Rattle.model.proofs.Prelude.{rules}
 use Rattle.c_answer_words.proofs.StoredLaws.{row-long, stored-both}
 use Rattle.c_answer_words.proofs.inner.put_rows.Goals as goal
 

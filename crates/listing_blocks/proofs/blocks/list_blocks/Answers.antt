@@ -1,6 +1,6 @@
 -- `listing_blocks::blocks::list_blocks` meets its contract. The invariant, `Listing`: the lines in the buffer, then those of the records that are left, give the whole.
-use Rattle.model.proofs.Prelude.{◌-◌, refl, length, arith, rules}
-use Rattle.listing_blocks.proofs.PieceSteps.{Listing, listing_start, listing_ready, listing_end, listing_full, block_within, block_room, block-places, block-less, listing_next}
+use Rattle.model.proofs.Prelude.{◌-◌, refl, arith}
+use Rattle.listing_blocks.proofs.PieceSteps.{listing_start, listing_ready, listing_end, listing_full, block_within, block_room, block-places, block-less, listing_next}
 use Rattle.listing_blocks.proofs.blocks.list_blocks.Goals as goal
 
 pub loop-used-init : goal.loop-used-init

@@ -1,6 +1,6 @@
 -- `listing_blocks::blocks::next_answer` meets its contract, case by case.
-use Rattle.model.proofs.Prelude.{refl, inl, inr, arith, rules}
-use Rattle.listing_blocks.proofs.PartCases.{next-none, next-some}
+use Rattle.model.proofs.Prelude.{inl, inr, arith, rules}
+use Rattle.listing_blocks.proofs.PartCases.{next-none}
 use Rattle.listing_blocks.proofs.blocks.next_answer.Goals as goal
 
 pub returns-then-records-ge64 : goal.returns-then-records-ge64

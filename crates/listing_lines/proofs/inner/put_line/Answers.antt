@@ -1,5 +1,5 @@
 -- `listing_lines::inner::put_line` meets its contract: the place and a space, then two numbers or the refusal.
-use Rattle.model.proofs.Prelude.{arith, rules}
+use Rattle.model.proofs.Prelude.{arith}
 use Rattle.text_line.proofs.DecimalLaws.{at-most-20}
 use Rattle.listing_lines.proofs.ListingLineLaws.{line_taken, line_refused}
 use Rattle.listing_lines.proofs.inner.put_line.Goals as goal

@@ -1,5 +1,5 @@
 -- `listing_lines::inner::put_pair` meets its contract: two numbers of at most 20 digits, a space between them and the end of the line.
-use Rattle.model.proofs.Prelude.{arith, rules}
+use Rattle.model.proofs.Prelude.{arith}
 use Rattle.text_line.proofs.DecimalLaws.{at-most-20}
 use Rattle.listing_lines.proofs.ListingLineLaws.{pair_put}
 use Rattle.listing_lines.proofs.inner.put_pair.Goals as goal

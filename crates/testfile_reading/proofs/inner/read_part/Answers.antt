@@ -1,5 +1,4 @@
 -- `testfile_reading::inner::read_part` meets its contract: what was read lies in the part that was lent.
-use Rattle.model.proofs.Prelude.{rules}
 use Rattle.testfile_reading.proofs.ReadPieceLaws.{read-cases}
 use Rattle.testfile_reading.proofs.inner.read_part.Goals as goal
 

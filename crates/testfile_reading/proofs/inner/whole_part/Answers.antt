@@ -1,5 +1,4 @@
 -- `testfile_reading::inner::whole_part` meets its contract: what is left of a division is taken away.
-use Rattle.model.proofs.Prelude.{rules}
 use native.Mathlib.Nat.{mod-le}
 use Rattle.testfile_reading.proofs.ReadPieceLaws.{part-cases}
 use Rattle.testfile_reading.proofs.inner.whole_part.Goals as goal

@@ -1,5 +1,5 @@
 -- `testfile_walk::inner::apply_pieces` meets its contract. The invariant, `Reading`: what was read so far is whole records, and they were taken.
-use Rattle.model.proofs.Prelude.{◌-◌, arith, rules}
+use Rattle.model.proofs.Prelude.{◌-◌, rules}
 use Rattle.testfile_walk.proofs.ReadingCases.{walk-cases}
 use Rattle.testfile_walk.proofs.inner.apply_pieces.Goals as goal
 

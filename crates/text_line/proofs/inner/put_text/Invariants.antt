@@ -1,6 +1,5 @@
 -- `text_line::inner::put_text` meets its contract. The invariant: what is left to write, written from here, gives the whole.
-use Rattle.model.proofs.Prelude.{◌≤◌, ◌+◌, ◌-◌, ◌≡◌, ◌∙◌, sym, length, drop, length-set, sets, arith, rules}
-use Rattle.text_line.proofs.LineLaws.{put_step, put-end}
+use Rattle.model.proofs.Prelude.{◌≤◌, ◌+◌, ◌-◌, ◌≡◌, length, drop, sets}
 use Rattle.text_line.proofs.inner.put_text.Given as goal
 
 abbrev pub invariant-loop-i : goal.invariant-loop-i

@@ -1,7 +1,7 @@
 -- `tree::each::answer_each` meets its contract: the answers so far, and those that the numbers left are given, are the answers of all numbers.
-use Rattle.model.proofs.Prelude.{◌≤◌, ◌-◌, rules}
+use Rattle.model.proofs.Prelude.{◌≤◌, ◌-◌}
 use Rattle.tree_words.specs.TreeLayout.{tree_runs}
-use Rattle.tree.proofs.EachCases.{Answering, each_step, each-end}
+use Rattle.tree.proofs.EachCases.{Answering}
 use Rattle.tree.proofs.each.answer_each.Given as goal
 
 abbrev pub invariant-loop-i : goal.invariant-loop-i

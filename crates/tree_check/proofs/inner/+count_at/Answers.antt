@@ -2,12 +2,6 @@
 -- what the calls of the body are asked and give
 use Rattle.model.proofs.Prelude.{rules}
 use Rattle.tree_check.proofs.CountCases.{count-leaf, count_fits, count-two, count-fits3, count-three}
-use Rattle.tree_check.proofs.inner.count_at.Reads as count-at
-use Rattle.tree_check.proofs.inner.count_at.Kinds as count-at-kinds
-use Rattle.tree_check.proofs.inner.+count_at.Lts-count_at as count-at-lts
-use Rattle.tree_words.proofs.inner.first_child.Reads as first-child-reads
-use Rattle.tree_words.proofs.inner.second_child.Reads as second-child-reads
-use Rattle.tree_words.proofs.inner.third_child.Reads as third-child-reads
 use Rattle.tree_check.proofs.inner.+count_at.Goals as goal
 
 pub overflow_add-result : goal.overflow_add-result

@@ -3,14 +3,6 @@
 use Rattle.model.proofs.Prelude.{rules}
 use Rattle.tree_check.proofs.TreeTestCases.{at_leaf, at-node, at_first, at_second, at-two, at-third}
 use Rattle.tree_check.proofs.NodeTestCases.{node-inside}
-use Rattle.tree_check.proofs.inner.sound_at.Reads as sound-at
-use Rattle.tree_check.proofs.inner.sound_at.Kinds as sound-at-kinds
-use Rattle.tree_check.proofs.inner.+sound_at.Lts-sound_at as sound-at-lts
-use Rattle.tree_words.proofs.inner.first_child.Reads as first-child-reads
-use Rattle.tree_words.proofs.inner.second_child.Reads as second-child-reads
-use Rattle.tree_words.proofs.inner.third_child.Reads as third-child-reads
-use Rattle.tree_check.proofs.inner.leaf_sound.Reads as leaf-sound-reads
-use Rattle.tree_check.proofs.inner.node_sound.Reads as node-sound-reads
 use Rattle.tree_check.proofs.inner.+sound_at.Goals as goal
 
 pub first_child-b-requires : goal.first_child-b-requires

@@ -1,6 +1,6 @@
 -- `tree_filling::filling::fill` meets its contract. The invariant, `FillingTree`: the leaves are the first i runs.
-use Rattle.model.proofs.Prelude.{◌-◌, refl, rules}
-use Rattle.tree_filling.proofs.FillSteps.{FillingTree, fill_start, fill_inserts, fill_next, fill_done}
+use Rattle.model.proofs.Prelude.{◌-◌}
+use Rattle.tree_filling.proofs.FillSteps.{FillingTree}
 use Rattle.tree_filling.proofs.filling.fill.Given as goal
 
 abbrev pub invariant-loop-i : goal.invariant-loop-i

@@ -1,6 +1,5 @@
 -- `viewer::answering::holds_with` meets its contract: what looking refuses, then the question.
 use Rattle.model.proofs.Prelude.{rules}
-use Rattle.model.proofs.Prelude.{arith}
 use Rattle.viewer.proofs.ViewCases.{own-few, view-cases}
 use Rattle.viewer.proofs.answering.holds_with.Goals as goal
 

@@ -1,6 +1,5 @@
 -- `viewer::answering::runs_with` meets its contract: what looking refuses, then too many runs, then the runs written.
 use Rattle.model.proofs.Prelude.{rules}
-use Rattle.model.proofs.Prelude.{arith}
 use Rattle.viewer.proofs.ViewCases.{own-few, view-written, view-cases}
 use Rattle.viewer.proofs.answering.runs_with.Goals as goal
 

@@ -1,6 +1,5 @@
 -- `viewer::answering::totals_with` meets its contract: what looking refuses, then the sizes of what he sees.
 use Rattle.model.proofs.Prelude.{rules}
-use Rattle.model.proofs.Prelude.{arith}
 use Rattle.viewer.proofs.ViewCases.{own-few, view-cases}
 use Rattle.viewer.proofs.answering.totals_with.Goals as goal
 

@@ -1,6 +1,5 @@
 -- `viewer_runs::inner::write_view` meets its contract: zeros and the number of tests are a store without runs, then each edge's runs are written.
-use Rattle.model.proofs.Prelude.{ℕ, ◌∙◌, length-set, rules}
-use Rattle.model.specs.Store.{tests_word}
+use Rattle.model.proofs.Prelude.{rules}
 use Rattle.viewer_runs.proofs.ViewWriteCases.{first-writable, second-writable, both-written}
 use Rattle.viewer_runs.proofs.inner.write_view.Goals as goal
 

@@ -1,6 +1,5 @@
 -- `length_ranks::inner::net_rows::fill_rows` meets its contract: the rows of the nets before the one at hand stand in the table.
-use Rattle.model.proofs.Prelude.{◌-◌, ◌≡◌}
-use Rattle.length_ranks.specs.NetRows.{RowsBefore}
+use Rattle.model.proofs.Prelude.{◌-◌}
 use Rattle.length_ranks.proofs.FillCases.{fill-cases}
 use Rattle.length_ranks.proofs.inner.net_rows.fill_rows.Goals as goal
 

@@ -1,8 +1,7 @@
 -- `report_differences::inner::walk::first_only` meets its contract. The invariant: no number passed is in the first runs only, and the runs before the places
 -- end before the number.
-use Rattle.model.proofs.Prelude.{◌≤◌, ◌-◌, arith, rules}
-use Rattle.report_differences.proofs.RunCases.{passed_later}
-use Rattle.report_differences.proofs.RangeCases.{first-start, first_found, first-later, first-none}
+use Rattle.model.proofs.Prelude.{◌-◌, rules}
+use Rattle.report_differences.proofs.RangeCases.{first-start}
 use Rattle.report_differences.proofs.inner.walk.first_only.Goals as goal
 
 pub loop-next-init : goal.loop-next-init
