@@ -5,7 +5,8 @@ pub mod number_calls;
 pub mod tree_calls;
 
 ghost use Rattle.std.specs.Prelude.{◌≡◌};
-ghost use Rattle.model.specs.Calls.{survey_call, empty_call, emptied_store, totals_call, fault_call, path_to_number_call, number_to_path_answer, number_to_path_buffer, test_answer, test_store, WorkAfter};
+ghost use Rattle.model.specs.Calls.{survey_call, empty_call, emptied_store, totals_call, fault_call, path_to_number_call, number_to_path_answer, number_to_path_buffer};
+ghost use Rattle.model.specs.Calls.{test_answer, test_store, WorkAfter};
 ghost use Rattle.model.specs.Report.{writer_answer, writer_buffer, audit_answer, audit_store};
 ghost use Rattle.audit_piece_steps.specs.Steps.{begin_answer, begin_store};
 ghost use Rattle.load.specs.Calls.{load_answer, load_buffer};

@@ -65,7 +65,9 @@ pub fn audit_stream(
             whole: true,
         },
         BeginAnswer::Ready => {
-            let walk = walk_file(opened, stderr, netlist, loaded, test_class, space, store, work);
+            let walk = walk_file(
+                opened, stderr, netlist, loaded, test_class, space, store, work,
+            );
             let records = walk.records;
             let written = true_report(netlist, records, store, truth);
             let taken = records.answer;
@@ -107,7 +109,9 @@ pub fn report_stream(
             whole: true,
         },
         BeginAnswer::Ready => {
-            let walk = walk_file(opened, stderr, netlist, loaded, test_class, space, store, work);
+            let walk = walk_file(
+                opened, stderr, netlist, loaded, test_class, space, store, work,
+            );
             let records = walk.records;
             let written = true_report(netlist, records, store, truth);
             let answer = written.answer;

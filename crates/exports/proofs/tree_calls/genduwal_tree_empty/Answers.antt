@@ -1,0 +1,7 @@
+-- `exports::tree_calls::genduwal_tree_empty` meets its contract: code and words are those of the answer of the call beneath.
+use Rattle.model.proofs.Prelude.{◌∙◌}
+use Rattle.exports.proofs.tree_calls.genduwal_tree_empty.Goals as goal
+
+pub returns : goal.returns
+returns c =
+    record { result_value = c.emptied_code.ensures ∙ c.tree_empty-emptied.ensures.answer; tree_after = c.tree_empty-emptied.ensures.words }

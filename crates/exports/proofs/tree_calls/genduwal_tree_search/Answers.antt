@@ -1,0 +1,6 @@
+-- `exports::tree_calls::genduwal_tree_search` meets its contract: code and words are those of the answer of the call beneath.
+use Rattle.c_answer_words.proofs.CodeLaws.{answered-by}
+use Rattle.exports.proofs.tree_calls.genduwal_tree_search.Goals as goal
+
+pub returns : goal.returns
+returns c = answered-by c.tree_search-found.ensures c.found_code.ensures

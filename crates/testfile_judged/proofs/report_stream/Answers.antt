@@ -1,0 +1,16 @@
+-- `testfile_judged::report_stream` meets its contract: a refusal at the beginning, or the report of a file that was walked over.
+use Rattle.model.proofs.Prelude.{rules}
+use Rattle.testfile_judged.proofs.StreamCases.{stream-cases}
+use Rattle.testfile_judged.proofs.report_stream.Goals as goal
+
+pub walk_file-walk-requires : goal.walk_file-walk-requires
+walk_file-walk-requires c = (search stream-cases, search stream-cases)
+
+pub true_report-written-requires : goal.true_report-written-requires
+true_report-written-requires c = search stream-cases
+
+pub returns-in-Refused : goal.returns-in-Refused
+returns-in-Refused c = (search stream-cases, search rules)
+
+pub returns-in-Ready : goal.returns-in-Ready
+returns-in-Ready c = (search stream-cases, search rules)
