@@ -6,8 +6,8 @@ use Rattle.model.specs.Netlist.{counts, output_count, path_total}
 use Rattle.model.specs.Path.{split, path_at, path_of}
 use Rattle.model.specs.Read.{read_gates, read_outputs_of, read_netlist}
 use Rattle.model.specs.Report.{same_bytes}
-use Rattle.bench_lines.specs.Text.{without_return, last_line_of, lines_from, lines_of, name_byte, word, word_then, sign_then, tokens_from, tokens_of, place, is_in, kind_names, io_names, ending, pins_from}
-use Rattle.bench_lines.specs.Text.{gate_from, io_of, io_from, statement_of}
+use Rattle.bench_lines.specs.Text.{without_return, last_line_of, lines_from, lines_of, name_byte, word, word_then, sign_then, tokens_from, tokens_of, place, is_in, kind_names, io_names}
+use Rattle.bench_lines.specs.Text.{ending, pins_from, gate_from, io_of, io_from, statement_of}
 use Rattle.bench_circuit.specs.Circuit.{net_names, input_fits, gate_fits, output_fits, gate_named, line_rules, added, line_by_line, end_rules, circuit_of}
 use Rattle.bench_text.specs.NetlistFile.{gate_records, output_nets, output_records, netlist_bytes, converted}
 use Rattle.bench_text.specs.Examples.{row, c17}

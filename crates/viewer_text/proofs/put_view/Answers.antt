@@ -5,7 +5,8 @@ use Rattle.viewer_text.proofs.put_view.Goals as goal
 
 pub put_answer-length-requires : goal.put_answer-length-requires
 put_answer-length-requires c =
-    answer-sound c.args.netlist.now c.args.store.now c.args.places.now c.no_words-view.result c.viewer_runs-answer.new.view c.no_words-view.ensures c.viewer_runs-answer.result c.viewer_runs-answer.ensures
+    answer-sound c.args.netlist.now c.args.store.now c.args.places.now c.no_words-view.result c.viewer_runs-answer.new.view c.no_words-view.ensures
+    c.viewer_runs-answer.result c.viewer_runs-answer.ensures
 
 pub returns-clause-answer_value : goal.returns-clause-answer_value
 returns-clause-answer_value c = search (answer-sound, view-put, view-answer, rules)

@@ -15,7 +15,7 @@ put_plain-requires c =
 
 pub returns : goal.returns
 returns c = (
-  bars_written c.args.gates c.args.paths c.args.rising c.args.falling c.height_of.result c.height_of-2.result (omega (arith, c.if-paths-eq0.false)) c.height_of.ensures c.height_of-2.ensures c.put_numbered-title.ensures.0 c.put_title-label.ensures.0
-      c.put_numbered-bars.ensures.0 c.put_pair-end.ensures.0 c.put_plain.ensures.0,
+  bars_written c.args.gates c.args.paths c.args.rising c.args.falling c.height_of.result c.height_of-2.result (omega (arith, c.if-paths-eq0.false))
+      c.height_of.ensures c.height_of-2.ensures c.put_numbered-title.ensures.0 c.put_title-label.ensures.0 c.put_numbered-bars.ensures.0 c.put_pair-end.ensures.0 c.put_plain.ensures.0,
   omega (arith, c.put_numbered-title.ensures.1, c.put_title-label.ensures.1, c.put_numbered-bars.ensures.1, c.put_pair-end.ensures.1, c.put_plain.ensures.1),
 )
