@@ -3,7 +3,7 @@ use Rattle.model.proofs.Prelude.{ℕ, ◌≤◌, ◌<◌, ◌+◌, ◌-◌, ◌*
 use Rattle.model.proofs.Prelude.{take, drop-drop, get_or-drop, T, ltb→lt, arith, rules}
 use Rattle.model.specs.Base.{value}
 use Rattle.model.specs.Netlist.{Netlist, Kind, gate_of, pins_of, pin_net, output_net}
-use Rattle.model.specs.Path.{valid, valid_at}
+use Rattle.model.specs.Path.{valid_at}
 use Rattle.model.specs.Read.{read_netlist, kind_of}
 use Rattle.model.proofs.AnswerLaws.{value_inj}
 use Rattle.model.proofs.NumberLaws.{gate-of, valid-parts}

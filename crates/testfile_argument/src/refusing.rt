@@ -6,7 +6,8 @@ ghost use Rattle.testfile_argument.specs.Refusing.{last_place, refused_line_of};
 
 use model::Refusal;
 use program_sentences::{
-    Line, STDERR_FILENO, empty_line, print_condition, print_line, with_number, with_refusal, with_text,
+    Line, STDERR_FILENO, empty_line, print_condition, print_line, with_number, with_refusal,
+    with_text,
 };
 use report_verdict::is_of_record;
 

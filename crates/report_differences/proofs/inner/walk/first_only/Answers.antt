@@ -1,6 +1,6 @@
 -- `report_differences::inner::walk::first_only` meets its contract. The invariant: no number passed is in the first runs only, and the runs before the places
 -- end before the number.
-use Rattle.model.proofs.Prelude.{◌-◌, rules}
+use Rattle.model.proofs.Prelude.{rules}
 use Rattle.report_differences.proofs.RangeCases.{first-start}
 use Rattle.report_differences.proofs.inner.walk.first_only.Goals as goal
 

@@ -1,6 +1,6 @@
 -- `report_differences::inner::walk::last_only` meets its contract. The invariant: every number passed is in the first runs only, and the runs before the
 -- places end with it or before.
-use Rattle.model.proofs.Prelude.{◌+◌, ◌-◌, arith, rules}
+use Rattle.model.proofs.Prelude.{◌+◌, arith, rules}
 use Rattle.report_differences.proofs.RunCases.{passed_later}
 use Rattle.report_differences.proofs.RangeCases.{last-start, last-number}
 use Rattle.report_differences.proofs.inner.walk.last_only.Goals as goal

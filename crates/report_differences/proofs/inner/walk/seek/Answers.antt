@@ -1,5 +1,4 @@
 -- `report_differences::inner::walk::seek` meets its contract. The invariant: the runs before the place end before the number.
-use Rattle.model.proofs.Prelude.{◌-◌}
 use Rattle.report_differences.proofs.RunCases.{passed-run, reached-run, reached-end}
 use Rattle.report_differences.proofs.inner.walk.seek.Goals as goal
 
