@@ -56,7 +56,13 @@ fn answer_store(stdin: Stdin, netlist: &[u8], store: &[u64]) {
 }
 
 // The same about the faults that the test file detects, in a class, that the second argument names.
-fn answer_tests<R: Env + Files<File = File>>(rt: &R, stdin: Stdin, stderr: Stderr, netlist: &[u8], class: u32) {
+fn answer_tests<R: Env + Files<File = File>>(
+    rt: &R,
+    stdin: Stdin,
+    stderr: Stderr,
+    netlist: &[u8],
+    class: u32,
+) {
     let mut store = [0u64; STORE_WORDS];
     let tests = store_of_tests(rt, stderr, 2, netlist, class, &mut store);
     if tests.taken {

@@ -17,8 +17,8 @@ use program_files::{
     close_file, file_name, has_argument, is_argument, load_argument, open_file, read_class,
 };
 use program_sentences::{
-    Line, NETLIST_BYTES, STDERR_FILENO, STDOUT_FILENO, empty_line, print, print_condition, print_line, print_version,
-    with_number, with_text,
+    Line, NETLIST_BYTES, STDERR_FILENO, STDOUT_FILENO, empty_line, print, print_condition,
+    print_line, print_version, with_number, with_text,
 };
 use report_bytes::layout::HEAD_BYTES;
 use report_runs::inner::head_of;

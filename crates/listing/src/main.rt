@@ -101,11 +101,19 @@ fn list<R: Env + Files<File = File>>(
 {
     let mut store = store_words();
     let mut work = work_words();
-    list_tests(rt, stdout, stderr, netlist, tables, class, &mut store, &mut work, out);
+    list_tests(
+        rt, stdout, stderr, netlist, tables, class, &mut store, &mut work, out,
+    );
 }
 
 // The listing on a netlist in a class: the first line, and the lines after it where both pass.
-fn list_circuit<R: Env + Files<File = File>>(rt: &R, stdout: Stdout, stderr: Stderr, netlist: &[u8], class: u32) {
+fn list_circuit<R: Env + Files<File = File>>(
+    rt: &R,
+    stdout: Stdout,
+    stderr: Stderr,
+    netlist: &[u8],
+    class: u32,
+) {
     let mut out = text_bytes();
     let head = put_head(netlist, class, &mut out);
     let end = head.end;
