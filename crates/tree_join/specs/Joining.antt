@@ -90,9 +90,9 @@ pub record Joins (ws ws' : List ℕ) (start free l a m b : ℕ) (p : Part) : Typ
   pub thin_b : l < m → child3 ws b ≡ 0 → p.levels ≤ m
 
 -- one node or two as a tree
-pub record AttachedRoot (ws ws' : List ℕ) (start free h a b : ℕ) (p : Part) : Type 0 where
+pub record Crowns (ws ws' : List ℕ) (start free h b : ℕ) (rs : List Run) (p : Part) : Type 0 where
   pub whole : Whole ws' start p.free p.levels p.root
-  pub leaves : leaves_of ws' p.levels p.root ≡ leaves_at ws h a ++ leaves_or ws h b
+  pub leaves : leaves_of ws' p.levels p.root ≡ rs
   pub kept : Kept ws ws' free p.free
   pub spent : p.free ≤ free + 8
   pub at_least : h + 1 ≤ p.levels
@@ -118,3 +118,6 @@ JoinedRight ws ws' start free h a k b g = Grows ws ws' start free h (16 * (h - k
 
 abbrev pub JoinedLeft : List ℕ → List ℕ → ℕ → ℕ → ℕ → ℕ → ℕ → ℕ → Grown → Type 0
 JoinedLeft ws ws' start free h a k b g = Grows ws ws' start free h (16 * (h - k)) (slim ws h a k) (leaves_at ws k b ++ leaves_at ws h a) g
+
+abbrev pub AttachedRoot : List ℕ → List ℕ → ℕ → ℕ → ℕ → ℕ → ℕ → Part → Type 0
+AttachedRoot ws ws' start free h a b p = Crowns ws ws' start free h b (leaves_at ws h a ++ leaves_or ws h b) p
