@@ -16,7 +16,7 @@ use std::fs::File;
 use std::io::{Stderr, Stdin};
 use std::rt::{Env, Files};
 use testfile_argument::{print_refused, store_of_tests};
-use tree_filling::{FillAnswer, fill_trees};
+use tree_filling::fill_trees;
 use tree_words::inner::TREE_WORDS;
 
 fn print_usage(fd: i32) {
@@ -46,8 +46,8 @@ fn answer_store(stdin: Stdin, netlist: &[u8], store: &[u64]) {
     let mut falling = no_tree();
     let filled = fill_trees(netlist, store, &mut rising, &mut falling);
     match filled {
-        FillAnswer::Refused(why) => print_refused(why, 0),
-        FillAnswer::Filled(paths) => {
+        Err(why) => print_refused(why, 0),
+        Ok(paths) => {
             let mut space = no_questions();
             let mut out = io::large_buffer();
             answer_input(stdin, paths, &rising, &falling, &mut space, &mut out);

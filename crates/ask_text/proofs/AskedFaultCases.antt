@@ -15,7 +15,7 @@ use Rattle.tree_words.specs.Ways.{way_to}
 use Rattle.tree_words.specs.Calls.{holds_call}
 use Rattle.tree_words.specs.Nodes.{SoundTree}
 use Rattle.tree_descent.specs.declared.inner.Visit.{Visit}
-use Rattle.tree.proofs.TreeCallCases.{holds-yes, holds-no}
+use Rattle.tree.proofs.TreeCallCases.{holds-taken}
 use Rattle.tree_filling.specs.TreesOfStore.{TreesReady}
 use Rattle.ask_text.specs.Questions.{tree_of, fault_asked}
 use Rattle.ask_text.specs.Pieces.{FaultVisited}
@@ -75,12 +75,10 @@ module _ (paths : ℕ) (up down : List ℕ) (fault : ℕ) (b : Bool) (eb : b ≡
     sound = either-sound t.up_sound t.down_sound (edge_of_fault fault)
 
     answer : (held : Bool) → v.held ≡ held → value (record { held = held; visited = v.visited }) ≡ holds_call tree (path_of_fault fault)
-    answer true e =
-        holds-yes tree (path_of_fault fault) sound.long true (sym sound.sound) refl (omega (arith, low)) (omega (arith, high, t.few)) v.held v.visited
-        f.held f.visited e
-    answer false e =
-        holds-no tree (path_of_fault fault) sound.long true (sym sound.sound) refl (omega (arith, low)) (omega (arith, high, t.few)) v.held v.visited
-        f.held f.visited e
+    answer held e =
+        ap (λ (x : Bool). value (record { held = x; visited = v.visited })) (sym e)
+        ∙ holds-taken tree (path_of_fault fault) sound.long true (sym sound.sound) refl (omega (arith, low)) (omega (arith, high, t.few)) v.held v.visited
+        f.held f.visited
 
     pub asked-visited : (held : Bool) → v.held ≡ held → fault_asked paths up down fault ≡ value (record { held = held; visited = v.visited })
     unfolding fault_asked

@@ -14,12 +14,12 @@ use Rattle.tree_words.specs.Ways.{way_to}
 use Rattle.tree_words.proofs.WayLaws.{way-levels}
 use Rattle.tree_words.specs.Calls.{Asked}
 use Rattle.tree_filling.specs.TreesOfStore.{fill_call, FillTrue}
-use Rattle.tree_filling.specs.declared.FillAnswer.TheVariants as fill
 use Rattle.tree_filling.proofs.TreeFillCases.{Found, found_all, filled_runs, trees-ready}
 use Rattle.ask_text.specs.Questions.{tree_of, fault_asked}
 use Rattle.ask_text.proofs.AskedFaultCases.{asked-refused, asked-visited}
+use Rattle.std.specs.Prelude.{Ok}
 
-module _ (netlist store up up' down down' : List ℕ) (paths : ℕ) (f : FillTrue (fill.Filled paths) netlist store up up' down down') where
+module _ (netlist store up up' down down' : List ℕ) (paths : ℕ) (f : FillTrue (Ok paths) netlist store up up' down down') where
   filled : fill_call netlist store up down ≡ value paths
   filled = sym f.answer
 
@@ -53,7 +53,7 @@ module _ (netlist store up up' down down' : List ℕ) (paths : ℕ) (f : FillTru
     of_trees =
         ⊎_elim
         (λ (t : within 1 (2 * paths) fault ≡ true).
-        asked-visited paths up' down' fault true (sym t) refl (trees-ready (fill.Filled paths) netlist store up up' down down' f paths refl)
+        asked-visited paths up' down' fault true (sym t) refl (trees-ready (Ok paths) netlist store up up' down down' f paths refl)
         (record { held = held; visited = length (way_to (tree_of up' down' fault) (path_of_fault fault)) })
         (record { held = sym (ap (λ (rs : List Run). in_runs rs (path_of_fault fault)) (runs_of (edge_of_fault fault))); visited = refl })
         held refl

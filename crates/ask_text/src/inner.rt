@@ -68,10 +68,8 @@ pub fn put_answers(
     ensures { PieceAnswered asking result paths rising.now falling.now piece.now out.old out.new }
 {
     let mut at = asking;
-    let mut i = 0;
-    while i < piece.len() {
+    for i in 0..piece.len() {
         at = take_byte(out, paths, rising, falling, at, piece[i]);
-        i += 1;
     }
     at
 }

@@ -14,22 +14,20 @@ use Rattle.model.proofs.AnswerLaws.{not_refused}
 use Rattle.model.proofs.ReportLaws.{length-records}
 use Rattle.model.proofs.RefusalLaws.{audit_found, audit_emptied, audit_kept}
 use Rattle.netlist.specs.Answers.{LoadedTrue}
-use Rattle.netlist.specs.declared.SurveyAnswer.TheVariants as survey
 use Rattle.netlist.specs.declared.inner.Loaded.{Loaded}
 use Rattle.netlist.proofs.LoadLaws.{loaded_legal, loaded_refused}
 use Rattle.store_words.specs.Sound.{SoundWords}
 use Rattle.store_coverage.specs.Stage.{MemoryReady}
-use Rattle.store_coverage.specs.declared.inner.StageAnswer.TheVariants as stage
 use Rattle.audit_block.specs.RecordsTaken.{left_store}
 use Rattle.audit_block.specs.declared.inner.TakenRecords.{TakenRecords}
 use Rattle.audit_block.proofs.MemoryLaws.{of_netlist_lem, emptied, empty-memory, all-memory, memory-sound}
 use Rattle.audit_records.specs.FileRecords.{FileTaken, Ready}
 use Rattle.audit_records.proofs.ReadyLaws.{ready-inputs, ready-records}
-use Rattle.audit_judging.specs.FileJudging.{audited_of, whole_length_of, reported, Judged}
-use Rattle.audit_judging.specs.declared.AuditAnswer.{AuditAnswer}
-use Rattle.audit_judging.specs.declared.AuditAnswer.TheVariants as audit
+use Rattle.audit_judging.specs.FileJudging.{whole_length_of, reported, Judged}
 use Rattle.audit.specs.Answers.{AuditTrue}
 use Rattle.audit.specs.TestFile.{audit_file, FileAudited}
+use Rattle.std.specs.Prelude.{Result, Ok, Err}
+use Rattle.model.specs.Returned.{answer_of}
 
 module _ (netlist : List ℕ) (loaded : Loaded) (ws work : List ℕ) (ready : Ready netlist loaded ws work) (empty : ws ≡ empty_store) where
   abbrev C : Netlist
@@ -40,10 +38,10 @@ module _ (netlist : List ℕ) (loaded : Loaded) (ws work : List ℕ) (ready : Re
     call N = audit_file N (class_of class) test_file report
 
     -- from the audit of the netlist at hand
-    audited : (r : AuditAnswer) (ws' work' : List ℕ) → audited_of r ≡ passes (call C) → ws' ≡ left_store (call C)
+    audited : (r : Result (Unit {0}) Refusal) (ws' work' : List ℕ) → answer_of r ≡ passes (call C) → ws' ≡ left_store (call C)
         → length work' ≡ length work → drop work_words_count work' ≡ drop work_words_count work → FileAudited r netlist class test_file report ws' work work'
     audited r ws' work' a s l p = record {
-      answer = of_netlist_lem netlist ready.tables.legal (λ N. audited_of r ≡ passes (call N)) a;
+      answer = of_netlist_lem netlist ready.tables.legal (λ N. answer_of r ≡ passes (call N)) a;
       store = of_netlist_lem netlist ready.tables.legal (λ N. ws' ≡ left_store (call N)) s;
       same_length_of = l;
       past_work = p;
@@ -56,11 +54,11 @@ module _ (netlist : List ℕ) (loaded : Loaded) (ws work : List ℕ) (ready : Re
       whole_is : whole_length_of (record_length C) (length test_file) ≡ b
       whole_is = ap (λ (i : ℕ). whole_length_of i (length test_file)) (sym each-is) ∙ sym eb
 
-      pub file-cut : not b ≡ true → FileAudited (audit.Refused why.TestFileLength) netlist class test_file report ws work work
+      pub file-cut : not b ≡ true → FileAudited (Err why.TestFileLength) netlist class test_file report ws work work
       unfolding audit_file left_store
       file-cut n =
           let e = whole_is ∙ not-true b n in
-          audited (audit.Refused why.TestFileLength) ws work (rw e refl) (empty ∙ rw e refl) refl refl
+          audited (Err why.TestFileLength) ws work (rw e refl) (empty ∙ rw e refl) refl refl
 
       module _ (n : not b ≡ false) (r : TakenRecords) (ws' work' : List ℕ)
           (t : FileTaken r netlist loaded.positions loaded.counts loaded.shape class test_file ws ws' work work') where
@@ -75,15 +73,15 @@ module _ (netlist : List ℕ) (loaded : Loaded) (ws work : List ℕ) (ready : Re
             length-records (record_length C) (length test_file / record_length C) test_file ∙ ap (λ (i : ℕ). length test_file / i) (sym each-is) in
             rw (whole_is ∙ not-false b n, count, ← ready.total_is, ← empty) refl
 
-        pub file-record : (w : Refusal) → r.answer ≡ stage.Refused w → FileAudited (audit.Refused w) netlist class test_file report ws' work work'
+        pub file-record : (w : Refusal) → r.answer ≡ Err w → FileAudited (Err w) netlist class test_file report ws' work work'
         unfolding left_store
         file-record w q =
             let x = t.of_circuit C ready.tables in
             let e : taken ≡ refused (refusal_number_of w) = sym (rw q at x.answer) in
             let f : call C ≡ refused (refusal_number_of w) = call-is ∙ rw e refl in
-            audited (audit.Refused w) ws' work' (rw f refl) (x.store ∙ rw (e, f) refl) t.same_length_of t.past_work
+            audited (Err w) ws' work' (rw f refl) (x.store ∙ rw (e, f) refl) t.same_length_of t.past_work
 
-        module _ (q : r.answer ≡ stage.Taken) where
+        module _ (q : r.answer ≡ Ok tt) where
           left : taken ≡ value ws'
           left = sym (rw q at (t.of_circuit C ready.tables).answer)
 
@@ -92,7 +90,7 @@ module _ (netlist : List ℕ) (loaded : Loaded) (ws work : List ℕ) (ready : Re
               memory-sound netlist C ready.tables.legal ws' work'
               (all-memory C (class_of class) ws work work' ready.memory t.same_length_of (file_records C test_file) ws' left)
 
-          pub file-judged : (a : AuditAnswer) (ws'' : List ℕ) → Judged a (length test_file / each) loaded.total report ws' ws''
+          pub file-judged : (a : Result (Unit {0}) Refusal) (ws'' : List ℕ) → Judged a (length test_file / each) loaded.total report ws' ws''
               → FileAudited a netlist class test_file report ws'' work work'
           file-judged a ws'' j =
               let e : call C ≡ reported (length test_file / each) loaded.total report ws' = call-is ∙ rw left refl in
@@ -115,7 +113,7 @@ module _ (netlist : List ℕ) (class : ℕ) (test_file report ws work : List ℕ
   abbrev lent : Answer (Unit {0})
   lent = checks (store_rule ws ∷ work_rule work ∷ [])
 
-  at-lent : (w : Refusal) → lent ≡ refused (refusal_number_of w) → AuditTrue (audit.Refused w) netlist class test_file report ws ws work work
+  at-lent : (w : Refusal) → lent ≡ refused (refusal_number_of w) → AuditTrue (Err w) netlist class test_file report ws ws work work
   unfolding audit_answer audit_call
   at-lent w e = record {
     answer = rw e refl;
@@ -123,33 +121,33 @@ module _ (netlist : List ℕ) (class : ℕ) (test_file report ws work : List ℕ
     work = kept netlist class ws work;
   }
 
-  pub audit_words : (length ws ≡ store_words_count → ⊥) → AuditTrue (audit.Refused why.StoreLength) netlist class test_file report ws ws work work
+  pub audit_words : (length ws ≡ store_words_count → ⊥) → AuditTrue (Err why.StoreLength) netlist class test_file report ws ws work work
   audit_words d = at-lent why.StoreLength (rw (ne_eqb (length ws) store_words_count d) refl)
 
   module _ (l : length ws ≡ store_words_count) where
-    pub audit_short : length work < work_words_count → AuditTrue (audit.Refused why.WorkLength) netlist class test_file report ws ws work work
+    pub audit_short : length work < work_words_count → AuditTrue (Err why.WorkLength) netlist class test_file report ws ws work work
     audit_short h = at-lent why.WorkLength (rw (eq-eqb (length ws) store_words_count l, lt-leb work_words_count (length work) h) refl)
 
     module _ (h : work_words_count ≤ length work) where
       passed : lent ≡ value tt
       passed = rw (eq-eqb (length ws) store_words_count l, le-leb work_words_count (length work) h) refl
 
-      module _ (ws' : List ℕ) (z : ws' ≡ replicate (length ws) 0) (loaded : Loaded) (t : LoadedTrue loaded netlist) where
-        pub audit_netlist : (w : Refusal) → loaded.answer ≡ survey.Refused w → AuditTrue (audit.Refused w) netlist class test_file report ws ws' work work
+      module _ (ws' : List ℕ) (z : ws' ≡ replicate (length ws) 0) (found : Result Loaded Refusal) (t : LoadedTrue found netlist) where
+        pub audit_netlist : (w : Refusal) → found ≡ Err w → AuditTrue (Err w) netlist class test_file report ws ws' work work
         unfolding audit_answer audit_call
         audit_netlist w e =
-            let a : audit_call netlist class test_file report ws work ≡ refused (refusal_number_of w) = rw (passed, loaded_refused loaded netlist t w e) refl in
+            let a : audit_call netlist class test_file report ws work ≡ refused (refusal_number_of w) = rw (passed, loaded_refused found netlist t w e) refl in
             record {
               answer = sym (ap (λ (x : Answer (List ℕ)). passes x) a);
               store = emptied ws' (length ws) z l ∙ sym (audit_emptied netlist class test_file report ws work (refusal_number_of w) passed a);
               work = kept netlist class ws work;
             }
 
-        pub audit_class : loaded.answer ≡ survey.Legal → (k : Bool) → k ≡ within 1 2 class → not k ≡ true
-            → AuditTrue (audit.Refused why.UnknownClass) netlist class test_file report ws ws' work work
+        pub audit_class : (loaded : Loaded) → found ≡ Ok loaded → (k : Bool) → k ≡ within 1 2 class → not k ≡ true
+            → AuditTrue (Err why.UnknownClass) netlist class test_file report ws ws' work work
         unfolding audit_answer audit_call
-        audit_class e k ek hk =
-            let d = loaded_legal loaded netlist t e in
+        audit_class loaded e k ek hk =
+            let d = loaded_legal found netlist t loaded e in
             let q : within 1 2 class ≡ false = sym ek ∙ not-true k hk in
             let a : audit_call netlist class test_file report ws work ≡ refused 83 = rw (passed, d.tables.legal) (rw q refl) in
             record {
@@ -158,13 +156,13 @@ module _ (netlist : List ℕ) (class : ℕ) (test_file report ws work : List ℕ
               work = kept netlist class ws work;
             }
 
-        module _ (e : loaded.answer ≡ survey.Legal) where
+        module _ (loaded : Loaded) (e : found ≡ Ok loaded) where
           pub audit_empty : ws' ≡ empty_store
           audit_empty = emptied ws' (length ws) z l
 
           pub audit_ready : Ready netlist loaded ws' work
           audit_ready =
-              let d = loaded_legal loaded netlist t e in
+              let d = loaded_legal found netlist t loaded e in
               record {
                 circuit = d.circuit;
                 tables = d.tables;
@@ -172,11 +170,11 @@ module _ (netlist : List ℕ) (class : ℕ) (test_file report ws work : List ℕ
                 memory = subst (λ (x : List ℕ). MemoryReady d.circuit x work) (sym audit_empty) (empty-memory d.circuit work h);
               }
 
-          pub audit_done : (r : AuditAnswer) (ws'' work'' : List ℕ) (k : Bool) → k ≡ within 1 2 class → not k ≡ false
+          pub audit_done : (r : Result (Unit {0}) Refusal) (ws'' work'' : List ℕ) (k : Bool) → k ≡ within 1 2 class → not k ≡ false
               → FileAudited r netlist class test_file report ws'' work work'' → AuditTrue r netlist class test_file report ws ws'' work work''
           unfolding audit_answer audit_call audit_file
           audit_done r ws'' work'' k ek hk f =
-              let d = loaded_legal loaded netlist t e in
+              let d = loaded_legal found netlist t loaded e in
               let before : before_test netlist class ws work ≡ value d.circuit = rw (passed, d.tables.legal) (rw (sym ek ∙ not-false k hk) refl) in
               let a : audit_call netlist class test_file report ws work ≡ audit_file d.circuit (class_of class) test_file report = rw before refl in
               record {

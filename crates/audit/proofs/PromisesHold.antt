@@ -14,16 +14,12 @@ use Rattle.model.proofs.ReportsHold.{demand_3}
 use Rattle.model.proofs.UnchangedHolds.{unchanged_pairs}
 use Rattle.store_coverage.specs.TestCall.{tested_of}
 use Rattle.store.specs.Answers.{totals_among}
-use Rattle.store.specs.declared.TotalsAnswer.{TotalsAnswer}
-use Rattle.store.specs.declared.TotalsAnswer.TheVariants as totals
-use Rattle.report.specs.Answers.{written_of}
-use Rattle.report.specs.declared.WriteAnswer.{WriteAnswer}
-use Rattle.report.specs.declared.WriteAnswer.TheVariants as write
-use Rattle.audit_judging.specs.FileJudging.{audited_of}
 use Rattle.audit.specs.CountedCalls.{calls_of}
 use Rattle.audit.specs.Promised.{MadeCall, TakenCall, Promised, last_store, with_taken, taken_tests, TotalsTrue, ListTrue, CallsTrue, PaddingRefused}
-use Rattle.audit_judging.specs.declared.AuditAnswer.{AuditAnswer}
-use Rattle.audit_judging.specs.declared.AuditAnswer.TheVariants as audit
+use Rattle.std.specs.Prelude.{Result, Ok, Err}
+use Rattle.model.specs.declared.Refusal.{Refusal}
+use Rattle.store_words.specs.declared.inner.StoreTotals.{StoreTotals}
+use Rattle.model.specs.Returned.{answer_of}
 
 -- the state that a list of calls leaves, by what they answered and left
 abbrev pub state_of : Netlist → State → List MadeCall → State
@@ -60,20 +56,20 @@ module _ (netlist : List ℕ) (N : Netlist) where
     state-true : (ms : List MadeCall) → Promised netlist empty_store ms → StoreTrue netlist N (state_of N start ms)
     state-true ms p = subst (λ (s : State). StoreTrue netlist N s) (state-after ms start p) (demand_3.after_every_list netlist N e (calls_of ms))
 
-    totals-true : (ms : List MadeCall) → Promised netlist empty_store ms → (r : TotalsAnswer) → totals_among r ≡ totals_call netlist (last_store empty_store ms)
+    totals-true : (ms : List MadeCall) → Promised netlist empty_store ms → (r : Result StoreTotals Refusal) → totals_among r ≡ totals_call netlist (last_store empty_store ms)
         → TotalsTrue N (taken_tests N [] ms) r
     totals-true ms p r q =
         let s = state-true ms p in
         go r (q ∙ s.totals_gives)
       where
-        go : (r : TotalsAnswer) → totals_among r ≡ value (state-true ms p).sums → TotalsTrue N (taken_tests N [] ms) r
-        go (totals.Refused w) z = absurd (not_refused z)
-        go (totals.Totals a b) z =
+        go : (r : Result StoreTotals Refusal) → totals_among r ≡ value (state-true ms p).sums → TotalsTrue N (taken_tests N [] ms) r
+        go (Err w) z = absurd (not_refused z)
+        go (Ok t) z =
             let s = state-true ms p in
-            let c : record { on_rising = a; on_falling = b } ≡ s.sums = value_inj z in
+            let c : record { on_rising = t.rising; on_falling = t.falling } ≡ s.sums = value_inj z in
             record {
-              on_rising = a;
-              on_falling = b;
+              on_rising = t.rising;
+              on_falling = t.falling;
               returned = refl;
               rising_true = subst (λ (k : ℕ). demand.CountOf (demand.Detected N (taken_tests N [] ms) rising) k) (ap (λ (x : ByEdge ℕ). x.on_rising) (sym c)) (s.totals_true rising);
               falling_true = subst (λ (k : ℕ). demand.CountOf (demand.Detected N (taken_tests N [] ms) falling) k) (ap (λ (x : ByEdge ℕ). x.on_falling) (sym c)) (s.totals_true falling);
@@ -117,13 +113,13 @@ module _ (netlist : List ℕ) (N : Netlist) where
     }
 
 -- the answers, from their numbers and values
-written_is : (r : WriteAnswer) (n : ℕ) → written_of r ≡ value n → r ≡ write.Written n
-written_is (write.Written k) n e = ap write.Written (value_inj e)
-written_is (write.Refused w) n e = absurd (not_refused e)
+written_is : (r : Result ℕ Refusal) (n : ℕ) → answer_of r ≡ value n → r ≡ Ok n
+written_is (Ok k) n e = ap Ok (value_inj e)
+written_is (Err w) n e = absurd (not_refused e)
 
-accepted_is : (r : AuditAnswer) → audited_of r ≡ value tt → r ≡ audit.Accepted
-accepted_is audit.Accepted e = refl
-accepted_is (audit.Refused w) e = absurd (not_refused e)
+accepted_is : (r : Result (Unit {0}) Refusal) → answer_of r ≡ value tt → r ≡ Ok tt
+accepted_is (Ok tt) e = refl
+accepted_is (Err w) e = absurd (not_refused e)
 
 -- Demand 3
 pub calls-true : CallsTrue
@@ -140,11 +136,11 @@ calls-true = record {
         written = w.buffer ∙ t.written;
       };
   audits = λ r netlist class test_file report ws ws' found left a. (
-    λ q. (demand_3.audits netlist class test_file report ws found).0 (sym a.answer ∙ ap audited_of q),
+    λ q. (demand_3.audits netlist class test_file report ws found).0 (sym a.answer ∙ ap answer_of q),
     λ q. accepted_is r (a.answer ∙ (demand_3.audits netlist class test_file report ws found).1 q),
   );
   accepted_names = λ r netlist class test_file report ws ws' found left a q.
-      demand_3.accepted_names netlist class test_file report ws found (sym a.answer ∙ ap audited_of q);
+      demand_3.accepted_names netlist class test_file report ws found (sym a.answer ∙ ap answer_of q);
   audits_other_class = λ r netlist class test_file report ws ws' found left a N e k l m.
       a.answer ∙ demand_3.audits_other_class netlist N e class k test_file report ws found l m;
 }
@@ -153,5 +149,5 @@ calls-true = record {
 pub padding_refused : PaddingRefused
 padding_refused = record {
   not_accepted = λ r netlist class test_file report ws ws' found left a N e rec m u q.
-      unchanged_pairs.not_accepted netlist N e class test_file report ws found rec m u (sym a.answer ∙ ap audited_of q);
+      unchanged_pairs.not_accepted netlist N e class test_file report ws found rec m u (sym a.answer ∙ ap answer_of q);
 }

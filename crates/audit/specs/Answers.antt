@@ -2,11 +2,12 @@
 use Rattle.std.specs.Prelude.{◌≡◌, List, ℕ}
 use Rattle.model.specs.Calls.{WorkAfter}
 use Rattle.model.specs.Report.{audit_answer, audit_store}
-use Rattle.audit_judging.specs.FileJudging.{audited_of}
-use Rattle.audit_judging.specs.declared.AuditAnswer.{AuditAnswer}
+use Rattle.std.specs.Prelude.{Result}
+use Rattle.model.specs.declared.Refusal.{Refusal}
+use Rattle.model.specs.Returned.{answer_of}
 
 -- The audit: its answer, the store afterwards, and what holds of the working memory, in which the first 8,192 words are free
-pub record AuditTrue (r : AuditAnswer) (netlist : List ℕ) (class : ℕ) (test_file report ws ws' found left : List ℕ) : Type 0 where
-  pub answer : audited_of r ≡ audit_answer netlist class test_file report ws found
+pub record AuditTrue (r : Result (Unit {0}) Refusal) (netlist : List ℕ) (class : ℕ) (test_file report ws ws' found left : List ℕ) : Type 0 where
+  pub answer : answer_of r ≡ audit_answer netlist class test_file report ws found
   pub store : ws' ≡ audit_store netlist class test_file report ws found
   pub work : WorkAfter netlist class ws found left

@@ -14,22 +14,19 @@ use Rattle.model.specs.Demand3.{Call, test_in, known_class, CountOf, Detected, R
 use Rattle.model.specs.Unchanged.{Unchanged}
 use Rattle.store_coverage.specs.TestCall.{tested_of}
 use Rattle.single_call.specs.TestPromise.{TestTrue}
-use Rattle.store_coverage.specs.declared.TestAnswer.{TestAnswer}
 use Rattle.store.specs.Answers.{totals_among}
-use Rattle.store.specs.declared.TotalsAnswer.{TotalsAnswer}
-use Rattle.store.specs.declared.TotalsAnswer.TheVariants as totals
 use Rattle.report.specs.Answers.{WriteTrue}
-use Rattle.report.specs.declared.WriteAnswer.{WriteAnswer}
-use Rattle.report.specs.declared.WriteAnswer.TheVariants as write
 use Rattle.audit.specs.Answers.{AuditTrue}
-use Rattle.audit_judging.specs.FileJudging.{audited_of}
-use Rattle.audit_judging.specs.declared.AuditAnswer.{AuditAnswer}
-use Rattle.audit_judging.specs.declared.AuditAnswer.TheVariants as audit
+use Rattle.std.specs.Prelude.{Result, Ok}
+use Rattle.model.specs.declared.Refusal.{Refusal}
+use Rattle.store_coverage.specs.declared.TestCounts.{TestCounts}
+use Rattle.store_words.specs.declared.inner.StoreTotals.{StoreTotals}
+use Rattle.model.specs.Returned.{answer_of}
 
 -- A test call that was made: what it was handed besides netlist and store, what it returned, and the store and the working memory as it left them
 pub record MadeCall : Type 0 where
   pub call : Call
-  pub answer : TestAnswer
+  pub answer : Result TestCounts Refusal
   pub left : List ℕ
   pub work_left : List ℕ
 
@@ -59,10 +56,10 @@ taken_tests N before [] = before
 taken_tests N before (m ∷ ms) = taken_tests N (with_taken (tested_of m.answer) (test_in N m.call) before) ms
 
 -- What the totals call returned: for each edge the number of distinct faults that the tests detect
-pub record TotalsTrue (N : Netlist) (ts : List Test) (r : TotalsAnswer) : Type 0 where
+pub record TotalsTrue (N : Netlist) (ts : List Test) (r : Result StoreTotals Refusal) : Type 0 where
   pub on_rising : ℕ
   pub on_falling : ℕ
-  pub returned : r ≡ totals.Totals on_rising on_falling
+  pub returned : r ≡ Ok (record { rising = on_rising; falling = on_falling })
   pub rising_true : CountOf (Detected N ts rising) on_rising
   pub falling_true : CountOf (Detected N ts falling) on_falling
 
@@ -75,7 +72,7 @@ pub record ListTrue (netlist : List ℕ) (N : Netlist) (ms : List MadeCall) : Ty
   -- its third word is the number of calls taken
   pub tests_true : tests_taken_of (last_store empty_store ms) ≡ length (taken_tests N [] ms)
   -- the totals call then gives the numbers of distinct faults so detected
-  pub totals_true : (r : TotalsAnswer) → totals_among r ≡ totals_call netlist (last_store empty_store ms) → TotalsTrue N (taken_tests N [] ms) r
+  pub totals_true : (r : Result StoreTotals Refusal) → totals_among r ≡ totals_call netlist (last_store empty_store ms) → TotalsTrue N (taken_tests N [] ms) r
   -- each call was taken exactly when no condition for refusing it holds, and a taken one returned true numbers
   pub taken_exactly : (before : List MadeCall) (m : MadeCall) (rest : List MadeCall) → ms ≡ before ++ (m ∷ rest)
       → TakenCall m ↔ NoRefusal N (taken_tests N [] before) m.call
@@ -86,11 +83,11 @@ pub record ListTrue (netlist : List ℕ) (N : Netlist) (ms : List MadeCall) : Ty
       → work_words_count ≤ length m.call.work → T (not (known_class m.call.class)) → tested_of m.answer ≡ refused 83
 
 -- What the writer left and returned: the true report, which names exactly the faults that the tests detect, and the bytes past it as they were
-pub record WrittenTrue (N : Netlist) (c : Class) (test_file found left : List ℕ) (r : WriteAnswer) : Type 0 where
+pub record WrittenTrue (N : Netlist) (c : Class) (test_file found left : List ℕ) (r : Result ℕ Refusal) : Type 0 where
   pub report : List ℕ
   pub is_true : TrueReport N (tests_of N c test_file) report
   pub names : NamesDetected N (tests_of N c test_file) report
-  pub returned : r ≡ write.Written (length report)
+  pub returned : r ≡ Ok (length report)
   pub written : left ≡ report ++ drop (length report) found
 
 -- Demand 3, of the values that the calls return
@@ -101,23 +98,23 @@ pub record CallsTrue : Type 0 where
       → (test_file : List ℕ) → WhollyTaken N (class_of class) test_file
       → (ms : List MadeCall) → Promised netlist empty_store ms → FileCalls N class test_file (map (λ m. m.call) ms)
       → (found left : List ℕ) → report_buffer_bytes ≤ length found
-      → (r : WriteAnswer) → WriteTrue r netlist (last_store empty_store ms) found left
+      → (r : Result ℕ Refusal) → WriteTrue r netlist (last_store empty_store ms) found left
       → WrittenTrue N (class_of class) test_file found left r
-  pub audits : (r : AuditAnswer) (netlist : List ℕ) (class : ℕ) (test_file report ws ws' found left : List ℕ)
+  pub audits : (r : Result (Unit {0}) Refusal) (netlist : List ℕ) (class : ℕ) (test_file report ws ws' found left : List ℕ)
       → AuditTrue r netlist class test_file report ws ws' found left
-      → (r ≡ audit.Accepted) ↔ Acceptable netlist class test_file report ws found
+      → (r ≡ Ok tt) ↔ Acceptable netlist class test_file report ws found
   -- and the report that it accepts names exactly the faults that the file's tests detect, judged in that class
-  pub accepted_names : (r : AuditAnswer) (netlist : List ℕ) (class : ℕ) (test_file report ws ws' found left : List ℕ)
+  pub accepted_names : (r : Result (Unit {0}) Refusal) (netlist : List ℕ) (class : ℕ) (test_file report ws ws' found left : List ℕ)
       → AuditTrue r netlist class test_file report ws ws' found left
-      → r ≡ audit.Accepted → (N : Netlist) → read_netlist netlist ≡ value N → NamesDetected N (tests_of N (class_of class) test_file) report
+      → r ≡ Ok tt → (N : Netlist) → read_netlist netlist ≡ value N → NamesDetected N (tests_of N (class_of class) test_file) report
   -- on a legal netlist, with memory of 01's lengths, an audit that was handed another class was refused 83
-  pub audits_other_class : (r : AuditAnswer) (netlist : List ℕ) (class : ℕ) (test_file report ws ws' found left : List ℕ)
+  pub audits_other_class : (r : Result (Unit {0}) Refusal) (netlist : List ℕ) (class : ℕ) (test_file report ws ws' found left : List ℕ)
       → AuditTrue r netlist class test_file report ws ws' found left
       → (N : Netlist) → read_netlist netlist ≡ value N → T (not (known_class class)) → length ws ≡ store_words_count → work_words_count ≤ length found
-      → audited_of r ≡ refused 83
+      → answer_of r ≡ refused 83
 
 -- Pairs that change nothing, of the value that the audit returns: a report whose list of tests holds one is not accepted
 pub record PaddingRefused : Type 0 where
-  pub not_accepted : (r : AuditAnswer) (netlist : List ℕ) (class : ℕ) (test_file report ws ws' found left : List ℕ)
+  pub not_accepted : (r : Result (Unit {0}) Refusal) (netlist : List ℕ) (class : ℕ) (test_file report ws ws' found left : List ℕ)
       → AuditTrue r netlist class test_file report ws ws' found left → (N : Netlist) → read_netlist netlist ≡ value N
-      → (rec : List ℕ) → Memᴰ rec (file_records N test_file) → Unchanged N rec → r ≡ audit.Accepted → ⊥
+      → (rec : List ℕ) → Memᴰ rec (file_records N test_file) → Unchanged N rec → r ≡ Ok tt → ⊥

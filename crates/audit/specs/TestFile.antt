@@ -8,8 +8,10 @@ use Rattle.model.specs.Store.{empty_store}
 use Rattle.model.specs.Calls.{work_words_count}
 use Rattle.model.specs.Report.{file_records, whole_records, test_all}
 use Rattle.audit_block.specs.RecordsTaken.{left_store}
-use Rattle.audit_judging.specs.declared.AuditAnswer.{AuditAnswer}
-use Rattle.audit_judging.specs.FileJudging.{audited_of, reported}
+use Rattle.audit_judging.specs.FileJudging.{reported}
+use Rattle.std.specs.Prelude.{Result}
+use Rattle.model.specs.declared.Refusal.{Refusal}
+use Rattle.model.specs.Returned.{answer_of}
 
 -- The audit on a legal netlist, from 33 on
 unfoldable pub audit_file : Netlist → Class → List ℕ → List ℕ → Answer (List ℕ)
@@ -19,8 +21,8 @@ audit_file N c test_file report =
     into λ left. reported (length (file_records N test_file)) (path_total N) report left
 
 -- its answer, the store afterwards, and what holds of the working memory
-pub record FileAudited (r : AuditAnswer) (netlist : List ℕ) (class : ℕ) (test_file report ws' work work' : List ℕ) : Type 0 where
-  pub answer : (N : Netlist) → read_netlist netlist ≡ value N → audited_of r ≡ passes (audit_file N (class_of class) test_file report)
+pub record FileAudited (r : Result (Unit {0}) Refusal) (netlist : List ℕ) (class : ℕ) (test_file report ws' work work' : List ℕ) : Type 0 where
+  pub answer : (N : Netlist) → read_netlist netlist ≡ value N → answer_of r ≡ passes (audit_file N (class_of class) test_file report)
   pub store : (N : Netlist) → read_netlist netlist ≡ value N → ws' ≡ left_store (audit_file N (class_of class) test_file report)
   pub same_length_of : length work' ≡ length work
   pub past_work : drop work_words_count work' ≡ drop work_words_count work

@@ -11,11 +11,7 @@ use Rattle.model.specs.Report.{file_records, test_all}
 use Rattle.model.proofs.BoolLaws.{le_or_lt}
 use Rattle.model.proofs.PieceLaws.{test_all-append}
 use Rattle.model.proofs.ReadLaws.{limits, in_class_lem}
-use Rattle.record_test.specs.declared.inner.RecordAnswer.{RecordAnswer}
-use Rattle.record_test.specs.declared.inner.RecordAnswer.TheVariants as record-answer
-use Rattle.store_coverage.specs.Stage.{MemoryReady, stage_of}
-use Rattle.store_coverage.specs.declared.inner.StageAnswer.{StageAnswer}
-use Rattle.store_coverage.specs.declared.inner.StageAnswer.TheVariants as stage
+use Rattle.store_coverage.specs.Stage.{MemoryReady}
 use Rattle.block_activity.specs.Marks.{record_at, test_at, BlockRead}
 use Rattle.block_activity.specs.declared.inner.Batch.{Batch}
 use Rattle.block_stage.specs.declared.inner.Applied.{Applied}
@@ -27,6 +23,8 @@ use Rattle.audit_block.specs.declared.inner.FileNumbers.{FileNumbers}
 use Rattle.audit_block.proofs.MemoryLaws.{all-memory}
 use Rattle.audit_block.proofs.TakenRecordLaws.{taken_then_of, taken-append, taken-most, taken-all}
 use Rattle.audit_block.proofs.BlockFileLaws.{block_records, length-block, file-block, block-all, block-taken, rest-refused, rest-untaken}
+use Rattle.std.specs.Prelude.{Result, Ok, Err}
+use Rattle.model.specs.Returned.{answer_of}
 
 -- a netlist's numbers
 module _ {N : Netlist} {table offsets : List ℕ} {file : FileNumbers} (t : BlockTables N table offsets file) where
@@ -43,7 +41,7 @@ module _ {table offsets : List ℕ} {file : FileNumbers} {risingLists fallingLis
   pub block-few : file.inputs ≤ 64
   block-few = few-inputs s.tables
 
-  module _ {part vectors : List ℕ} {n : ℕ} {after : RecordAnswer} (read : (N : Netlist) → N.inputs ≡ file.inputs → BlockRead N part vectors n after) where
+  module _ {part vectors : List ℕ} {n : ℕ} {after : (Result (Unit {0}) Refusal)} (read : (N : Netlist) → N.inputs ≡ file.inputs → BlockRead N part vectors n after) where
     abbrev pub batch : Batch
     batch = record { inputs = file.inputs; nets = file.nets; outputs = file.outputs; records = n; class = file.class }
 
@@ -88,7 +86,7 @@ module _ {table offsets : List ℕ} {file : FileNumbers} {risingLists fallingLis
         abbrev rest : List (List ℕ)
         rest = file_records N (drop (record_length N * n) part)
 
-        answers : test_all N c block ws ≡ (stage_of r.answer then value ws')
+        answers : test_all N c block ws ≡ (answer_of r.answer then value ws')
         answers = block-all N c (record_at N part) work n m b.legal ∙ sym (done.of_tests N (test_at N c part) (read-tests N t) m).answer
 
         count : r.taken ≡ taken_of N c block ws
@@ -105,21 +103,21 @@ module _ {table offsets : List ℕ} {file : FileNumbers} {risingLists fallingLis
 
         -- the end of the file's records, by the number of a refusal
         refused-at : {taken : ℕ} {w : Refusal} → taken ≤ n → test_all N c (file_records N part) ws ≡ refused (refusal_number_of w) → taken ≡ taken_of N c (file_records N part) ws
-            → BlockTrue (record { taken = taken; answer = stage.Refused w }) N c part ws ws' work'
+            → BlockTrue (record { taken = taken; answer = Err w }) N c part ws ws' work'
         refused-at h q e = record {
           within = le_trans (mul-le-mul_left (record_length N) h) b.whole;
           onward = λ z. (let y : ◌≡◌ {A = ℕ} 0 1 = cc in absurd (omega arith));
-          refuses = λ v z. record { all = q ∙ ap (λ (a : StageAnswer). file_of a ws) z; counted = e };
+          refuses = λ v z. record { all = q ∙ ap (λ (a : Result (Unit {0}) Refusal). file_of a ws) z; counted = e };
         }
 
-        true_refused : (w : Refusal) → r.answer ≡ stage.Refused w → BlockTrue (record { taken = r.taken; answer = stage.Refused w }) N c part ws ws' work'
+        true_refused : (w : Refusal) → r.answer ≡ Err w → BlockTrue (record { taken = r.taken; answer = Err w }) N c part ws ws' work'
         true_refused w e =
-            let q : test_all N c block ws ≡ refused (refusal_number_of w) = answers ∙ ap (λ (a : StageAnswer). stage_of a then value ws') e in
+            let q : test_all N c block ws ≡ refused (refusal_number_of w) = answers ∙ ap (λ (a : Result (Unit {0}) Refusal). answer_of a then value ws') e in
             refused-at taken-few (all_of ∙ rw q refl) (count ∙ sym (counted ∙ rw q refl))
 
-        module _ (e : r.answer ≡ stage.Taken) where
+        module _ (e : r.answer ≡ Ok tt) where
           made : test_all N c block ws ≡ value ws'
-          made = answers ∙ ap (λ (a : StageAnswer). stage_of a then value ws') e
+          made = answers ∙ ap (λ (a : Result (Unit {0}) Refusal). answer_of a then value ws') e
 
           all-taken : taken_of N c block ws ≡ n
           all-taken = taken-all N c block ws ws' made ∙ length-block N part 0 n
@@ -130,13 +128,13 @@ module _ {table offsets : List ℕ} {file : FileNumbers} {risingLists fallingLis
           counts-on : taken_of N c (file_records N part) ws ≡ n + taken_of N c rest ws'
           counts-on = counted ∙ rw (made, all-taken) refl
 
-          true_next : (w : Refusal) → after ≡ record-answer.Refused w → BlockTrue (record { taken = n; answer = stage.Refused w }) N c part ws ws' work'
+          true_next : (w : Refusal) → after ≡ Err w → BlockTrue (record { taken = n; answer = Err w }) N c part ws ws' work'
           true_next w o =
               let z = b.refuses w o in
               refused-at (omega arith) (goes_on ∙ rest-refused N c part n z.0 z.1 ws')
               (omega (arith, counts-on, rest-untaken N c part n z.0 z.1 ws'))
 
-          some-taken : after ≡ record-answer.Legal → record_length N ≤ length part → 1 ≤ n
+          some-taken : after ≡ Ok tt → record_length N ≤ length part → 1 ≤ n
           some-taken o l = ⊎_elim (λ (h : 1 ≤ n). h) (λ (h : n < 1). absurd (none n h (b.ended o))) (le_or_lt 1 n)
             where
               none : (k : ℕ) → k < 1 → (k ≡ 64) ⊎ (length part < record_length N * (k + 1)) → ⊥
@@ -145,7 +143,7 @@ module _ {table offsets : List ℕ} {file : FileNumbers} {risingLists fallingLis
                   ⊎_elim (λ (q : k ≡ 64). omega arith)
                   (λ (q : length part < record_length N * (k + 1)). omega (arith, ap (λ i. record_length N * (i + 1)) z, mul-one (record_length N))) x
 
-          true_onward : after ≡ record-answer.Legal → BlockTrue (record { taken = n; answer = stage.Taken }) N c part ws ws' work'
+          true_onward : after ≡ Ok tt → BlockTrue (record { taken = n; answer = (Ok tt) }) N c part ws ws' work'
           true_onward o = record {
             within = b.whole;
             onward = λ z. record {
@@ -166,16 +164,16 @@ module _ {table offsets : List ℕ} {file : FileNumbers} {risingLists fallingLis
         of_circuit = f;
       }
 
-      pub block_refused : {w : Refusal} → r.answer ≡ stage.Refused w
-          → BlockDone (record { taken = r.taken; answer = stage.Refused w }) table offsets file part risingLists risingLists' fallingLists fallingLists' ws ws' work work'
+      pub block_refused : {w : Refusal} → r.answer ≡ Err w
+          → BlockDone (record { taken = r.taken; answer = Err w }) table offsets file part risingLists risingLists' fallingLists fallingLists' ws ws' work work'
       block_refused {w} e = ends (taken-few s.netlist s.tables s.memory) (λ N t m. true_refused N t m w e)
 
-      pub block-next : r.answer ≡ stage.Taken → {w : Refusal} → after ≡ record-answer.Refused w
-          → BlockDone (record { taken = n; answer = stage.Refused w }) table offsets file part risingLists risingLists' fallingLists fallingLists' ws ws' work work'
+      pub block-next : r.answer ≡ Ok tt → {w : Refusal} → after ≡ Err w
+          → BlockDone (record { taken = n; answer = Err w }) table offsets file part risingLists risingLists' fallingLists fallingLists' ws ws' work work'
       block-next e {w} o = ends (omega arith) (λ N t m. true_next N t m e w o)
 
-      pub block-onward : r.answer ≡ stage.Taken → after ≡ record-answer.Legal
-          → BlockDone (record { taken = n; answer = stage.Taken }) table offsets file part risingLists risingLists' fallingLists fallingLists' ws ws' work work'
+      pub block-onward : r.answer ≡ Ok tt → after ≡ Ok tt
+          → BlockDone (record { taken = n; answer = (Ok tt) }) table offsets file part risingLists risingLists' fallingLists fallingLists' ws ws' work work'
       block-onward e o = ends (omega arith) (λ N t m. true_onward N t m e o)
 
 pub ruleset take_cases = (block-some, block-few, read-ready, block_refused, block-next, block-onward, rules)

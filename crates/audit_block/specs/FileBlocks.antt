@@ -11,13 +11,13 @@ use Rattle.model.specs.Report.{file_records, test_all}
 use Rattle.netlist.specs.Tables.{CircuitTables}
 use Rattle.netlist.specs.declared.inner.Shape.{Shape}
 use Rattle.store_coverage.specs.Stage.{MemoryReady}
-use Rattle.store_coverage.specs.declared.inner.StageAnswer.TheVariants as stage
 use Rattle.block_words.specs.Table.{CircuitTable}
 use Rattle.block_activity.specs.Marks.{OffsetTable}
 use Rattle.audit_block.specs.declared.inner.TakenRecords.{TakenRecords}
 use Rattle.audit_block.specs.declared.inner.FileNumbers.{FileNumbers}
 use Rattle.audit_block.specs.RecordsTaken.{taken_of}
 use Rattle.block_words.specs.Layout.{lists_size}
+use Rattle.std.specs.Prelude.{Ok, Err}
 
 -- the tables of a netlist
 pub record BlockTables (N : Netlist) (table offsets : List ℕ) (file : FileNumbers) : Type 0 where
@@ -53,8 +53,8 @@ pub record BlockRefused (N : Netlist) (c : Class) (part ws : List ℕ) (taken : 
 -- the records of a block, with which a part of the file begins
 pub record BlockTrue (r : TakenRecords) (N : Netlist) (c : Class) (part ws ws' work' : List ℕ) : Type 0 where
   pub within : record_length N * r.taken ≤ length part
-  pub onward : r.answer ≡ stage.Taken → BlockOnward N c part ws ws' work' r.taken
-  pub refuses : (w : Refusal) → r.answer ≡ stage.Refused w → BlockRefused N c part ws r.taken w
+  pub onward : r.answer ≡ Ok tt → BlockOnward N c part ws ws' work' r.taken
+  pub refuses : (w : Refusal) → r.answer ≡ Err w → BlockRefused N c part ws r.taken w
 
 -- what holds of the lent memory
 pub record RoomKept (risingLists risingLists' fallingLists fallingLists' work work' : List ℕ) : Type 0 where

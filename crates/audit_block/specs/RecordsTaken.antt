@@ -7,15 +7,15 @@ use Rattle.model.specs.Refusals.{refusal_number_of}
 use Rattle.model.specs.Store.{empty_store}
 use Rattle.model.specs.Calls.{store_left, test_stage}
 use Rattle.model.specs.Report.{file_records, test_all}
-use Rattle.store_coverage.specs.declared.inner.StageAnswer.{StageAnswer}
-use Rattle.store_coverage.specs.declared.inner.StageAnswer.TheVariants as stage
 use Rattle.block_stage.specs.BlockStage.{one_more_test}
 use Rattle.audit_block.specs.declared.inner.TakenRecords.{TakenRecords}
+use Rattle.std.specs.Prelude.{Result, Ok, Err}
+use Rattle.model.specs.declared.Refusal.{Refusal}
 
 -- the test calls with a file's records: the number of a refusal, or the store that they leave
-abbrev pub file_of : StageAnswer → List ℕ → Answer (List ℕ)
-file_of stage.Taken left = value left
-file_of (stage.Refused w) left = refused (refusal_number_of w)
+abbrev pub file_of : Result (Unit {0}) Refusal → List ℕ → Answer (List ℕ)
+file_of (Ok tt) left = value left
+file_of (Err w) left = refused (refusal_number_of w)
 
 -- The store after an audit, refused with a number over 2: all zeros
 unfoldable pub left_store : Answer (List ℕ) → List ℕ

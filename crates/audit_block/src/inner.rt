@@ -15,15 +15,14 @@ use block_activity::inner::reading::read_block;
 use block_stage::inner::{Applied, apply_block};
 use block_words::inner::layout::GATE_TABLE_SIZE;
 use block_words::inner::table::fill_table;
+use model::Refusal;
 use netlist::inner::Shape;
-use record_test::inner::RecordAnswer;
-use store_coverage::inner::StageAnswer;
 
 // The number of records taken before the first that was refused, all of them if none was, and what they answer.
 #[derive(Clone, Copy)]
 pub struct TakenRecords {
     pub taken: usize,
-    pub answer: StageAnswer,
+    pub answer: Result<(), Refusal>,
 }
 
 // The numbers of a netlist, and the class of a file's records.
@@ -123,23 +122,23 @@ pub fn take_block(
     let applied = apply_tests(table, offsets, batch, &vectors, rises, falls, store, work);
     let said = applied.answer;
     match said {
-        StageAnswer::Refused(why) => {
-            let answer = StageAnswer::Refused(why);
+        Err(why) => {
+            let answer = Err(why);
             TakenRecords {
                 taken: applied.taken,
                 answer,
             }
         }
-        StageAnswer::Taken => {
+        Ok(()) => {
             let taken = read.records;
             let after = read.after;
             match after {
-                RecordAnswer::Refused(why) => {
-                    let answer = StageAnswer::Refused(why);
+                Err(why) => {
+                    let answer = Err(why);
                     TakenRecords { taken, answer }
                 }
-                RecordAnswer::Legal => {
-                    let answer = StageAnswer::Taken;
+                Ok(()) => {
+                    let answer = Ok(());
                     TakenRecords { taken, answer }
                 }
             }

@@ -5,15 +5,9 @@ use Rattle.model.specs.Refusals.{refusal_number_of}
 use Rattle.model.specs.Store.{max_tests, runs_by_edge, store_rules}
 use Rattle.model.specs.Report.{report_record, report_rules}
 use Rattle.audit_block.specs.RecordsTaken.{left_store}
-use Rattle.audit_judging.specs.declared.AuditAnswer.{AuditAnswer}
-use Rattle.audit_judging.specs.declared.AuditAnswer.TheVariants as audit
-use Rattle.audit_judging.specs.declared.EndAnswer.{EndAnswer}
-use Rattle.audit_judging.specs.declared.EndAnswer.TheVariants as ending
-
--- that it accepts, or the number of the refusal
-abbrev pub audited_of : AuditAnswer → Answer (Unit {0})
-audited_of audit.Accepted = value tt
-audited_of (audit.Refused w) = refused (refusal_number_of w)
+use Rattle.std.specs.Prelude.{Result, Ok, Err}
+use Rattle.model.specs.declared.Refusal.{Refusal}
+use Rattle.model.specs.Returned.{answer_of}
 
 -- a file of `total` bytes is a whole number of records, of `each` bytes, and not over `max_tests` of them
 abbrev pub whole_length_of : ℕ → ℕ → Bool
@@ -23,8 +17,8 @@ whole_length_of each total = eqb (total % each) 0 && leb (total / each) max_test
 abbrev pub reported : ℕ → ℕ → List ℕ → List ℕ → Answer (List ℕ)
 reported testCount paths report left = checks (report_rules report (report_record testCount paths (runs_by_edge left))) then value left
 
-pub record Judged (r : AuditAnswer) (testCount paths : ℕ) (report ws ws' : List ℕ) : Type 0 where
-  pub answer : audited_of r ≡ passes (reported testCount paths report ws)
+pub record Judged (r : Result (Unit {0}) Refusal) (testCount paths : ℕ) (report ws ws' : List ℕ) : Type 0 where
+  pub answer : answer_of r ≡ passes (reported testCount paths report ws)
   pub store : ws' ≡ left_store (reported testCount paths report ws)
 
 -- ---- An audit in pieces
@@ -41,9 +35,9 @@ abbrev pub store_checked : ℕ → List ℕ → Answer (List ℕ)
 store_checked paths ws = checks (store_rules paths ws) then value ws
 
 -- The end: that it accepts, or the number of the refusal
-abbrev pub ended_of : EndAnswer → Answer (Unit {0})
-ended_of ending.Accepted = value tt
-ended_of (ending.Refused n) = refused n
+abbrev pub ended_of : Result (Unit {0}) ℕ → Answer (Unit {0})
+ended_of (Ok tt) = value tt
+ended_of (Err n) = refused n
 
 -- what the pieces answered, as their caller keeps it: 0 says that every record was taken, any other number is that of the first refusal
 unfoldable pub so_far : ℕ → List ℕ → Answer (List ℕ)

@@ -6,12 +6,11 @@ ghost use Rattle.model.specs.Store.{store_words_count};
 ghost use Rattle.store_words.specs.Sound.{SoundWords};
 ghost use Rattle.audit_judging.specs.FileJudging.{whole_length_of, Judged, ended_of, end_legal_of};
 
-use crate::{AuditAnswer, EndAnswer};
 use model::{MAX_TESTS, Refusal};
 use model_refusals::refusal_number;
 use record_test::inner::record_length;
-use report::inner::{Comparison, compare};
-use store_words::inner::{StoreCheck, check_words};
+use report::inner::compare;
+use store_words::inner::check_words;
 use store_writing::inner::clear;
 
 // Whether so many bytes are a whole number of records, of `each` bytes, and not too many of them.
@@ -23,16 +22,16 @@ pub fn whole_length(bytes: u64, each: u64) -> bool
 }
 
 // The place Report: a report against the one that the writer gives for a sound store and so many tests. A refused one leaves the store empty.
-pub fn judge(report: &[u8], tests: u64, paths: u64, store: &mut [u64]) -> AuditAnswer
+pub fn judge(report: &[u8], tests: u64, paths: u64, store: &mut [u64]) -> Result<(), Refusal>
     requires { SoundWords (2 ^ 62) store.old }
     ensures { Judged result tests paths report.now store.old store.new }
 {
     let compared = compare(report, store, tests, paths);
     match compared {
-        Comparison::Equal => AuditAnswer::Accepted,
-        Comparison::Refused(why) => {
+        Ok(()) => Ok(()),
+        Err(why) => {
             clear(store);
-            AuditAnswer::Refused(why)
+            Err(why)
         }
     }
 }
@@ -45,25 +44,25 @@ pub fn end_legal(
     first: u32,
     report: &[u8],
     store: &[u64],
-) -> EndAnswer
+) -> Result<(), u32>
     requires { (inputs ≤ 64) × (paths ≤ 2 ^ 62) × (length store.now ≡ store_words_count) }
     ensures { ended_of result ≡ passes (end_legal_of (2 + 2 * vector_bytes_of inputs) paths bytes first report.now store.now) }
 {
     let each = record_length(inputs) as u64;
     if !whole_length(bytes, each) {
-        return EndAnswer::Refused(refusal_number(Refusal::TestFileLength));
+        return Err(refusal_number(Refusal::TestFileLength));
     }
     if first != 0 {
-        return EndAnswer::Refused(first);
+        return Err(first);
     }
     let checked = check_words(store, paths);
     match checked {
-        StoreCheck::Refused(why) => EndAnswer::Refused(refusal_number(why)),
-        StoreCheck::Sound => {
+        Err(why) => Err(refusal_number(why)),
+        Ok(()) => {
             let compared = compare(report, store, bytes / each, paths);
             match compared {
-                Comparison::Equal => EndAnswer::Accepted,
-                Comparison::Refused(why) => EndAnswer::Refused(refusal_number(why)),
+                Ok(()) => Ok(()),
+                Err(why) => Err(refusal_number(why)),
             }
         }
     }

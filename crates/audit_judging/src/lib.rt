@@ -4,17 +4,3 @@
 pub mod inner;
 
 use model::Refusal;
-
-// What an audit answers.
-#[derive(Clone, Copy)]
-pub enum AuditAnswer {
-    Accepted,
-    Refused(Refusal),
-}
-
-// What an audit in pieces answers: that it accepts, or the number of the refusal, which may be one that its caller kept.
-#[derive(Drop)]
-pub enum EndAnswer {
-    Accepted,
-    Refused(u32),
-}

@@ -11,7 +11,6 @@ use Rattle.model.specs.Report.{file_records}
 use Rattle.model.specs.declared.Refusal.{Refusal}
 use Rattle.model.specs.declared.Refusal.TheVariants as why
 use Rattle.netlist.specs.Answers.{LoadedTrue}
-use Rattle.netlist.specs.declared.SurveyAnswer.TheVariants as survey
 use Rattle.netlist.specs.declared.inner.Loaded.{Loaded}
 use Rattle.netlist.proofs.LoadLaws.{loaded_legal, loaded_refused}
 use Rattle.store_coverage.specs.Stage.{MemoryReady}
@@ -19,15 +18,11 @@ use Rattle.audit_block.specs.RecordsTaken.{file_of, left_store}
 use Rattle.audit_records.specs.FileRecords.{FileTaken, Ready}
 use Rattle.audit_records.proofs.ReadyLaws.{ready-inputs, ready-records, ready-sound}
 use Rattle.audit_judging.specs.FileJudging.{whole_length_of, reported, Judged, end_by}
-use Rattle.audit_judging.specs.declared.AuditAnswer.{AuditAnswer}
-use Rattle.audit_judging.specs.declared.AuditAnswer.TheVariants as audit
-use Rattle.store_coverage.specs.declared.inner.StageAnswer.{StageAnswer}
-use Rattle.store_coverage.specs.declared.inner.StageAnswer.TheVariants as stage
 use Rattle.audit_block.specs.declared.inner.TakenRecords.{TakenRecords}
 use Rattle.audit_block.proofs.MemoryLaws.{of_netlist_lem, emptied, left-memory}
 use Rattle.audit_judging.proofs.JudgingCases.{end-other-length, end-refused-before}
-use Rattle.audit_piece_steps.specs.declared.BeginAnswer.TheVariants as beginning
 use Rattle.audit_piece_steps.specs.Steps.{BeginTrue, lent_rules, begin_answer, begin_store, PieceTaken, Ended, with_piece, taken_with, piece_store, end_of}
+use Rattle.std.specs.Prelude.{Result, Ok, Err}
 
 -- The lent memory
 module _ (ws work : List ℕ) where
@@ -42,43 +37,40 @@ module _ (ws work : List ℕ) where
     lent-passed h = rw (eq-eqb (length ws) store_words_count l, le-leb work_words_count (length work) h) refl
 
 -- The beginning
-module _ (netlist : List ℕ) (class : ℕ) (ws work : List ℕ) (loaded : Loaded) (t : LoadedTrue loaded netlist) where
-  pub begin_words : (length ws ≡ store_words_count → ⊥)
-      → BeginTrue (record { answer = beginning.Refused why.StoreLength; loaded = loaded }) netlist class ws ws work
+module _ (netlist : List ℕ) (class : ℕ) (ws work : List ℕ) where
+  pub begin_words : (length ws ≡ store_words_count → ⊥) → BeginTrue (Err why.StoreLength) netlist class ws ws work
   unfolding begin_answer begin_store
-  begin_words d = record { answer = rw (lent-words ws work d) refl; store = rw (lent-words ws work d) refl; tables = t }
+  begin_words d = record { answer = rw (lent-words ws work d) refl; store = rw (lent-words ws work d) refl; tables = tt }
 
   module _ (l : length ws ≡ store_words_count) where
-    pub begin_short : length work < work_words_count
-        → BeginTrue (record { answer = beginning.Refused why.WorkLength; loaded = loaded }) netlist class ws ws work
+    pub begin_short : length work < work_words_count → BeginTrue (Err why.WorkLength) netlist class ws ws work
     unfolding begin_answer begin_store
-    begin_short h = record { answer = rw (lent-short ws work l h) refl; store = rw (lent-short ws work l h) refl; tables = t }
+    begin_short h = record { answer = rw (lent-short ws work l h) refl; store = rw (lent-short ws work l h) refl; tables = tt }
 
-    module _ (h : work_words_count ≤ length work) (ws' : List ℕ) (z : ws' ≡ replicate (length ws) 0) where
-      pub begin_netlist : (w : Refusal) → loaded.answer ≡ survey.Refused w
-          → BeginTrue (record { answer = beginning.Refused w; loaded = loaded }) netlist class ws ws' work
+    module _ (h : work_words_count ≤ length work) (ws' : List ℕ) (z : ws' ≡ replicate (length ws) 0) (r : Result Loaded Refusal) (t : LoadedTrue r netlist) where
+      pub begin_netlist : (w : Refusal) → r ≡ Err w → BeginTrue (Err w) netlist class ws ws' work
       unfolding begin_answer begin_store
       begin_netlist w e = record {
-        answer = rw (lent-passed ws work l h, loaded_refused loaded netlist t w e) refl;
+        answer = rw (lent-passed ws work l h, loaded_refused r netlist t w e) refl;
         store = emptied ws' (length ws) z l ∙ rw (lent-passed ws work l h) refl;
-        tables = t;
+        tables = tt;
       }
 
-      module _ (e : loaded.answer ≡ survey.Legal) (k : Bool) (ek : k ≡ within 1 2 class) where
-        pub begin_class : not k ≡ true → BeginTrue (record { answer = beginning.Refused why.UnknownClass; loaded = loaded }) netlist class ws ws' work
+      module _ (loaded : Loaded) (e : r ≡ Ok loaded) (k : Bool) (ek : k ≡ within 1 2 class) where
+        pub begin_class : not k ≡ true → BeginTrue (Err why.UnknownClass) netlist class ws ws' work
         unfolding begin_answer begin_store
         begin_class n = record {
-          answer = rw (lent-passed ws work l h, (loaded_legal loaded netlist t e).tables.legal) (rw (sym ek ∙ not-true k n) refl);
+          answer = rw (lent-passed ws work l h, (loaded_legal r netlist t loaded e).tables.legal) (rw (sym ek ∙ not-true k n) refl);
           store = emptied ws' (length ws) z l ∙ rw (lent-passed ws work l h) refl;
-          tables = t;
+          tables = tt;
         }
 
-        pub begin_ready : not k ≡ false → BeginTrue (record { answer = beginning.Ready; loaded = loaded }) netlist class ws ws' work
+        pub begin_ready : not k ≡ false → BeginTrue (Ok loaded) netlist class ws ws' work
         unfolding begin_answer begin_store
         begin_ready n = record {
-          answer = rw (lent-passed ws work l h, (loaded_legal loaded netlist t e).tables.legal) (rw (sym ek ∙ not-false k n) refl);
+          answer = rw (lent-passed ws work l h, (loaded_legal r netlist t loaded e).tables.legal) (rw (sym ek ∙ not-false k n) refl);
           store = emptied ws' (length ws) z l ∙ rw (lent-passed ws work l h) refl;
-          tables = t;
+          tables = loaded_legal r netlist t loaded e;
         }
 
 pub ruleset begin-cases = (begin_words, begin_short, begin_netlist, begin_class, begin_ready, rules)
@@ -86,8 +78,8 @@ pub ruleset begin-cases = (begin_words, begin_short, begin_netlist, begin_class,
 module _ (netlist : List ℕ) (loaded : Loaded) (ws work : List ℕ) (ready : Ready netlist loaded ws work) where
   -- A piece
   module _ (class : ℕ) (before : TakenRecords) (piece : List ℕ) where
-    pub piece-refused : (w : Refusal) → before.answer ≡ stage.Refused w
-        → PieceTaken (record { taken = before.taken; answer = stage.Refused w }) netlist loaded class before piece ws ws work work
+    pub piece-refused : (w : Refusal) → before.answer ≡ Err w
+        → PieceTaken (record { taken = before.taken; answer = Err w }) netlist loaded class before piece ws ws work work
     unfolding with_piece taken_with piece_store
     piece-refused w e = record {
       answer = λ N q. rw e refl;
@@ -99,7 +91,7 @@ module _ (netlist : List ℕ) (loaded : Loaded) (ws work : List ℕ) (ready : Re
       past_work = refl;
     }
 
-    module _ (e : before.answer ≡ stage.Taken) (more : TakenRecords) (ws' work' : List ℕ)
+    module _ (e : before.answer ≡ Ok tt) (more : TakenRecords) (ws' work' : List ℕ)
         (t : FileTaken more netlist loaded.positions loaded.counts loaded.shape class piece ws ws' work work') where
       abbrev C : Netlist
       C = ready.circuit
@@ -128,7 +120,7 @@ module _ (netlist : List ℕ) (loaded : Loaded) (ws work : List ℕ) (ready : Re
 pub ruleset piece-cases = (ready-records, piece-refused, piece-taken, rules)
 
 -- The end
-module _ (netlist : List ℕ) (loaded : Loaded) (ws work : List ℕ) (ready : Ready netlist loaded ws work) (taken : StageAnswer) (total : ℕ) (report : List ℕ)
+module _ (netlist : List ℕ) (loaded : Loaded) (ws work : List ℕ) (ready : Ready netlist loaded ws work) (taken : Result (Unit {0}) Refusal) (total : ℕ) (report : List ℕ)
     (each : ℕ) (ee : each ≡ 2 + 2 * vector_bytes_of loaded.shape.inputs) where
   -- in the numbers that the code has
   ended_is : (N : Netlist) → read_netlist netlist ≡ value N → end_of N total report (file_of taken ws) ≡ end_by each loaded.total total report (file_of taken ws)
@@ -137,7 +129,7 @@ module _ (netlist : List ℕ) (loaded : Loaded) (ws work : List ℕ) (ready : Re
 
   -- a refusal: the store is then all zeros
   end_refused : (w : Refusal) (ws' : List ℕ) → end_by each loaded.total total report (file_of taken ws) ≡ refused (refusal_number_of w)
-      → ws' ≡ replicate (length ws) 0 → Ended (audit.Refused w) netlist taken total report ws ws'
+      → ws' ≡ replicate (length ws) 0 → Ended (Err w) netlist taken total report ws ws'
   unfolding left_store
   end_refused w ws' e z = record {
     answer = λ N q. sym (ap (λ (a : Answer (List ℕ)). passes a) (ended_is N q ∙ e));
@@ -145,17 +137,17 @@ module _ (netlist : List ℕ) (loaded : Loaded) (ws work : List ℕ) (ready : Re
   }
 
   module _ (b : Bool) (eb : b ≡ whole_length_of each total) where
-    pub end-length : not b ≡ true → (ws' : List ℕ) → ws' ≡ replicate (length ws) 0 → Ended (audit.Refused why.TestFileLength) netlist taken total report ws ws'
+    pub end-length : not b ≡ true → (ws' : List ℕ) → ws' ≡ replicate (length ws) 0 → Ended (Err why.TestFileLength) netlist taken total report ws ws'
     end-length n ws' z = end_refused why.TestFileLength ws' (end-other-length each loaded.total total report (file_of taken ws) b eb n) z
 
     module _ (n : not b ≡ false) where
-      pub end-record : (w : Refusal) → taken ≡ stage.Refused w → (ws' : List ℕ) → ws' ≡ replicate (length ws) 0
-          → Ended (audit.Refused w) netlist taken total report ws ws'
+      pub end-record : (w : Refusal) → taken ≡ Err w → (ws' : List ℕ) → ws' ≡ replicate (length ws) 0
+          → Ended (Err w) netlist taken total report ws ws'
       end-record w e ws' z =
-          let q : file_of taken ws ≡ refused (refusal_number_of w) = ap (λ (f : StageAnswer). file_of f ws) e in
+          let q : file_of taken ws ≡ refused (refusal_number_of w) = ap (λ (f : Result (Unit {0}) Refusal). file_of f ws) e in
           end_refused w ws' (end-refused-before each loaded.total total report (file_of taken ws) b eb n (refusal_number_of w) q) z
 
-      pub end-judged : taken ≡ stage.Taken → (r : AuditAnswer) (ws' : List ℕ) → Judged r (total / each) loaded.total report ws ws'
+      pub end-judged : taken ≡ Ok tt → (r : Result (Unit {0}) Refusal) (ws' : List ℕ) → Judged r (total / each) loaded.total report ws ws'
           → Ended r netlist taken total report ws ws'
       unfolding end_by
       end-judged e r ws' j =

@@ -9,23 +9,15 @@ use Rattle.model.specs.Refusals.{refusal_number_of}
 use Rattle.model.specs.Store.{empty_store}
 use Rattle.model.specs.Calls.{work_words_count, store_rule, work_rule, before_test}
 use Rattle.model.specs.Report.{file_records, test_all}
-use Rattle.netlist.specs.Answers.{LoadedTrue}
+use Rattle.netlist.specs.Answers.{LegalLoad}
 use Rattle.netlist.specs.declared.inner.Loaded.{Loaded}
-use Rattle.audit_judging.specs.FileJudging.{audited_of, end_by}
+use Rattle.audit_judging.specs.FileJudging.{end_by}
 use Rattle.audit_block.specs.RecordsTaken.{file_of, left_store, taken_of}
-use Rattle.audit_judging.specs.declared.AuditAnswer.{AuditAnswer}
-use Rattle.store_coverage.specs.declared.inner.StageAnswer.{StageAnswer}
-use Rattle.store_coverage.specs.declared.inner.StageAnswer.TheVariants as stage
 use Rattle.audit_block.specs.declared.inner.TakenRecords.{TakenRecords}
 use Rattle.audit_records.specs.FileRecords.{Ready}
-use Rattle.audit_piece_steps.specs.declared.BeginAnswer.{BeginAnswer}
-use Rattle.audit_piece_steps.specs.declared.BeginAnswer.TheVariants as beginning
-use Rattle.audit_piece_steps.specs.declared.inner.Begun.{Begun}
-
--- the number of a refusal, or that there is none
-abbrev pub begun_of : BeginAnswer → Answer (Unit {0})
-begun_of beginning.Ready = value tt
-begun_of (beginning.Refused w) = refused (refusal_number_of w)
+use Rattle.std.specs.Prelude.{Result, Ok, Err}
+use Rattle.model.specs.declared.Refusal.{Refusal}
+use Rattle.model.specs.Returned.{answer_of}
 
 -- lent memory: 1, then 2
 abbrev pub lent_rules : List ℕ → List ℕ → Answer (Unit {0})
@@ -38,10 +30,15 @@ begin_answer netlist class ws work = passes (before_test netlist class ws work)
 unfoldable pub begin_store : List ℕ → List ℕ → List ℕ
 begin_store ws work = after (lent_rules ws work) ws (λ u. empty_store)
 
-pub record BeginTrue (r : Begun) (netlist : List ℕ) (class : ℕ) (ws ws' work : List ℕ) : Type 0 where
-  pub answer : begun_of r.answer ≡ begin_answer netlist class ws work
+-- where it passed, the tables of the netlist
+abbrev pub TablesOf : Result Loaded Refusal → List ℕ → Type 0
+TablesOf (Ok l) file = LegalLoad file l.counts l.positions l.shape l.total
+TablesOf (Err w) file = Unit {0}
+
+pub record BeginTrue (r : Result Loaded Refusal) (netlist : List ℕ) (class : ℕ) (ws ws' work : List ℕ) : Type 0 where
+  pub answer : passes (answer_of r) ≡ begin_answer netlist class ws work
   pub store : ws' ≡ begin_store ws work
-  pub tables : LoadedTrue r.loaded netlist
+  pub tables : TablesOf r netlist
 
 -- the test calls with the records of one piece more
 unfoldable pub with_piece : Netlist → Class → List ℕ → Answer (List ℕ) → Answer (List ℕ)
@@ -53,9 +50,9 @@ taken_with N c piece (refused n) taken = taken
 taken_with N c piece (value left) taken = taken + taken_of N c (file_records N piece) left
 
 -- the store afterwards; after a refused record it stays as it is
-unfoldable pub piece_store : Netlist → Class → StageAnswer → List ℕ → List ℕ → List ℕ
-piece_store N c stage.Taken piece ws = left_store (test_all N c (file_records N piece) ws)
-piece_store N c (stage.Refused w) piece ws = ws
+unfoldable pub piece_store : Netlist → Class → Result (Unit {0}) Refusal → List ℕ → List ℕ → List ℕ
+piece_store N c (Ok tt) piece ws = left_store (test_all N c (file_records N piece) ws)
+piece_store N c (Err w) piece ws = ws
 
 -- A piece: the state, the number of records taken and the store afterwards, and what holds of the working memory; the next step can be made
 pub record PieceTaken (r : TakenRecords) (netlist : List ℕ) (loaded : Loaded) (class : ℕ) (before : TakenRecords) (piece ws ws' work work' : List ℕ)
@@ -72,6 +69,6 @@ pub record PieceTaken (r : TakenRecords) (netlist : List ℕ) (loaded : Loaded) 
 abbrev pub end_of : Netlist → ℕ → List ℕ → Answer (List ℕ) → Answer (List ℕ)
 end_of N total report x = end_by (record_length N) (path_total N) total report x
 
-pub record Ended (r : AuditAnswer) (netlist : List ℕ) (taken : StageAnswer) (total : ℕ) (report ws ws' : List ℕ) : Type 0 where
-  pub answer : (N : Netlist) → read_netlist netlist ≡ value N → audited_of r ≡ passes (end_of N total report (file_of taken ws))
+pub record Ended (r : Result (Unit {0}) Refusal) (netlist : List ℕ) (taken : Result (Unit {0}) Refusal) (total : ℕ) (report ws ws' : List ℕ) : Type 0 where
+  pub answer : (N : Netlist) → read_netlist netlist ≡ value N → answer_of r ≡ passes (end_of N total report (file_of taken ws))
   pub store : (N : Netlist) → read_netlist netlist ≡ value N → ws' ≡ left_store (end_of N total report (file_of taken ws))

@@ -4,10 +4,3 @@
 pub mod inner;
 
 use model::Refusal;
-
-// What the places before the test file answer.
-#[derive(Drop)]
-pub enum BeginAnswer {
-    Ready,
-    Refused(Refusal),
-}

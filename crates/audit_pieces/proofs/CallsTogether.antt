@@ -16,10 +16,8 @@ use Rattle.model.proofs.RefusalLaws.{refused_over, all-over}
 use Rattle.store_coverage.specs.Stage.{MemoryReady}
 use Rattle.store_coverage.proofs.TestCallLaws.{refused-by, taken-by}
 use Rattle.audit_block.specs.RecordsTaken.{left_store, taken_of}
-use Rattle.audit_piece_steps.specs.declared.BeginAnswer.TheVariants as beginning
 use Rattle.audit_pieces.specs.declared.PieceAnswer.{PieceAnswer}
 use Rattle.audit_pieces.specs.declared.PieceAnswer.TheVariants as piece
-use Rattle.audit_judging.specs.declared.EndAnswer.{EndAnswer}
 use Rattle.audit_piece_steps.specs.Steps.{lent_rules, with_piece, taken_with, end_of}
 use Rattle.audit_pieces.specs.Calls.{RecordsSaid, piece_of, records_said, piece_answer, piece_call, piece_left, PieceTrue, end_stage, end_call, end_answer, end_store, EndTrue}
 use Rattle.audit_judging.specs.FileJudging.{store_checked, so_far, end_legal_of}
@@ -30,6 +28,7 @@ use Rattle.audit_block.proofs.MemoryLaws.{left-memory}
 use Rattle.audit_piece_steps.proofs.JoinedPieceLaws.{pieces-joined}
 use Rattle.audit_pieces.proofs.TogetherHolds.{end-answer, end-store, begun-lent, begun-known, begun-before, begun-empty, begun-memory}
 use Rattle.audit_pieces.proofs.TakenLaws.{taken_withs, taken-whole}
+use Rattle.std.specs.Prelude.{Result, Ok}
 
 -- One call on a legal netlist and a store that no rule refuses
 module _ (netlist : List ℕ) (N : Netlist) (e : read_netlist netlist ≡ value N) (class : ℕ) (known : within 1 2 class ≡ true)
@@ -163,20 +162,20 @@ module _ (netlist : List ℕ) (N : Netlist) (e : read_netlist netlist ≡ value 
 -- The pieces that were made
 module _ (netlist : List ℕ) (class : ℕ) (ms : List MadeCall) (ws work : List ℕ) (p : PiecesMade netlist class ms ws work) where
   lent-then : lent_rules ws work ≡ value tt
-  lent-then = begun-lent netlist class ws p.emptied work beginning.Ready p.begins.answer refl
+  lent-then = begun-lent netlist class ws p.emptied work p.begins.answer
 
   empty-then : p.emptied ≡ empty_store
-  empty-then = begun-empty netlist class ws p.emptied work beginning.Ready p.begins.answer refl p.begins.store
+  empty-then = begun-empty netlist class ws p.emptied work p.begins.answer p.begins.store
 
   before-then : before_test netlist class ws work ≡ value p.circuit
-  before-then = begun-before netlist class ws p.emptied work beginning.Ready p.begins.answer refl p.circuit p.legal
+  before-then = begun-before netlist class ws p.emptied work p.begins.answer p.circuit p.legal
 
   known-then : within 1 2 class ≡ true
-  known-then = begun-known netlist class ws p.emptied work beginning.Ready p.begins.answer refl
+  known-then = begun-known netlist class ws p.emptied work p.begins.answer
 
   done : AfterCalls p.circuit (class_of class) 0 p.emptied work ms
   done = after-calls netlist p.circuit p.legal class known-then ms 0 p.emptied work
-      (begun-memory netlist class ws p.emptied work beginning.Ready p.begins.answer refl p.circuit p.begins.store) p.takes
+      (begun-memory netlist class ws p.emptied work p.begins.answer p.circuit p.begins.store) p.takes
 
   pub never-for_store : OnlyByRecords 0 ms
   never-for_store = done.by_records
@@ -196,7 +195,7 @@ module _ (netlist : List ℕ) (class : ℕ) (ms : List MadeCall) (ws work : List
       ∙ ap (λ (s : List ℕ). with_piece p.circuit (class_of class) (joined (call_bytes ms)) (value s)) empty-then
 
   -- and the end
-  module _ (report ws' : List ℕ) (r : EndAnswer)
+  module _ (report ws' : List ℕ) (r : Result (Unit {0}) ℕ)
       (t : EndTrue r netlist (length (joined (call_bytes ms))) (last_first 0 ms) report (last_store p.emptied ms) ws') where
     pub calls-made : WholeAudit r netlist class (joined (call_bytes ms)) report ws ws' work
     unfolding end_answer

@@ -6,45 +6,43 @@ use Rattle.model.specs.Netlist.{Netlist, path_total}
 use Rattle.model.specs.Read.{vector_bytes_of, record_length, read_netlist}
 use Rattle.model.specs.Refusals.{refusal_number_of}
 use Rattle.model.specs.Store.{store_words_count, runs_by_edge, store_rules}
-use Rattle.model.specs.Calls.{store_rule}
+use Rattle.model.specs.Calls.{store_rule, survey_call}
 use Rattle.model.specs.Report.{report_record, report_rules}
 use Rattle.model.specs.declared.Refusal.{Refusal}
 use Rattle.model.specs.declared.Refusal.TheVariants as why
 use Rattle.model.proofs.AnswerLaws.{not_refused, value_inj, steps, then-second}
 use Rattle.model.proofs.ReadLaws.{limits}
-use Rattle.netlist.specs.Answers.{SurveyTrue}
-use Rattle.netlist.specs.declared.SurveyAnswer.TheVariants as survey
-use Rattle.netlist.specs.declared.Surveyed.{Surveyed}
+use Rattle.netlist.specs.Answers.{surveyed_of}
+use Rattle.netlist.specs.declared.NetlistSurvey.{NetlistSurvey}
 use Rattle.netlist.proofs.LoadLaws.{paths-fit, legal-survey, refused-survey}
 use Rattle.store_coverage.proofs.TestCallLaws.{refused-by, taken-by}
 use Rattle.audit_block.specs.RecordsTaken.{left_store}
 use Rattle.audit_judging.specs.FileJudging.{whole_length_of, end_by, store_checked, ended_of, so_far, end_legal_of}
 use Rattle.audit_block.proofs.MemoryLaws.{emptied}
-use Rattle.audit_judging.specs.declared.EndAnswer.{EndAnswer}
-use Rattle.audit_judging.specs.declared.EndAnswer.TheVariants as ending
 use Rattle.audit_pieces.specs.Calls.{end_stage, end_call, end_answer, end_store, EndTrue}
+use Rattle.std.specs.Prelude.{Result, Ok, Err}
 
 -- The end with a store of the right length
-module _ (netlist : List ℕ) (total first : ℕ) (report ws : List ℕ) (r : Surveyed) (t : SurveyTrue r netlist) where
-  pub stage-netlist : (w : Refusal) → r.answer ≡ survey.Refused w → (m : ℕ) → m ≡ refusal_number_of w → refused m ≡ passes (end_stage netlist total first report ws)
+module _ (netlist : List ℕ) (total first : ℕ) (report ws : List ℕ) (r : Result NetlistSurvey Refusal) (t : surveyed_of r ≡ survey_call netlist) where
+  pub stage-netlist : (w : Refusal) → r ≡ Err w → (m : ℕ) → m ≡ refusal_number_of w → refused m ≡ passes (end_stage netlist total first report ws)
   unfolding end_stage
-  stage-netlist w e m q = rw (refused-survey netlist r.answer t.answer w e) (ap (λ (i : ℕ). refused i) q)
+  stage-netlist w e m q = rw (refused-survey netlist r t w e) (ap (λ (i : ℕ). refused i) q)
 
-  module _ (e : r.answer ≡ survey.Legal) where
-    pub stage-inputs : r.survey.inputs ≤ 64
+  module _ (d : NetlistSurvey) (e : r ≡ Ok d) where
+    pub stage-inputs : d.inputs ≤ 64
     stage-inputs =
-        let s = legal-survey netlist r.survey r.answer t.answer t.survey e in
+        let s = legal-survey netlist r t d e in
         omega (arith, s.inputs_are, (limits netlist s.netlist s.is_read).few_inputs)
 
-    pub stage-paths : r.survey.total ≤ 2 ^ 62
-    stage-paths = paths-fit netlist r t e
+    pub stage-paths : d.total ≤ 2 ^ 62
+    stage-paths = paths-fit netlist r t d e
 
-    pub stage-legal : (a : EndAnswer)
-        → ended_of a ≡ passes (end_legal_of (2 + 2 * vector_bytes_of r.survey.inputs) r.survey.total total first report ws)
+    pub stage-legal : (a : Result (Unit {0}) ℕ)
+        → ended_of a ≡ passes (end_legal_of (2 + 2 * vector_bytes_of d.inputs) d.total total first report ws)
         → ended_of a ≡ passes (end_stage netlist total first report ws)
     unfolding end_stage
     stage-legal a q =
-        let s = legal-survey netlist r.survey r.answer t.answer t.survey e in
+        let s = legal-survey netlist r t d e in
         q
         ∙ ap₂ (λ i p. passes (end_legal_of (2 + 2 * vector_bytes_of i) p total first report ws)) s.inputs_are s.total_is
         ∙ rw s.is_read refl
@@ -72,28 +70,28 @@ state-left paths first ws left q =
 
 -- The end
 module _ (netlist : List ℕ) (total first : ℕ) (report ws : List ℕ) where
-  pub end-words : (length ws ≡ store_words_count → ⊥) → (m : ℕ) → m ≡ refusal_number_of why.StoreLength → EndTrue (ending.Refused m) netlist total first report ws ws
+  pub end-words : (length ws ≡ store_words_count → ⊥) → (m : ℕ) → m ≡ refusal_number_of why.StoreLength → EndTrue (Err m) netlist total first report ws ws
   unfolding end_answer end_store end_call
   end-words d m q = record {
     answer = ap (λ (i : ℕ). refused i) q ∙ rw (ne_eqb (length ws) store_words_count d) refl;
     store = rw (ne_eqb (length ws) store_words_count d) refl;
   }
 
-  module _ (l : length ws ≡ store_words_count) (a : EndAnswer) (q : ended_of a ≡ passes (end_stage netlist total first report ws)) where
+  module _ (l : length ws ≡ store_words_count) (a : Result (Unit {0}) ℕ) (q : ended_of a ≡ passes (end_stage netlist total first report ws)) where
     long : checks (store_rule ws ∷ []) ≡ value tt
     long = rw (eq-eqb (length ws) store_words_count l) refl
 
-    pub end-no : (n : ℕ) → a ≡ ending.Refused n → (ws' : List ℕ) → ws' ≡ replicate (length ws) 0 → EndTrue (ending.Refused n) netlist total first report ws ws'
+    pub end-no : (n : ℕ) → a ≡ Err n → (ws' : List ℕ) → ws' ≡ replicate (length ws) 0 → EndTrue (Err n) netlist total first report ws ws'
     unfolding end_answer end_store end_call left_store
     end-no n e ws' z =
         let x : end_stage netlist total first report ws ≡ refused n = refused-by (end_stage netlist total first report ws) n (sym (ap ended_of e) ∙ q) in
         record { answer = rw (long, x) refl; store = emptied ws' (length ws) z l ∙ rw (long, x) refl }
 
-    yes_by : (left : List ℕ) → end_stage netlist total first report ws ≡ value left → left ≡ ws → EndTrue ending.Accepted netlist total first report ws ws
+    yes_by : (left : List ℕ) → end_stage netlist total first report ws ≡ value left → left ≡ ws → EndTrue (Ok tt) netlist total first report ws ws
     unfolding end_answer end_store end_call left_store
     yes_by left x w = record { answer = rw (long, x) refl; store = sym w ∙ rw (long, x) refl }
 
-    pub end-yes : a ≡ ending.Accepted → EndTrue ending.Accepted netlist total first report ws ws
+    pub end-yes : a ≡ Ok tt → EndTrue (Ok tt) netlist total first report ws ws
     unfolding end_stage end_legal_of
     end-yes e =
         let x = taken-by (end_stage netlist total first report ws) (sym (ap ended_of e) ∙ q) in

@@ -1,4 +1,5 @@
 -- The cases of each public call, then the steps together, the public calls together, and the theorem.
+pub mod BeginCases
 pub mod PieceCases
 pub mod EndCases
 pub mod TogetherHolds

@@ -13,14 +13,9 @@ use Rattle.model.specs.declared.Refusal.TheVariants as why
 use Rattle.model.proofs.AnswerLaws.{not_refused, value_inj}
 use Rattle.model.proofs.ReadLaws.{limits}
 use Rattle.netlist.specs.Answers.{LoadedTrue}
-use Rattle.netlist.specs.declared.SurveyAnswer.TheVariants as survey
 use Rattle.netlist.specs.declared.inner.Loaded.{Loaded}
 use Rattle.netlist.proofs.LoadLaws.{loaded_legal, loaded_refused}
-use Rattle.store_words.specs.WordAnswers.{check_of}
-use Rattle.store_words.specs.declared.inner.StoreCheck.{StoreCheck}
-use Rattle.store_words.specs.declared.inner.StoreCheck.TheVariants as check
 use Rattle.audit_block.specs.RecordsTaken.{file_of, left_store, taken_of}
-use Rattle.store_coverage.specs.declared.inner.StageAnswer.TheVariants as stage
 use Rattle.audit_block.specs.declared.inner.TakenRecords.{TakenRecords}
 use Rattle.audit_block.proofs.MemoryLaws.{emptied}
 use Rattle.audit_pieces.specs.declared.PieceAnswer.{PieceAnswer}
@@ -30,6 +25,8 @@ use Rattle.audit_records.specs.FileRecords.{Ready}
 use Rattle.audit_pieces.specs.Calls.{RecordsSaid, piece_of, records_said, piece_answer, piece_call, piece_left, PieceWork, PieceTrue, PieceReady, PieceStaged}
 use Rattle.audit_judging.specs.FileJudging.{store_checked}
 use Rattle.audit_piece_steps.proofs.StepCases.{lent-words, lent-short, lent-passed}
+use Rattle.std.specs.Prelude.{Result, Ok, Err}
+use Rattle.model.specs.Returned.{answer_of}
 
 -- A piece on a legal netlist
 module _ (netlist : List ℕ) (loaded : Loaded) (class : ℕ) (bytes ws work : List ℕ) (ready : PieceReady netlist loaded ws work) where
@@ -39,16 +36,16 @@ module _ (netlist : List ℕ) (loaded : Loaded) (class : ℕ) (bytes ws work : L
   total_of : (N : Netlist) → read_netlist netlist ≡ value N → loaded.total ≡ path_total N
   total_of N q = ready.total_is ∙ ap path_total (value_inj (sym ready.tables.legal ∙ q))
 
-  module _ (k : StoreCheck) (ek : check_of k ≡ checks (store_rules loaded.total ws)) where
-    checked_is : (N : Netlist) → read_netlist netlist ≡ value N → checks (store_rules (path_total N) ws) ≡ check_of k
+  module _ (k : Result (Unit {0}) Refusal) (ek : answer_of k ≡ checks (store_rules loaded.total ws)) where
+    checked_is : (N : Netlist) → read_netlist netlist ≡ value N → checks (store_rules (path_total N) ws) ≡ answer_of k
     checked_is N q = ap (λ (p : ℕ). checks (store_rules p ws)) (sym (total_of N q)) ∙ sym ek
 
-    pub on-refused : (w : Refusal) → k ≡ check.Refused w → (ws' : List ℕ) → ws' ≡ replicate (length ws) 0
+    pub on-refused : (w : Refusal) → k ≡ Err w → (ws' : List ℕ) → ws' ≡ replicate (length ws) 0
         → PieceStaged (piece.Refused w) netlist class bytes ws ws' work work
     unfolding left_store
     on-refused w e ws' z =
         let x : (N : Netlist) → read_netlist netlist ≡ value N → checks (store_rules (path_total N) ws) ≡ refused (refusal_number_of w) =
-        λ N q. checked_is N q ∙ ap check_of e in
+        λ N q. checked_is N q ∙ ap answer_of e in
         record {
           answer = λ N q. rw (x N q) refl;
           store = λ N q. emptied ws' (length ws) z ready.store_length ∙ rw (x N q) refl;
@@ -57,9 +54,9 @@ module _ (netlist : List ℕ) (loaded : Loaded) (class : ℕ) (bytes ws work : L
           not_reached = λ N q n f. refl;
         }
 
-    module _ (s : k ≡ check.Sound) where
+    module _ (s : k ≡ Ok tt) where
       sound-is : (N : Netlist) → read_netlist netlist ≡ value N → checks (store_rules (path_total N) ws) ≡ value tt
-      sound-is N q = checked_is N q ∙ ap check_of s
+      sound-is N q = checked_is N q ∙ ap answer_of s
 
       pub on-ready : Ready netlist loaded ws work
       on-ready = record {
@@ -69,7 +66,7 @@ module _ (netlist : List ℕ) (loaded : Loaded) (class : ℕ) (bytes ws work : L
         memory = record { store_length = ready.store_length; sound = sound-is ready.circuit ready.tables.legal; work_length = ready.work_length };
       }
 
-      module _ (r : TakenRecords) (ws' work' : List ℕ) (t : PieceTaken r netlist loaded class (record { taken = 0; answer = stage.Taken }) bytes ws ws' work work') where
+      module _ (r : TakenRecords) (ws' work' : List ℕ) (t : PieceTaken r netlist loaded class (record { taken = 0; answer = (Ok tt) }) bytes ws ws' work work') where
         said-is : (N : Netlist) → read_netlist netlist ≡ value N → record { taken = r.taken; said = passes (file_of r.answer ws') } ≡ records_said N (class_of class) bytes ws
         unfolding records_said with_piece taken_with
         said-is N q =
@@ -90,10 +87,10 @@ module _ (netlist : List ℕ) (loaded : Loaded) (class : ℕ) (bytes ws work : L
               absurd (not_refused (sym f ∙ x));
         }
 
-        pub on-taken : r.answer ≡ stage.Taken → PieceStaged (piece.Taken r.taken) netlist class bytes ws ws' work work'
+        pub on-taken : r.answer ≡ Ok tt → PieceStaged (piece.Taken r.taken) netlist class bytes ws ws' work work'
         on-taken e = staged (piece.Taken r.taken) (rw e refl)
 
-        pub on-record : (w : Refusal) → r.answer ≡ stage.Refused w → PieceStaged (piece.RecordRefused r.taken w) netlist class bytes ws ws' work work'
+        pub on-record : (w : Refusal) → r.answer ≡ Err w → PieceStaged (piece.RecordRefused r.taken w) netlist class bytes ws ws' work work'
         on-record w e = staged (piece.RecordRefused r.taken w) (rw e refl)
 
 pub ruleset on-cases = (on-paths, on-refused, on-ready, on-taken, on-record, rules)
@@ -114,23 +111,23 @@ module _ (netlist : List ℕ) (class : ℕ) (bytes ws work : List ℕ) where
     pub piece-short : length work < work_words_count → PieceTrue (piece.Refused why.WorkLength) netlist class bytes ws ws work work
     piece-short h = at-lent why.WorkLength (lent-short ws work l h)
 
-    module _ (h : work_words_count ≤ length work) (loaded : Loaded) (t : LoadedTrue loaded netlist) where
-      pub piece-netlist : (w : Refusal) → loaded.answer ≡ survey.Refused w → (ws' : List ℕ) → ws' ≡ replicate (length ws) 0
+    module _ (h : work_words_count ≤ length work) (r : Result Loaded Refusal) (t : LoadedTrue r netlist) where
+      pub piece-netlist : (w : Refusal) → r ≡ Err w → (ws' : List ℕ) → ws' ≡ replicate (length ws) 0
           → PieceTrue (piece.Refused w) netlist class bytes ws ws' work work
       unfolding piece_answer piece_left piece_call left_store
       piece-netlist w e ws' z =
           let p = lent-passed ws work l h in
-          let q = loaded_refused loaded netlist t w e in
+          let q = loaded_refused r netlist t w e in
           record {
             answer = rw (p, q) refl;
             store = emptied ws' (length ws) z l ∙ rw (p, q) refl;
             memory = untouched;
           }
 
-      module _ (e : loaded.answer ≡ survey.Legal) where
+      module _ (loaded : Loaded) (e : r ≡ Ok loaded) where
         pub piece-legal : PieceReady netlist loaded ws work
         piece-legal =
-            let d = loaded_legal loaded netlist t e in
+            let d = loaded_legal r netlist t loaded e in
             record { circuit = d.circuit; tables = d.tables; total_is = d.total_is; store_length = l; work_length = h }
 
         pub piece-class : (k : Bool) → k ≡ within 1 2 class → not k ≡ true → (ws' : List ℕ) → ws' ≡ replicate (length ws) 0
@@ -138,7 +135,7 @@ module _ (netlist : List ℕ) (class : ℕ) (bytes ws work : List ℕ) where
         unfolding piece_answer piece_left piece_call left_store
         piece-class k ek n ws' z =
             let p = lent-passed ws work l h in
-            let q = (loaded_legal loaded netlist t e).tables.legal in
+            let q = (loaded_legal r netlist t loaded e).tables.legal in
             let u : within 1 2 class ≡ false = sym ek ∙ not-true k n in
             record {
               answer = rw (p, q) (rw u refl);
@@ -146,11 +143,11 @@ module _ (netlist : List ℕ) (class : ℕ) (bytes ws work : List ℕ) where
               memory = untouched;
             }
 
-        pub piece-done : (r : PieceAnswer) (ws' work' : List ℕ) (k : Bool) → k ≡ within 1 2 class → not k ≡ false
-            → PieceStaged r netlist class bytes ws ws' work work' → PieceTrue r netlist class bytes ws ws' work work'
+        pub piece-done : (a : PieceAnswer) (ws' work' : List ℕ) (k : Bool) → k ≡ within 1 2 class → not k ≡ false
+            → PieceStaged a netlist class bytes ws ws' work work' → PieceTrue a netlist class bytes ws ws' work work'
         unfolding piece_answer piece_left piece_call
-        piece-done r ws' work' k ek n s =
-            let d = loaded_legal loaded netlist t e in
+        piece-done a ws' work' k ek n s =
+            let d = loaded_legal r netlist t loaded e in
             let p = lent-passed ws work l h in
             let u : within 1 2 class ≡ true = sym ek ∙ not-false k n in
             let before : before_test netlist class ws work ≡ value d.circuit = rw (p, d.tables.legal) (rw u refl) in

@@ -11,14 +11,8 @@ use Rattle.model.proofs.AnswerLaws.{not_refused}
 use Rattle.model.proofs.ReportsHold.{demand_3}
 use Rattle.audit.specs.Answers.{AuditTrue}
 use Rattle.audit_block.specs.RecordsTaken.{taken_of}
-use Rattle.audit_judging.specs.declared.AuditAnswer.{AuditAnswer}
-use Rattle.audit_judging.specs.declared.AuditAnswer.TheVariants as audit
 use Rattle.audit.proofs.PromisesHold.{calls-true}
-use Rattle.audit_piece_steps.specs.declared.BeginAnswer.TheVariants as beginning
-use Rattle.audit_judging.specs.declared.EndAnswer.{EndAnswer}
-use Rattle.audit_judging.specs.declared.EndAnswer.TheVariants as ending
-use Rattle.audit_piece_steps.specs.declared.inner.Begun.{Begun}
-use Rattle.audit_piece_steps.specs.Steps.{BeginTrue, begun_of}
+use Rattle.audit_piece_steps.specs.Steps.{BeginTrue}
 use Rattle.audit_pieces.specs.Calls.{BegunTrue}
 use Rattle.audit_judging.specs.FileJudging.{ended_of}
 use Rattle.audit_piece_steps.specs.JoinedPieces.{joined}
@@ -26,38 +20,40 @@ use Rattle.audit_pieces.specs.Together.{MadePiece, bytes_of, no_records, last_an
 use Rattle.audit_pieces.proofs.TogetherHolds.{calls-joined, pieces-made, begun-ready, begun-empty, begun-refused, untouched}
 use Rattle.audit_pieces.proofs.TakenLaws.{taken_withs, taken-whole, last_taken}
 use Rattle.audit_pieces.proofs.CallsTogether.{calls-made, never-for_store, call-places}
+use Rattle.std.specs.Prelude.{Result, Ok, Err}
+use Rattle.model.specs.Returned.{answer_of}
 
 -- a beginning that was refused
-refused-at-once : (netlist : List ℕ) (class : ℕ) (test_file report ws ws₀ work : List ℕ) (b : Begun) → BeginTrue b netlist class ws ws₀ work
-    → (w : Refusal) → b.answer ≡ beginning.Refused w → AuditTrue (audit.Refused w) netlist class test_file report ws ws₀ work work
-refused-at-once netlist class test_file report ws ws₀ work b t w q =
-    let x = begun-refused netlist class test_file report ws ws₀ work (refusal_number_of w) (sym (ap begun_of q) ∙ t.answer) t.store in
-    record { answer = x.0; store = x.1; work = untouched netlist class test_file report ws ws₀ work (refusal_number_of w) (sym (ap begun_of q) ∙ t.answer) t.store }
+refused-at-once : (netlist : List ℕ) (class : ℕ) (test_file report ws ws₀ work : List ℕ) (w : Refusal) → BeginTrue (Err w) netlist class ws ws₀ work
+    → AuditTrue (Err w) netlist class test_file report ws ws₀ work work
+refused-at-once netlist class test_file report ws ws₀ work w t =
+    let x = begun-refused netlist class test_file report ws ws₀ work (refusal_number_of w) t.answer t.store in
+    record { answer = x.0; store = x.1; work = untouched netlist class test_file report ws ws₀ work (refusal_number_of w) t.answer t.store }
 
 call-refused-at-once : (netlist : List ℕ) (class : ℕ) (test_file report ws ws₀ work : List ℕ) (w : Refusal)
-    → BegunTrue (beginning.Refused w) netlist class ws ws₀ work → WholeAudit (ending.Refused (refusal_number_of w)) netlist class test_file report ws ws₀ work
+    → BegunTrue (Err w) netlist class ws ws₀ work → WholeAudit (Err (refusal_number_of w)) netlist class test_file report ws ws₀ work
 call-refused-at-once netlist class test_file report ws ws₀ work w t =
     let x = begun-refused netlist class test_file report ws ws₀ work (refusal_number_of w) t.answer t.store in
     record { answer = x.0; store = x.1 }
 
 -- the number of records taken
-step-places : (netlist : List ℕ) (class : ℕ) (ms : List MadePiece) (report ws ws' work : List ℕ) (r : AuditAnswer)
+step-places : (netlist : List ℕ) (class : ℕ) (ms : List MadePiece) (report ws ws' work : List ℕ) (r : Result (Unit {0}) Refusal)
     → (s : StepsMade netlist class ms report ws ws' work r)
     → (last_answer no_records ms).taken ≡ taken_of s.circuit (class_of class) (file_records s.circuit (joined (bytes_of ms))) empty_store
 step-places netlist class ms report ws ws' work r s =
     let ws₀ : List ℕ = s.emptied in
-    last_taken netlist s.begun.loaded class s.circuit s.legal no_records ws₀ ms s.takes
+    last_taken netlist s.loaded class s.circuit s.legal no_records ws₀ ms s.takes
     ∙ ap (λ (x : List ℕ). taken_withs s.circuit (class_of class) (bytes_of ms) (value x) 0)
-    (begun-empty netlist class ws ws₀ work s.begun.answer s.begins.answer s.is_ready s.begins.store)
+    (begun-empty netlist class ws ws₀ work s.begins.answer s.begins.store)
     ∙ taken-whole s.circuit (class_of class) (bytes_of ms) s.whole empty_store
 
 -- an audit whose answer is a number accepts exactly the true report
-accepted_is : (r : EndAnswer) → ended_of r ≡ value tt → r ≡ ending.Accepted
-accepted_is ending.Accepted e = refl
-accepted_is (ending.Refused n) e = absurd (not_refused e)
+accepted_is : (r : Result (Unit {0}) ℕ) → ended_of r ≡ value tt → r ≡ Ok tt
+accepted_is (Ok tt) e = refl
+accepted_is (Err n) e = absurd (not_refused e)
 
-whole-accepts : (netlist : List ℕ) (class : ℕ) (test_file report ws ws' work : List ℕ) (r : EndAnswer)
-    → WholeAudit r netlist class test_file report ws ws' work → (r ≡ ending.Accepted) ↔ Acceptable netlist class test_file report ws work
+whole-accepts : (netlist : List ℕ) (class : ℕ) (test_file report ws ws' work : List ℕ) (r : Result (Unit {0}) ℕ)
+    → WholeAudit r netlist class test_file report ws ws' work → (r ≡ Ok tt) ↔ Acceptable netlist class test_file report ws work
 whole-accepts netlist class test_file report ws ws' work r a = (
   λ q. (demand_3.audits netlist class test_file report ws work).0 (sym a.answer ∙ ap ended_of q),
   λ q. accepted_is r (a.answer ∙ (demand_3.audits netlist class test_file report ws work).1 q),

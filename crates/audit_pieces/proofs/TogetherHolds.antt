@@ -13,27 +13,23 @@ use Rattle.model.proofs.AnswerLaws.{Passed, checks→, →checks, then-first, no
 use Rattle.model.proofs.BeforeLaws.{Reached, reached→}
 use Rattle.model.proofs.RefusalLaws.{audit_found, audit_emptied}
 use Rattle.model.proofs.ReportLaws.{length-records}
-use Rattle.netlist.specs.declared.SurveyAnswer.{SurveyAnswer}
-use Rattle.netlist.specs.declared.SurveyAnswer.TheVariants as survey
 use Rattle.netlist.specs.declared.inner.Loaded.{Loaded}
-use Rattle.netlist.proofs.LoadLaws.{loaded_legal, loaded_refused}
 use Rattle.store_coverage.specs.Stage.{MemoryReady}
 use Rattle.audit.specs.Answers.{AuditTrue}
 use Rattle.audit_block.specs.RecordsTaken.{file_of, left_store}
 use Rattle.audit.specs.TestFile.{audit_file}
-use Rattle.audit_judging.specs.declared.AuditAnswer.{AuditAnswer}
 use Rattle.audit_block.specs.declared.inner.TakenRecords.{TakenRecords}
 use Rattle.audit_block.proofs.MemoryLaws.{empty-memory}
 use Rattle.audit.proofs.AuditCases.{audit_left}
-use Rattle.audit_piece_steps.specs.declared.BeginAnswer.{BeginAnswer}
-use Rattle.audit_piece_steps.specs.declared.BeginAnswer.TheVariants as beginning
-use Rattle.audit_piece_steps.specs.declared.inner.Begun.{Begun}
-use Rattle.audit_piece_steps.specs.Steps.{BeginTrue, begun_of, lent_rules, begin_answer, begin_store, with_piece, end_of}
+use Rattle.audit_piece_steps.specs.Steps.{BeginTrue, lent_rules, begin_answer, begin_store, with_piece, end_of}
 use Rattle.audit_records.specs.FileRecords.{Ready}
 use Rattle.audit_judging.specs.FileJudging.{end_by}
 use Rattle.audit_piece_steps.specs.JoinedPieces.{joined, WholeButLast, with_pieces}
 use Rattle.audit_piece_steps.proofs.JoinedPieceLaws.{pieces-joined}
 use Rattle.audit_pieces.specs.Together.{pieces_call, MadePiece, bytes_of, no_records, Promised, last_answer, last_left, StepsMade}
+use Rattle.std.specs.Prelude.{Result, Ok, Err}
+use Rattle.model.specs.declared.Refusal.{Refusal}
+use Rattle.model.specs.Returned.{answer_of}
 
 -- The end of a file that was taken whole is the audit from 33 on
 pub end-file : (N : Netlist) (c : Class) (test_file report : List ℕ)
@@ -95,13 +91,10 @@ module _ (netlist : List ℕ) (class : ℕ) (test_file report ws work : List ℕ
   end-work work' k p = record { same_length_of = k; past_work = p; not_reached = λ n q. absurd (not_refused (sym q ∙ b)) }
 
 -- a beginning that passed
-module _ (netlist : List ℕ) (class : ℕ) (ws ws₀ work : List ℕ) (b : BeginAnswer) (a : begun_of b ≡ begin_answer netlist class ws work)
-    (q : b ≡ beginning.Ready) where
+module _ (netlist : List ℕ) (class : ℕ) (ws ws₀ work : List ℕ) (a : value tt ≡ begin_answer netlist class ws work) where
   passed : Passed (before_test netlist class ws work)
   unfolding begin_answer
-  passed =
-      let p : value tt ≡ passes (before_test netlist class ws work) = sym (ap begun_of q) ∙ a in
-      then-first (before_test netlist class ws work) (value tt) (sym p)
+  passed = then-first (before_test netlist class ws work) (value tt) (sym a)
 
   reached : Reached netlist class ws work passed.got
   reached = reached→ netlist class ws work passed.got passed.is
@@ -125,17 +118,17 @@ module _ (netlist : List ℕ) (class : ℕ) (ws ws₀ work : List ℕ) (b : Begi
       subst (λ (x : List ℕ). MemoryReady N x work) (sym (begun-empty s)) (empty-memory N work (leb→le work_words_count (length work) p.1.0))
 
 -- The steps that were made
-pub pieces-made : (netlist : List ℕ) (class : ℕ) (ms : List MadePiece) (report ws ws' work : List ℕ) (r : AuditAnswer)
+pub pieces-made : (netlist : List ℕ) (class : ℕ) (ms : List MadePiece) (report ws ws' work : List ℕ) (r : Result (Unit {0}) Refusal)
     → StepsMade netlist class ms report ws ws' work r → AuditTrue r netlist class (joined (bytes_of ms)) report ws ws' work work
 pieces-made netlist class ms report ws ws' work r m =
     let N : Netlist = m.circuit in
     let c : Class = class_of class in
     let test_file : List ℕ = joined (bytes_of ms) in
     let ws₀ : List ℕ = m.emptied in
-    let loaded : Loaded = m.begun.loaded in
-    let lent = begun-lent netlist class ws ws₀ work m.begun.answer m.begins.answer m.is_ready in
-    let before = begun-before netlist class ws ws₀ work m.begun.answer m.begins.answer m.is_ready N m.legal in
-    let empty = begun-empty netlist class ws ws₀ work m.begun.answer m.begins.answer m.is_ready m.begins.store in
+    let loaded : Loaded = m.loaded in
+    let lent = begun-lent netlist class ws ws₀ work m.begins.answer in
+    let before = begun-before netlist class ws ws₀ work m.begins.answer N m.legal in
+    let empty = begun-empty netlist class ws ws₀ work m.begins.answer m.begins.store in
     let s : file_of (last_answer no_records ms).answer (last_left ws₀ ms) ≡ with_piece N c test_file (value empty_store) =
     last-state netlist loaded class N m.legal no_records ws₀ ms m.takes
     ∙ pieces-joined N c (bytes_of ms) m.whole (value ws₀)
@@ -149,25 +142,16 @@ pieces-made netlist class ms report ws ws' work r m =
     }
 
 -- The other steps can then be made
-pub begun-ready : (netlist : List ℕ) (class : ℕ) (ws ws₀ work : List ℕ) (b : Begun) → BeginTrue b netlist class ws ws₀ work → b.answer ≡ beginning.Ready
-    → Ready netlist b.loaded ws₀ work
-unfolding begin_answer
-begun-ready netlist class ws ws₀ work b t q = go b.loaded.answer refl
-  where
-    go : (x : SurveyAnswer) → b.loaded.answer ≡ x → Ready netlist b.loaded ws₀ work
-    go (survey.Refused w) e =
-        let l = begun-lent netlist class ws ws₀ work b.answer t.answer q in
-        let a : value tt ≡ refused (refusal_number_of w) =
-        sym (ap begun_of q) ∙ t.answer ∙ rw (l, loaded_refused b.loaded netlist t.tables w e) refl in
-        absurd (not_refused (sym a))
-    go survey.Legal e =
-        let d = loaded_legal b.loaded netlist t.tables e in
-        record {
-          circuit = d.circuit;
-          tables = d.tables;
-          total_is = d.total_is;
-          memory = begun-memory netlist class ws ws₀ work b.answer t.answer q d.circuit t.store;
-        }
+pub begun-ready : (netlist : List ℕ) (class : ℕ) (ws ws₀ work : List ℕ) (loaded : Loaded) → BeginTrue (Ok loaded) netlist class ws ws₀ work
+    → Ready netlist loaded ws₀ work
+begun-ready netlist class ws ws₀ work loaded t =
+    let d = t.tables in
+    record {
+      circuit = d.circuit;
+      tables = d.tables;
+      total_is = d.total_is;
+      memory = begun-memory netlist class ws ws₀ work t.answer d.circuit t.store;
+    }
 
 -- a beginning that was refused, with the number `n`
 module _ (netlist : List ℕ) (class : ℕ) (test_file report ws ws₀ work : List ℕ) (n : ℕ) (a : refused n ≡ begin_answer netlist class ws work) (s : ws₀ ≡ begin_store ws work) where

@@ -12,16 +12,17 @@ use Rattle.model.specs.Report.{file_records, test_all}
 use Rattle.netlist.specs.declared.inner.Loaded.{Loaded}
 use Rattle.netlist.specs.Tables.{CircuitTables}
 use Rattle.audit_block.specs.RecordsTaken.{left_store, taken_of}
-use Rattle.audit_piece_steps.specs.declared.BeginAnswer.{BeginAnswer}
 use Rattle.audit_pieces.specs.declared.PieceAnswer.{PieceAnswer}
 use Rattle.audit_pieces.specs.declared.PieceAnswer.TheVariants as piece
-use Rattle.audit_judging.specs.declared.EndAnswer.{EndAnswer}
 use Rattle.audit_judging.specs.FileJudging.{store_checked, ended_of, end_legal_of}
-use Rattle.audit_piece_steps.specs.Steps.{begun_of, lent_rules, begin_answer, begin_store}
+use Rattle.audit_piece_steps.specs.Steps.{lent_rules, begin_answer, begin_store}
+use Rattle.std.specs.Prelude.{Result}
+use Rattle.model.specs.declared.Refusal.{Refusal}
+use Rattle.model.specs.Returned.{answer_of}
 
 -- The beginning: its answer, and the store afterwards
-pub record BegunTrue (r : BeginAnswer) (netlist : List ℕ) (class : ℕ) (ws ws' work : List ℕ) : Type 0 where
-  pub answer : begun_of r ≡ begin_answer netlist class ws work
+pub record BegunTrue (r : Result (Unit {0}) Refusal) (netlist : List ℕ) (class : ℕ) (ws ws' work : List ℕ) : Type 0 where
+  pub answer : answer_of r ≡ begin_answer netlist class ws work
   pub store : ws' ≡ begin_store ws work
 
 -- what the records of a piece answer: how many were taken before the first that was refused, all if none was, and the number of that refusal
@@ -94,6 +95,6 @@ end_answer netlist total first report ws = passes (end_call netlist total first 
 unfoldable pub end_store : List ℕ → ℕ → ℕ → List ℕ → List ℕ → List ℕ
 end_store netlist total first report ws = after (checks (store_rule ws ∷ [])) ws (λ u. left_store (end_call netlist total first report ws))
 
-pub record EndTrue (r : EndAnswer) (netlist : List ℕ) (total first : ℕ) (report ws ws' : List ℕ) : Type 0 where
+pub record EndTrue (r : Result (Unit {0}) ℕ) (netlist : List ℕ) (total first : ℕ) (report ws ws' : List ℕ) : Type 0 where
   pub answer : ended_of r ≡ end_answer netlist total first report ws
   pub store : ws' ≡ end_store netlist total first report ws

@@ -12,21 +12,15 @@ use Rattle.model.specs.declared.Refusal.{Refusal}
 use Rattle.netlist.specs.declared.inner.Loaded.{Loaded}
 use Rattle.audit.specs.Answers.{AuditTrue}
 use Rattle.audit_block.specs.RecordsTaken.{taken_of}
-use Rattle.audit_judging.specs.declared.AuditAnswer.{AuditAnswer}
-use Rattle.audit_judging.specs.declared.AuditAnswer.TheVariants as audit
-use Rattle.store_coverage.specs.declared.inner.StageAnswer.TheVariants as stage
 use Rattle.audit_block.specs.declared.inner.TakenRecords.{TakenRecords}
-use Rattle.audit_piece_steps.specs.declared.BeginAnswer.TheVariants as beginning
 use Rattle.audit_pieces.specs.declared.PieceAnswer.{PieceAnswer}
 use Rattle.audit_pieces.specs.declared.PieceAnswer.TheVariants as piece
-use Rattle.audit_judging.specs.declared.EndAnswer.{EndAnswer}
-use Rattle.audit_judging.specs.declared.EndAnswer.TheVariants as ending
-use Rattle.audit_piece_steps.specs.declared.inner.Begun.{Begun}
 use Rattle.audit_piece_steps.specs.Steps.{BeginTrue, PieceTaken, Ended, end_of}
 use Rattle.audit_records.specs.FileRecords.{Ready}
 use Rattle.audit_piece_steps.specs.JoinedPieces.{joined, WholeButLast, with_pieces}
 use Rattle.audit_pieces.specs.Calls.{BegunTrue, PieceTrue, EndTrue}
 use Rattle.audit_judging.specs.FileJudging.{ended_of}
+use Rattle.std.specs.Prelude.{Result, Ok, Err}
 
 -- beginning, pieces and end
 unfoldable pub pieces_call : List ℕ → ℕ → List (List ℕ) → List ℕ → List ℕ → List ℕ → Answer (List ℕ)
@@ -48,7 +42,7 @@ bytes_of ms = map (λ m. m.bytes) ms
 
 -- before the first piece no record is taken
 abbrev pub no_records : TakenRecords
-no_records = record { taken = 0; answer = stage.Taken }
+no_records = record { taken = 0; answer = (Ok tt) }
 
 -- The promise of each piece of a list: the first gets answer and store as given, each later one as the piece before left them; each has whatever
 -- working memory it was handed
@@ -68,14 +62,13 @@ last_left ws [] = ws
 last_left ws (m ∷ ms) = last_left m.left ms
 
 -- Steps that were made: a beginning that is ready, the pieces `ms` in order, all in one class, and an end that returned `r`, each as promised
-pub record StepsMade (netlist : List ℕ) (class : ℕ) (ms : List MadePiece) (report ws ws' work : List ℕ) (r : AuditAnswer) : Type 0 where
+pub record StepsMade (netlist : List ℕ) (class : ℕ) (ms : List MadePiece) (report ws ws' work : List ℕ) (r : Result (Unit {0}) Refusal) : Type 0 where
   pub circuit : Netlist
   pub legal : read_netlist netlist ≡ value circuit
-  pub begun : Begun
+  pub loaded : Loaded
   pub emptied : List ℕ
-  pub begins : BeginTrue begun netlist class ws emptied work
-  pub is_ready : begun.answer ≡ beginning.Ready
-  pub takes : Promised netlist begun.loaded class no_records emptied ms
+  pub begins : BeginTrue (Ok loaded) netlist class ws emptied work
+  pub takes : Promised netlist loaded class no_records emptied ms
   pub whole : WholeButLast circuit (bytes_of ms)
   pub ends : Ended r netlist (last_answer no_records ms).answer (length (joined (bytes_of ms))) report (last_left emptied ms) ws'
 
@@ -140,17 +133,17 @@ pub record PiecesMade (netlist : List ℕ) (class : ℕ) (ms : List MadeCall) (w
   pub circuit : Netlist
   pub legal : read_netlist netlist ≡ value circuit
   pub emptied : List ℕ
-  pub begins : BegunTrue beginning.Ready netlist class ws emptied work
+  pub begins : BegunTrue (Ok tt) netlist class ws emptied work
   pub takes : HandedOver netlist class 0 emptied ms
   pub whole : WholeButLast circuit (call_bytes ms)
 
 -- and the end, which returned `r`
-pub record CallsMade (netlist : List ℕ) (class : ℕ) (ms : List MadeCall) (report ws ws' work : List ℕ) (r : EndAnswer) : Type 0 where
+pub record CallsMade (netlist : List ℕ) (class : ℕ) (ms : List MadeCall) (report ws ws' work : List ℕ) (r : Result (Unit {0}) ℕ) : Type 0 where
   pub pieces : PiecesMade netlist class ms ws work
   pub ends : EndTrue r netlist (length (joined (call_bytes ms))) (last_first 0 ms) report (last_store pieces.emptied ms) ws'
 
 -- answer and store of the audit of a whole file, of an answer that is a number
-pub record WholeAudit (r : EndAnswer) (netlist : List ℕ) (class : ℕ) (test_file report ws ws' work : List ℕ) : Type 0 where
+pub record WholeAudit (r : Result (Unit {0}) ℕ) (netlist : List ℕ) (class : ℕ) (test_file report ws ws' work : List ℕ) : Type 0 where
   pub answer : ended_of r ≡ audit_answer netlist class test_file report ws work
   pub store : ws' ≡ audit_store netlist class test_file report ws work
 
@@ -163,28 +156,28 @@ pub record PiecesTrue : Type 0 where
       → (report ws work : List ℕ) → pieces_call netlist class pieces report ws work ≡ audit_call netlist class (joined pieces) report ws work
   -- of the values that the steps return, whatever working memory each piece was handed: the promise of the audit of the whole file, its store
   -- included. The memory is that of the beginning, which changes none; what a piece changes of its own is in its promise
-  pub made : (netlist : List ℕ) (class : ℕ) (ms : List MadePiece) (report ws ws' work : List ℕ) (r : AuditAnswer) → StepsMade netlist class ms report ws ws' work r
+  pub made : (netlist : List ℕ) (class : ℕ) (ms : List MadePiece) (report ws ws' work : List ℕ) (r : Result (Unit {0}) Refusal) → StepsMade netlist class ms report ws ws' work r
       → AuditTrue r netlist class (joined (bytes_of ms)) report ws ws' work work
   -- so they accept exactly the true report of the whole file
-  pub accepts : (netlist : List ℕ) (class : ℕ) (ms : List MadePiece) (report ws ws' work : List ℕ) (r : AuditAnswer) → StepsMade netlist class ms report ws ws' work r
-      → (r ≡ audit.Accepted) ↔ Acceptable netlist class (joined (bytes_of ms)) report ws work
+  pub accepts : (netlist : List ℕ) (class : ℕ) (ms : List MadePiece) (report ws ws' work : List ℕ) (r : Result (Unit {0}) Refusal) → StepsMade netlist class ms report ws ws' work r
+      → (r ≡ Ok tt) ↔ Acceptable netlist class (joined (bytes_of ms)) report ws work
   -- a refusal at the beginning is the audit's, whatever the file and the report; else the other steps can be made
-  pub refused_at_once : (netlist : List ℕ) (class : ℕ) (test_file report ws ws₀ work : List ℕ) (b : Begun) → BeginTrue b netlist class ws ws₀ work
-      → (w : Refusal) → b.answer ≡ beginning.Refused w → AuditTrue (audit.Refused w) netlist class test_file report ws ws₀ work work
-  pub ready_then : (netlist : List ℕ) (class : ℕ) (ws ws₀ work : List ℕ) (b : Begun) → BeginTrue b netlist class ws ws₀ work → b.answer ≡ beginning.Ready
-      → Ready netlist b.loaded ws₀ work
+  pub refused_at_once : (netlist : List ℕ) (class : ℕ) (test_file report ws ws₀ work : List ℕ) (w : Refusal) → BeginTrue (Err w) netlist class ws ws₀ work
+      → AuditTrue (Err w) netlist class test_file report ws ws₀ work work
+  pub ready_then : (netlist : List ℕ) (class : ℕ) (ws ws₀ work : List ℕ) (loaded : Loaded) → BeginTrue (Ok loaded) netlist class ws ws₀ work
+      → Ready netlist loaded ws₀ work
   -- the same of the values that the public calls return, whatever is in the working memory that each piece is handed
-  pub calls_made : (netlist : List ℕ) (class : ℕ) (ms : List MadeCall) (report ws ws' work : List ℕ) (r : EndAnswer) → CallsMade netlist class ms report ws ws' work r
+  pub calls_made : (netlist : List ℕ) (class : ℕ) (ms : List MadeCall) (report ws ws' work : List ℕ) (r : Result (Unit {0}) ℕ) → CallsMade netlist class ms report ws ws' work r
       → WholeAudit r netlist class (joined (call_bytes ms)) report ws ws' work
-  pub calls_accept : (netlist : List ℕ) (class : ℕ) (ms : List MadeCall) (report ws ws' work : List ℕ) (r : EndAnswer) → CallsMade netlist class ms report ws ws' work r
-      → (r ≡ ending.Accepted) ↔ Acceptable netlist class (joined (call_bytes ms)) report ws work
+  pub calls_accept : (netlist : List ℕ) (class : ℕ) (ms : List MadeCall) (report ws ws' work : List ℕ) (r : Result (Unit {0}) ℕ) → CallsMade netlist class ms report ws ws' work r
+      → (r ≡ Ok tt) ↔ Acceptable netlist class (joined (call_bytes ms)) report ws work
   pub call_refused_at_once : (netlist : List ℕ) (class : ℕ) (test_file report ws ws₀ work : List ℕ) (w : Refusal)
-      → BegunTrue (beginning.Refused w) netlist class ws ws₀ work
-      → WholeAudit (ending.Refused (refusal_number_of w)) netlist class test_file report ws ws₀ work
+      → BegunTrue (Err w) netlist class ws ws₀ work
+      → WholeAudit (Err (refusal_number_of w)) netlist class test_file report ws ws₀ work
   -- a piece call that gets the store as the call before left it is never refused for its store
   pub never_for_store : (netlist : List ℕ) (class : ℕ) (ms : List MadeCall) (ws work : List ℕ) → PiecesMade netlist class ms ws work → OnlyByRecords 0 ms
   -- the numbers of records taken are those of the whole file: the first refused record stands just after them
-  pub places : (netlist : List ℕ) (class : ℕ) (ms : List MadePiece) (report ws ws' work : List ℕ) (r : AuditAnswer) → (s : StepsMade netlist class ms report ws ws' work r)
+  pub places : (netlist : List ℕ) (class : ℕ) (ms : List MadePiece) (report ws ws' work : List ℕ) (r : Result (Unit {0}) Refusal) → (s : StepsMade netlist class ms report ws ws' work r)
       → (last_answer no_records ms).taken ≡ taken_of s.circuit (class_of class) (file_records s.circuit (joined (bytes_of ms))) empty_store
   pub call_places : (netlist : List ℕ) (class : ℕ) (ms : List MadeCall) (ws work : List ℕ) → (s : PiecesMade netlist class ms ws work)
       → last_taken_of 0 0 ms ≡ taken_of s.circuit (class_of class) (file_records s.circuit (joined (call_bytes ms))) empty_store

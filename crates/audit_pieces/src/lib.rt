@@ -10,16 +10,13 @@ ghost use Rattle.audit_judging.specs.FileJudging.{ended_of};
 ghost use Rattle.audit_pieces.specs.Calls.{BegunTrue, PieceReady, PieceStaged, PieceTrue, EndTrue, end_stage};
 
 use audit_block::inner::TakenRecords;
-use audit_judging::EndAnswer;
 use audit_judging::inner::end_legal;
-use audit_piece_steps::BeginAnswer;
 use audit_piece_steps::inner::{apply_piece, begin};
 use model::{Refusal, STORE_WORDS, WORK_WORDS, known_class};
 use model_refusals::refusal_number;
 use netlist::inner::{Loaded, load_by_value};
-use netlist::{SurveyAnswer, survey};
-use store_coverage::inner::StageAnswer;
-use store_words::inner::{StoreCheck, check_words};
+use netlist::survey;
+use store_words::inner::check_words;
 use store_writing::inner::clear;
 
 // What a piece answers: the number of its records, all taken; the number of those taken before the first that was refused, and why; or why no
@@ -32,11 +29,16 @@ pub enum PieceAnswer {
 }
 
 // The beginning: lent memory, netlist and class. The store is emptied unread, unless the lent memory is refused.
-pub fn audit_begin(netlist: &[u8], test_class: u32, store: &mut [u64], work: &[u64]) -> BeginAnswer
+pub fn audit_begin(
+    netlist: &[u8],
+    test_class: u32,
+    store: &mut [u64],
+    work: &[u64],
+) -> Result<(), Refusal>
     ensures { BegunTrue result netlist.now test_class store.old store.new work.now }
 {
-    let begun = begin(netlist, test_class, store, work);
-    begun.answer
+    begin(netlist, test_class, store, work)?;
+    Ok(())
 }
 
 // A piece: lent memory, netlist, class, store, then the test stage with its whole records in order. Refused with a number over 2 it leaves the
@@ -56,14 +58,13 @@ pub fn audit_piece(
     if work.len() < WORK_WORDS {
         return PieceAnswer::Refused(Refusal::WorkLength);
     }
-    let loaded = load_by_value(netlist);
-    let answer = loaded.answer;
-    match answer {
-        SurveyAnswer::Refused(why) => {
+    let legal = load_by_value(netlist);
+    match legal {
+        Err(why) => {
             clear(store);
             PieceAnswer::Refused(why)
         }
-        SurveyAnswer::Legal => {
+        Ok(loaded) => {
             let known = known_class(test_class);
             if !known {
                 clear(store);
@@ -88,20 +89,20 @@ fn piece_on(
 {
     let checked = check_words(store, loaded.total);
     match checked {
-        StoreCheck::Refused(why) => {
+        Err(why) => {
             clear(store);
             PieceAnswer::Refused(why)
         }
-        StoreCheck::Sound => {
+        Ok(()) => {
             let none = TakenRecords {
                 taken: 0,
-                answer: StageAnswer::Taken,
+                answer: Ok(()),
             };
             let records = apply_piece(netlist, loaded, none, piece, class, store, work);
             let answer = records.answer;
             match answer {
-                StageAnswer::Taken => PieceAnswer::Taken(records.taken),
-                StageAnswer::Refused(why) => PieceAnswer::RecordRefused(records.taken, why),
+                Ok(()) => PieceAnswer::Taken(records.taken),
+                Err(why) => PieceAnswer::RecordRefused(records.taken, why),
             }
         }
     }
@@ -116,38 +117,30 @@ pub fn audit_end(
     first: u32,
     report: &[u8],
     store: &mut [u64],
-) -> EndAnswer
+) -> Result<(), u32>
     ensures { EndTrue result netlist.now bytes first report.now store.old store.new }
 {
     if store.len() != STORE_WORDS {
-        return EndAnswer::Refused(refusal_number(Refusal::StoreLength));
+        return Err(refusal_number(Refusal::StoreLength));
     }
     let ended = end_on(netlist, bytes, first, report, store);
     match ended {
-        EndAnswer::Accepted => EndAnswer::Accepted,
-        EndAnswer::Refused(number) => {
+        Ok(()) => Ok(()),
+        Err(number) => {
             clear(store);
-            EndAnswer::Refused(number)
+            Err(number)
         }
     }
 }
 
 // What the end answers, with a store of the right length.
-fn end_on(netlist: &[u8], bytes: u64, first: u32, report: &[u8], store: &[u64]) -> EndAnswer
+fn end_on(netlist: &[u8], bytes: u64, first: u32, report: &[u8], store: &[u64]) -> Result<(), u32>
     requires { length store.now ≡ store_words_count }
     ensures { ended_of result ≡ passes (end_stage netlist.now bytes first report.now store.now) }
 {
     let surveyed = survey(netlist);
-    let answer = surveyed.answer;
-    match answer {
-        SurveyAnswer::Refused(why) => EndAnswer::Refused(refusal_number(why)),
-        SurveyAnswer::Legal => end_legal(
-            surveyed.survey.inputs,
-            surveyed.survey.total,
-            bytes,
-            first,
-            report,
-            store,
-        ),
+    match surveyed {
+        Err(why) => Err(refusal_number(why)),
+        Ok(legal) => end_legal(legal.inputs, legal.total, bytes, first, report, store),
     }
 }

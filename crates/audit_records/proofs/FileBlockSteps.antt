@@ -13,7 +13,6 @@ use Rattle.model.specs.Calls.{work_words_count}
 use Rattle.model.specs.Report.{file_records, test_all}
 use Rattle.record_bytes.proofs.PartLaws.{part-rest}
 use Rattle.store_coverage.specs.Stage.{MemoryReady}
-use Rattle.store_coverage.specs.declared.inner.StageAnswer.TheVariants as stage
 use Rattle.audit_block.specs.RecordsTaken.{left_store, taken_of}
 use Rattle.audit_block.specs.FileBlocks.{BlockTables, BlocksReady, BlockTrue, BlockDone}
 use Rattle.audit_records.specs.FileRecords.{BlocksTaken}
@@ -22,6 +21,7 @@ use Rattle.audit_block.specs.declared.inner.FileNumbers.{FileNumbers}
 use Rattle.audit_block.proofs.MemoryLaws.{emptied}
 use Rattle.audit_block.proofs.BlockFileLaws.{no_record}
 use Rattle.audit_block.proofs.BlockTakeCases.{few-inputs}
+use Rattle.std.specs.Prelude.{Ok, Err}
 
 at_least : (b k : ℕ) → 1 ≤ b → k ≤ b * k
 at_least b k h = le_trans (le_of_eq (sym (one-mul k))) (mul-le-mul_right k h)
@@ -80,7 +80,7 @@ module _ (table offsets : List ℕ) (file : FileNumbers) (test_file risingLists�
         length-is N t = eb ∙ ap (λ (i : ℕ). 2 + 2 * vector_bytes_of i) t.circuit.inputs_are
 
         pub taking_end : length test_file - at < bytes
-            → BlocksTaken (record { taken = taken; answer = stage.Taken }) table offsets file test_file ws₀ ws work₀ work
+            → BlocksTaken (record { taken = taken; answer = (Ok tt) }) table offsets file test_file ws₀ ws work₀ work
         unfolding left_store test_all taken_of
         taking_end h =
             let none : (N : Netlist) → BlockTables N table offsets file → [] ≡ file_records N (drop at test_file) =
@@ -132,8 +132,8 @@ module _ (table offsets : List ℕ) (file : FileNumbers) (test_file risingLists�
           pub count_fits : taken + r.taken < 2 ^ 64
           count_fits = omega (arith, block-count, end_fits)
 
-          pub taking_refused : {w : Refusal} → r.answer ≡ stage.Refused w → {ws'' : List ℕ} → ws'' ≡ replicate (length ws') 0
-              → BlocksTaken (record { taken = taken + r.taken; answer = stage.Refused w }) table offsets file test_file ws₀ ws'' work₀ work'
+          pub taking_refused : {w : Refusal} → r.answer ≡ Err w → {ws'' : List ℕ} → ws'' ≡ replicate (length ws') 0
+              → BlocksTaken (record { taken = taken + r.taken; answer = Err w }) table offsets file test_file ws₀ ws'' work₀ work'
           unfolding left_store
           taking_refused {w} q {ws''} z =
               let l : length ws' ≡ store_words_count = d.store_length ∙ g.same_store ∙ s.memory.store_length in
@@ -150,7 +150,7 @@ module _ (table offsets : List ℕ) (file : FileNumbers) (test_file risingLists�
                 past_work = d.kept.past_work ∙ g.past_work;
               }
 
-          module _ (q : r.answer ≡ stage.Taken) where
+          module _ (q : r.answer ≡ Ok tt) where
             pub taking_less : bytes ≤ length test_file - at → length test_file - (at + bytes * r.taken) < length test_file - at
             unfolding C
             taking_less h =

@@ -8,7 +8,6 @@ use block_activity::inner::layout::OFFSET_TABLE_SIZE;
 use block_words::inner::layout::{GATE_TABLE_SIZE, LISTS_SIZE};
 use netlist::inner::Shape;
 use record_test::inner::record_length;
-use store_coverage::inner::StageAnswer;
 use store_writing::inner::clear;
 
 // The test stage with all records of a file, block after block. A refused record ends them and empties the store.
@@ -42,21 +41,21 @@ fn apply_blocks(
         );
         let said = block.answer;
         match said {
-            StageAnswer::Refused(why) => {
+            Err(why) => {
                 clear(store);
-                let answer = StageAnswer::Refused(why);
+                let answer = Err(why);
                 return TakenRecords {
                     taken: taken + block.taken,
                     answer,
                 };
             }
-            StageAnswer::Taken => {
+            Ok(()) => {
                 at += bytes * block.taken;
                 taken += block.taken;
             }
         }
     }
-    let answer = StageAnswer::Taken;
+    let answer = Ok(());
     TakenRecords { taken, answer }
 }
 

@@ -10,7 +10,7 @@ use program_sentences::{STDOUT_FILENO, print_line};
 use report_bytes::layout::HEAD_BYTES;
 use report_claim_text::{claim_line, more_line, shown_lines};
 use report_claim_words::Kind;
-use report_differences::inner::walk::{Piece, next_piece};
+use report_differences::inner::walk::{FaultRange, next_piece};
 use report_runs::ascending;
 use report_runs::inner::{falling_runs, rising_runs};
 
@@ -34,8 +34,8 @@ fn print_pieces(kind: Kind, edge: Edge, a: &[u8], b: &[u8], before: u64, shown: 
         let found = next_piece(a, i, b, j, from);
         let piece = found.piece;
         match piece {
-            Piece::Nothing => return lines,
-            Piece::Range { low, high } => {
+            None => return lines,
+            Some(FaultRange { low, high }) => {
                 print_piece(kind, edge, low, high, lines < shown);
                 lines = one_more(lines);
                 if high == u64::MAX {
@@ -65,14 +65,16 @@ fn claim_in(a: &[u8], plain: &[u8], low: u64, high: u64) -> Claim
     let found = next_piece(a, 0, plain, 0, low);
     let piece = found.piece;
     match piece {
-        Piece::Nothing => Claim {
+        None => Claim {
             kind: Kind::NotRobust,
             high,
         },
-        Piece::Range {
-            low: first,
-            high: last,
-        } => {
+        Some(
+            FaultRange {
+                low: first,
+                high: last,
+            },
+        ) => {
             if high < first {
                 return Claim {
                     kind: Kind::NotRobust,
@@ -112,8 +114,8 @@ fn print_split(edge: Edge, a: &[u8], b: &[u8], plain: &[u8], before: u64, shown:
         let found = next_piece(a, i, b, j, from);
         let piece = found.piece;
         match piece {
-            Piece::Nothing => return lines,
-            Piece::Range { low, high } => {
+            None => return lines,
+            Some(FaultRange { low, high }) => {
                 let claim = claim_in(a, plain, low, high);
                 let wrong = claim.kind;
                 let last = claim.high;

@@ -12,7 +12,7 @@ use report_claim_text::{faults_line, field_line, order_line};
 use report_claim_words::Field;
 use report_differences::inner::first::{Told, first_told};
 use report_runs::inner::{Head, falling_runs, head_of, number_at, rising_runs};
-use report_runs::{Order, order_of};
+use report_runs::order_of;
 
 // A field of the head where it differs.
 fn print_field(field: Field, claimed: u64, truth: u64) {
@@ -63,8 +63,8 @@ fn print_run(edge: Edge, runs: &[u8], place: usize) {
 fn print_order(edge: Edge, runs: &[u8]) {
     let order = order_of(runs);
     match order {
-        Order::Ascending => return,
-        Order::OutOfOrder(place) => print_run(edge, runs, place),
+        Ok(()) => return,
+        Err(place) => print_run(edge, runs, place),
     }
 }
 

@@ -11,7 +11,6 @@ ghost use Rattle.std.specs.Prelude.{◌≡◌, ◌≤◌, length};
 ghost use Rattle.io.specs.Counts.{IsPrefixLen};
 
 use crate::explaining::explain;
-use audit_judging::AuditAnswer;
 use model::{NON_ROBUST, REPORT_BYTES, ROBUST, Refusal, STORE_WORDS, WORK_WORDS, known_class};
 use program_files::{
     close_file, file_name, has_argument, is_argument, load_argument, open_file, read_class,
@@ -136,8 +135,8 @@ fn print_judged(
     print_line(STDOUT_FILENO, verdict_line(answer));
     print_class(class);
     match answer {
-        AuditAnswer::Accepted => print_accepted(truth),
-        AuditAnswer::Refused(why) => {
+        Ok(()) => print_accepted(truth),
+        Err(why) => {
             print_reason(why, one_more(judged.taken as u64));
             if is_of_claims(why) {
                 print_claims(all, netlist, report, truth, plain);
@@ -147,10 +146,10 @@ fn print_judged(
 }
 
 // Whether an audit refused the claims of a report in class 2.
-fn needs_plain(answer: AuditAnswer, class: u32) -> bool {
+fn needs_plain(answer: Result<(), Refusal>, class: u32) -> bool {
     match answer {
-        AuditAnswer::Accepted => false,
-        AuditAnswer::Refused(why) => class == ROBUST && is_of_claims(why),
+        Ok(()) => false,
+        Err(why) => class == ROBUST && is_of_claims(why),
     }
 }
 

@@ -25,16 +25,17 @@ use Rattle.model.proofs.StoreLaws.{at_both, tests-store}
 use Rattle.model.proofs.DemandHolds.{one_list}
 use Rattle.model.proofs.ReportsHold.{demand_3}
 use Rattle.store_coverage.specs.TestCall.{tested_of}
-use Rattle.audit_judging.specs.FileJudging.{audited_of, store_checked}
+use Rattle.audit_judging.specs.FileJudging.{store_checked}
 use Rattle.audit.specs.Promised.{last_store, taken_tests}
 use Rattle.audit.proofs.PromisesHold.{calls-true}
 use Rattle.exhaust_pairs.specs.AllPairs.{all_pairs}
 use Rattle.exhaust_pairs.specs.Exhaust.{few_inputs, pairs_on, exhaust_call, exhaust_answer}
 use Rattle.exhaust_pairs.proofs.OnTheWayLaws.{early, before-numbers}
-use Rattle.exhaust.specs.Answers.{exhaust_of}
+use Rattle.exhaust.specs.Answers.{totals_among}
 use Rattle.audit_pieces.specs.Calls.{RecordsSaid, records_said, piece_of, piece_answer}
 use Rattle.audit_run_bounds.specs.Bounds.{small_total, RunsBounded, FewRuns, CallsFewRuns, FewTests}
 use Rattle.audit_run_bounds.proofs.AvoidLaws.{Avoids, avoids, avoid_then, avoid_bind, avoid_after, avoid_check-then, avoid_checks}
+use Rattle.model.specs.Returned.{answer_of}
 
 -- where runs and their numbers together are at most one more than T, the numbers alone are at most T
 within-total : (rs : List Run) (paths : ℕ) → length rs + size rs ≤ suc paths → size rs ≤ paths
@@ -158,8 +159,8 @@ calls-few-runs = record {
       bounded N (legal netlist N q) (taken_tests N [] ms) (last_store empty_store ms) e ((calls-true.after_every_list netlist N q ms p).holds_no_other e);
   no_test_full = λ r netlist N q h class rec ws ws' found left t full. no-test-full netlist N q h class rec ws found (sym t.answer ∙ ap tested_of full);
   no_audit_full = λ r netlist N q h class test_file report ws ws' found left t full.
-      no-audit_full netlist N q h class test_file report ws found (sym t.answer ∙ ap audited_of full);
-  no_pairs_full = λ r netlist N q h class ws ws' found left t full. no-pairs-full netlist N q h class ws found (sym t.answer ∙ ap exhaust_of full);
+      no-audit_full netlist N q h class test_file report ws found (sym t.answer ∙ ap answer_of full);
+  no_pairs_full = λ r netlist N q h class ws ws' found left t full. no-pairs-full netlist N q h class ws found (sym t.answer ∙ ap totals_among full);
   no_record_full = λ r netlist N q h class bytes ws ws' found left t taken full.
       no-record_full netlist N q h class bytes ws found (record { taken = taken; said = refused 51 }) refl (sym (ap piece_of full) ∙ t.answer);
 }
@@ -203,5 +204,5 @@ pub few-tests-hold : FewTests
 few-tests-hold = record {
   no_audit = no-audit_counted;
   no_audit_made = λ r netlist class test_file report ws ws' found left t full.
-      no-audit_counted netlist class test_file report ws found (sym t.answer ∙ ap audited_of full);
+      no-audit_counted netlist class test_file report ws found (sym t.answer ∙ ap answer_of full);
 }

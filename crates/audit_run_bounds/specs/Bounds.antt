@@ -10,20 +10,18 @@ use Rattle.model.specs.Calls.{test_answer}
 use Rattle.model.specs.Report.{audit_answer}
 use Rattle.model.specs.Demand3.{CountOf, Detected, Call, start, after_calls}
 use Rattle.model.specs.declared.Refusal.TheVariants as refusal
-use Rattle.store_coverage.specs.declared.TestAnswer.{TestAnswer}
-use Rattle.store_coverage.specs.declared.TestAnswer.TheVariants as test
 use Rattle.single_call.specs.TestPromise.{TestTrue}
-use Rattle.audit_judging.specs.declared.AuditAnswer.{AuditAnswer}
-use Rattle.audit_judging.specs.declared.AuditAnswer.TheVariants as audit
 use Rattle.audit.specs.Answers.{AuditTrue}
 use Rattle.audit.specs.Promised.{MadeCall, Promised, last_store, taken_tests}
 use Rattle.exhaust_pairs.specs.Exhaust.{exhaust_answer}
 use Rattle.exhaust.specs.Answers.{ExhaustTrue}
-use Rattle.exhaust.specs.declared.ExhaustAnswer.{ExhaustAnswer}
-use Rattle.exhaust.specs.declared.ExhaustAnswer.TheVariants as exhaust
 use Rattle.audit_pieces.specs.Calls.{PieceTrue}
 use Rattle.audit_pieces.specs.declared.PieceAnswer.{PieceAnswer}
 use Rattle.audit_pieces.specs.declared.PieceAnswer.TheVariants as piece
+use Rattle.std.specs.Prelude.{Result, Err}
+use Rattle.model.specs.declared.Refusal.{Refusal}
+use Rattle.store_coverage.specs.declared.TestCounts.{TestCounts}
+use Rattle.store_words.specs.declared.inner.StoreTotals.{StoreTotals}
 
 -- the most paths of a netlist on which no test is refused with 51: each run but the last has a number after it that is in no run
 abbrev pub small_total : ℕ
@@ -58,13 +56,13 @@ pub record FewRuns : Type 0 where
 pub record CallsFewRuns : Type 0 where
   pub after_every_list : (netlist : List ℕ) (N : Netlist) → read_netlist netlist ≡ value N
       → (ms : List MadeCall) → Promised netlist empty_store ms → (e : Edge) → RunsBounded N (taken_tests N [] ms) (last_store empty_store ms) e
-  pub no_test_full : (r : TestAnswer) (netlist : List ℕ) (N : Netlist) → read_netlist netlist ≡ value N → path_total N ≤ small_total
-      → (class : ℕ) (rec ws ws' found left : List ℕ) → TestTrue r netlist class rec ws ws' found left → r ≡ test.Refused refusal.StoreRuns → ⊥
-  pub no_audit_full : (r : AuditAnswer) (netlist : List ℕ) (N : Netlist) → read_netlist netlist ≡ value N → path_total N ≤ small_total
+  pub no_test_full : (r : Result TestCounts Refusal) (netlist : List ℕ) (N : Netlist) → read_netlist netlist ≡ value N → path_total N ≤ small_total
+      → (class : ℕ) (rec ws ws' found left : List ℕ) → TestTrue r netlist class rec ws ws' found left → r ≡ Err refusal.StoreRuns → ⊥
+  pub no_audit_full : (r : Result (Unit {0}) Refusal) (netlist : List ℕ) (N : Netlist) → read_netlist netlist ≡ value N → path_total N ≤ small_total
       → (class : ℕ) (test_file report ws ws' found left : List ℕ) → AuditTrue r netlist class test_file report ws ws' found left
-      → r ≡ audit.Refused refusal.StoreRuns → ⊥
-  pub no_pairs_full : (r : ExhaustAnswer) (netlist : List ℕ) (N : Netlist) → read_netlist netlist ≡ value N → path_total N ≤ small_total
-      → (class : ℕ) (ws ws' found left : List ℕ) → ExhaustTrue r netlist class ws ws' found left → r ≡ exhaust.Refused refusal.StoreRuns → ⊥
+      → r ≡ Err refusal.StoreRuns → ⊥
+  pub no_pairs_full : (r : Result StoreTotals Refusal) (netlist : List ℕ) (N : Netlist) → read_netlist netlist ≡ value N → path_total N ≤ small_total
+      → (class : ℕ) (ws ws' found left : List ℕ) → ExhaustTrue r netlist class ws ws' found left → r ≡ Err refusal.StoreRuns → ⊥
   -- and no record of a piece, where a test file is audited in pieces
   pub no_record_full : (r : PieceAnswer) (netlist : List ℕ) (N : Netlist) → read_netlist netlist ≡ value N → path_total N ≤ small_total
       → (class : ℕ) (bytes ws ws' found left : List ℕ) → PieceTrue r netlist class bytes ws ws' found left
@@ -73,5 +71,5 @@ pub record CallsFewRuns : Type 0 where
 -- How many tests: an audit is never refused with 86, as 33 bounds its records. Of the definition, then of the value that the audit returns
 pub record FewTests : Type 0 where
   pub no_audit : (netlist : List ℕ) (class : ℕ) (test_file report ws work : List ℕ) → audit_answer netlist class test_file report ws work ≡ refused 86 → ⊥
-  pub no_audit_made : (r : AuditAnswer) (netlist : List ℕ) (class : ℕ) (test_file report ws ws' found left : List ℕ)
-      → AuditTrue r netlist class test_file report ws ws' found left → r ≡ audit.Refused refusal.TestsFull → ⊥
+  pub no_audit_made : (r : Result (Unit {0}) Refusal) (netlist : List ℕ) (class : ℕ) (test_file report ws ws' found left : List ℕ)
+      → AuditTrue r netlist class test_file report ws ws' found left → r ≡ Err refusal.TestsFull → ⊥

@@ -14,11 +14,11 @@ use Rattle.model.specs.declared.Refusal.TheVariants as why
 use Rattle.bench_lines.specs.declared.inner.keys.NameKey.{NameKey}
 use Rattle.bench_lines.specs.declared.inner.statements.GateParts.{GateParts}
 use Rattle.bench_circuit.specs.declared.inner.judging.NameCounts.{NameCounts}
-use Rattle.bench_circuit.specs.declared.inner.judging.NameAnswer.TheVariants as answer
 use Rattle.bench_circuit.proofs.RoomLaws.{room-input, room-gate, room-output}
 use Rattle.bench_lines.proofs.NamePlaceLaws.{place-left, place-right}
 use Rattle.bench_lines.proofs.KeyLaws.{place_of, put_holds, named-snoc}
 use Rattle.bench_names.proofs.NameNetLaws.{net-first, net-second}
+use Rattle.std.specs.Prelude.{Ok, Err}
 
 -- ---- two rules
 
@@ -64,22 +64,22 @@ module _ (x is is' : List ℕ) (i : ℕ) (gs : List ℕ) (g net : ℕ) (e : net 
   abbrev room : Bool
   room = ltb i 64 && ltb (i + g) 512
 
-  pub input-known : net < i + g → InputJudged (answer.Refused why.BenchName) x is is' i gs g
+  pub input-known : net < i + g → InputJudged (Err why.BenchName) x is is' i gs g
   input-known h = record { judged = rules-first fresh room (known-yes is i gs g x e h); put = tt }
 
   module _ (h : i + g ≤ net) where
-    no_room : room ≡ false → InputJudged (answer.Refused why.BenchCount) x is is' i gs g
+    no_room : room ≡ false → InputJudged (Err why.BenchCount) x is is' i gs g
     no_room z = record { judged = rules-second fresh room (known-no is i gs g x e h) z; put = tt }
 
-    pub input-many : 64 ≤ i → InputJudged (answer.Refused why.BenchCount) x is is' i gs g
+    pub input-many : 64 ≤ i → InputJudged (Err why.BenchCount) x is is' i gs g
     input-many l = no_room (and_first (ltb i 64) (ltb (i + g) 512) (le-ltb i 64 l))
 
     module _ (k : i < 64) where
-      pub input-nets : 512 ≤ i + g → InputJudged (answer.Refused why.BenchCount) x is is' i gs g
+      pub input-nets : 512 ≤ i + g → InputJudged (Err why.BenchCount) x is is' i gs g
       input-nets l = no_room (and_second (ltb i 64) (ltb (i + g) 512) (lt-ltb i 64 k) (le-ltb (i + g) 512 l))
 
       pub input-added : i + g < 512 → (key : NameKey) → key ≡ key_of x
-          → is' ≡ set (set is (2 * i) key.low) (2 * i + 1) key.high → InputJudged answer.Added x is is' i gs g
+          → is' ≡ set (set is (2 * i) key.low) (2 * i + 1) key.high → InputJudged (Ok tt) x is is' i gs g
       input-added l key q p = record {
         judged = rules-pass fresh room (known-no is i gs g x e h)
             (and_both (ltb i 64) (ltb (i + g) 512) (lt-ltb i 64 k) (lt-ltb (i + g) 512 l));
@@ -97,7 +97,7 @@ module _ (x os os' : List ℕ) (o : ℕ) (key : NameKey) (q : key ≡ key_of x) 
   abbrev unlisted : Bool
   unlisted = not (ltb (name_place os o x) o)
 
-  pub output-known : p < o → OutputJudged (answer.Refused why.BenchName) x os os' o
+  pub output-known : p < o → OutputJudged (Err why.BenchName) x os os' o
   output-known h =
       let z = lt-ltb (name_place os o x) o (subst (λ (n : ℕ). n < o) at_place h) in
       record { judged = rules-first unlisted (ltb o 64) (ap not z); put = tt }
@@ -106,11 +106,11 @@ module _ (x os os' : List ℕ) (o : ℕ) (key : NameKey) (q : key ≡ key_of x) 
     new : unlisted ≡ true
     new = ap not (le-ltb (name_place os o x) o (subst (λ (n : ℕ). o ≤ n) at_place h))
 
-    pub output-many : 64 ≤ o → OutputJudged (answer.Refused why.BenchCount) x os os' o
+    pub output-many : 64 ≤ o → OutputJudged (Err why.BenchCount) x os os' o
     output-many l = record { judged = rules-second unlisted (ltb o 64) new (le-ltb o 64 l); put = tt }
 
     pub output-added : o < 64 → os' ≡ set (set os (2 * o) key.low) (2 * o + 1) key.high
-        → OutputJudged answer.Added x os os' o
+        → OutputJudged (Ok tt) x os os' o
     output-added l r = record {
       judged = rules-pass unlisted (ltb o 64) new (lt-ltb o 64 l);
       put = put-key_is os os' o x key q r;
@@ -133,7 +133,7 @@ module _ (line : List ℕ) (parts : GateParts) (is : List ℕ) (i : ℕ) (gs gs'
   abbrev numbers : List (List ℕ) → Bool
   numbers ys = (ltb g 511 && ltb (i + g) 512) && pins_fit k (length ys)
 
-  pub gate-defined : net < i + g → GateJudged (answer.Refused why.BenchName) line parts is i gs gs' g
+  pub gate-defined : net < i + g → GateJudged (Err why.BenchName) line parts is i gs gs' g
   gate-defined h = record {
     judged = λ ys r c. rules-first (names ys) (numbers ys)
         (and_first (not (key_known is i gs g x)) (all_of (key_known is i gs g) ys) (known-yes is i gs g x e h));
@@ -141,7 +141,7 @@ module _ (line : List ℕ) (parts : GateParts) (is : List ℕ) (i : ℕ) (gs gs'
   }
 
   module _ (h : i + g ≤ net) (known : Bool) (p : PinsJudged known parts.at line is i gs g) where
-    pub gate-unknown : known ≡ false → GateJudged (answer.Refused why.BenchName) line parts is i gs gs' g
+    pub gate-unknown : known ≡ false → GateJudged (Err why.BenchName) line parts is i gs gs' g
     gate-unknown q = record {
       judged = λ ys r c. rules-first (names ys) (numbers ys)
           (and_second (not (key_known is i gs g x)) (all_of (key_known is i gs g) ys) (known-no is i gs g x e h)
@@ -156,18 +156,18 @@ module _ (line : List ℕ) (parts : GateParts) (is : List ℕ) (i : ℕ) (gs gs'
           (sym (p.known x k ys r) ∙ q)
 
       out_of_range : (ltb g 511 && ltb (i + g) 512) ≡ false
-          → GateJudged (answer.Refused why.BenchCount) line parts is i gs gs' g
+          → GateJudged (Err why.BenchCount) line parts is i gs gs' g
       out_of_range z = record {
         judged = λ ys r c. rules-second (names ys) (numbers ys) (pass_names ys r)
             (and_first (ltb g 511 && ltb (i + g) 512) (pins_fit k (length ys)) z);
         put = tt;
       }
 
-      pub gate-many : 511 ≤ g → GateJudged (answer.Refused why.BenchCount) line parts is i gs gs' g
+      pub gate-many : 511 ≤ g → GateJudged (Err why.BenchCount) line parts is i gs gs' g
       gate-many l = out_of_range (and_first (ltb g 511) (ltb (i + g) 512) (le-ltb g 511 l))
 
       module _ (l : g < 511) where
-        pub gate-nets : 512 ≤ i + g → GateJudged (answer.Refused why.BenchCount) line parts is i gs gs' g
+        pub gate-nets : 512 ≤ i + g → GateJudged (Err why.BenchCount) line parts is i gs gs' g
         gate-nets m = out_of_range (and_second (ltb g 511) (ltb (i + g) 512) (lt-ltb g 511 l) (le-ltb (i + g) 512 m))
 
         module _ (m : i + g < 512) (fits : Bool) (f : fits ≡ pins_fit parts.kind parts.pins) where
@@ -177,7 +177,7 @@ module _ (line : List ℕ) (parts : GateParts) (is : List ℕ) (i : ℕ) (gs gs'
           fits-as : (ys : List (List ℕ)) → length ys ≡ parts.pins → pins_fit k (length ys) ≡ fits
           fits-as ys c = ap (λ (m : ℕ). pins_fit k m) c ∙ sym f
 
-          pub gate-pin-count : fits ≡ false → GateJudged (answer.Refused why.BenchCount) line parts is i gs gs' g
+          pub gate-pin-count : fits ≡ false → GateJudged (Err why.BenchCount) line parts is i gs gs' g
           gate-pin-count z = record {
             judged = λ ys r c. rules-second (names ys) (numbers ys) (pass_names ys r)
                 (and_second (ltb g 511 && ltb (i + g) 512) (pins_fit k (length ys)) in_range (fits-as ys c ∙ z));
@@ -186,7 +186,7 @@ module _ (line : List ℕ) (parts : GateParts) (is : List ℕ) (i : ℕ) (gs gs'
 
           pub gate-added : fits ≡ true → (key : NameKey) → key ≡ key_of (part parts.from parts.to line)
               → gs' ≡ set (set gs (2 * g) key.low) (2 * g + 1) key.high
-              → GateJudged answer.Added line parts is i gs gs' g
+              → GateJudged (Ok tt) line parts is i gs gs' g
           gate-added z key w v = record {
             judged = λ ys r c. rules-pass (names ys) (numbers ys) (pass_names ys r)
                 (and_both (ltb g 511 && ltb (i + g) 512) (pins_fit k (length ys)) in_range (fits-as ys c ∙ z));

@@ -12,8 +12,7 @@ use Rattle.bench_circuit.specs.Judging.{PinsNamed, NamesHeld, Held, WordsRoom, H
 use Rattle.model.specs.declared.Refusal.{Refusal}
 use Rattle.bench_lines.specs.declared.inner.lines.LineEnds.{LineEnds}
 use Rattle.bench_circuit.specs.declared.inner.judging.NameCounts.{NameCounts}
-use Rattle.bench_circuit.specs.declared.inner.judging.LineAnswer.{LineAnswer}
-use Rattle.bench_circuit.specs.declared.inner.judging.LineAnswer.TheVariants as lineAnswer
+use Rattle.std.specs.Prelude.{Result, Ok, Err}
 
 pub record JudgedSoFar (text : List ℕ) (at : ℕ) (is gs os : List ℕ) (n : NameCounts) (before : ℕ) : Type 0 where
   pub circuit : Circuit
@@ -85,23 +84,23 @@ module _ (text : List ℕ) (at : ℕ) (is gs os : List ℕ) (n : NameCounts) (be
     abbrev said : Statement
     said = statement_of (tokens_of line)
 
-    module _ (is' gs' os' : List ℕ) (r : LineAnswer) (j : LineTrue r line n is gs os is' gs' os') where
-      judged-line : (x : LineAnswer) → r ≡ x → LineJudged x c said is' gs' os'
-      judged-line x q = subst (λ (y : LineAnswer). LineJudged y c said is' gs' os') q (j.judged c s.held)
+    module _ (is' gs' os' : List ℕ) (r : Result NameCounts Refusal) (j : LineTrue r line n is gs os is' gs' os') where
+      judged-line : (x : Result NameCounts Refusal) → r ≡ x → LineJudged x c said is' gs' os'
+      judged-line x q = subst (λ (y : Result NameCounts Refusal). LineJudged y c said is' gs' os') q (j.judged c s.held)
 
-      pub text-refused : (w : Refusal) → r ≡ lineAnswer.Refused w → LineRefused (refusal_number_of w) (before + 1) text
+      pub text-refused : (w : Refusal) → r ≡ Err w → LineRefused (refusal_number_of w) (before + 1) text
       text-refused w q =
-          let z : checks (line_rules c said) ≡ refused (refusal_number_of w) = judged-line (lineAnswer.Refused w) q in
+          let z : checks (line_rules c said) ≡ refused (refusal_number_of w) = judged-line (Err w) q in
           record {
             reads = sym s.left ∙ ap (line_by_line c) e.lines ∙ line-stop c line rest (refusal_number_of w) z;
             place = sym (bad-stop c line rest (before + 1) (refusal_number_of w) z)
                 ∙ ap (bad_from c (before + 1)) (sym e.lines) ∙ s.bad;
           }
 
-      pub text-again : (m : NameCounts) → r ≡ lineAnswer.Taken m
+      pub text-again : (m : NameCounts) → r ≡ Ok m
           → JudgedSoFar text ends.next is' gs' os' m (before + 1)
       text-again m q =
-          let z : LineTaken m c said is' gs' os' = judged-line (lineAnswer.Taken m) q in
+          let z : LineTaken m c said is' gs' os' = judged-line (Ok m) q in
           let later : bad_from c (before + 1) (lines_from [] (drop at text)) ≡ bad_from (added c said) (before + 1 + 1) rest =
           ap (bad_from c (before + 1)) e.lines ∙ bad-next c line rest (before + 1) z.passed
           ∙ ap (λ (k : ℕ). bad_from (added c said) k rest) (sym (add-one (before + 1))) in
@@ -110,6 +109,6 @@ module _ (text : List ℕ) (at : ℕ) (is gs os : List ℕ) (n : NameCounts) (be
             left = sym (ap (line_by_line c) e.lines ∙ line-next c line rest z.passed) ∙ s.left;
             bad = sym later ∙ s.bad;
             held = z.held;
-            room = subst (λ (x : LineAnswer). RoomAfter x is' gs' os') q j.room;
+            room = subst (λ (x : Result NameCounts Refusal). RoomAfter x is' gs' os') q j.room;
             inside = e.next_in;
           }

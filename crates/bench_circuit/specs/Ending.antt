@@ -8,8 +8,8 @@ use Rattle.bench_lines.specs.LineReading.{Named}
 use Rattle.bench_names.specs.NameNets.{pair_net, key_known}
 use Rattle.bench_circuit.specs.Judging.{TextTaken}
 use Rattle.bench_circuit.specs.declared.inner.judging.NameCounts.{NameCounts}
-use Rattle.bench_circuit.specs.declared.inner.ending.EndAnswer.{EndAnswer}
-use Rattle.bench_circuit.specs.declared.inner.ending.EndAnswer.TheVariants as end
+use Rattle.std.specs.Prelude.{Result, Ok, Err}
+use Rattle.bench_circuit.specs.declared.inner.judging.LineRefusal.{LineRefusal}
 
 -- `n` keys, the first at word `at`, are all defined
 unfoldable pub pairs_known : List ℕ → ℕ → List ℕ → ℕ → List ℕ → ℕ → ℕ → Bool
@@ -44,6 +44,6 @@ pub record RefusedAt (number line : ℕ) (text : List ℕ) : Type 0 where
   pub answer : circuit_of text ≡ refused number
   pub place : line ≡ refused_line_of text
 
-abbrev pub EndTrue : EndAnswer → List ℕ → List ℕ → List ℕ → List ℕ → NameCounts → Type 0
-EndTrue end.Sound text is gs os n = TextSound text is gs os n
-EndTrue (end.Refused w line) text is gs os n = RefusedAt (refusal_number_of w) line text
+abbrev pub EndTrue : Result (Unit {0}) LineRefusal → List ℕ → List ℕ → List ℕ → List ℕ → NameCounts → Type 0
+EndTrue (Ok tt) text is gs os n = TextSound text is gs os n
+EndTrue (Err e) text is gs os n = RefusedAt (refusal_number_of e.why) e.line text

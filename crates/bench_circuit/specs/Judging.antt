@@ -9,35 +9,32 @@ use Rattle.model.specs.Refusals.{refusal_number_of}
 use Rattle.bench_lines.specs.Keys.{key_low, key_high, Holds, AllNamed}
 use Rattle.bench_names.specs.NameNets.{name_place, key_known}
 use Rattle.bench_circuit.specs.declared.inner.judging.NameCounts.{NameCounts}
-use Rattle.bench_circuit.specs.declared.inner.judging.NameAnswer.{NameAnswer}
-use Rattle.bench_circuit.specs.declared.inner.judging.NameAnswer.TheVariants as answer
-use Rattle.bench_circuit.specs.declared.inner.judging.LineAnswer.{LineAnswer}
-use Rattle.bench_circuit.specs.declared.inner.judging.LineAnswer.TheVariants as line
-use Rattle.bench_circuit.specs.declared.inner.judging.TextAnswer.{TextAnswer}
-use Rattle.bench_circuit.specs.declared.inner.judging.TextAnswer.TheVariants as whole
 use Rattle.bench_lines.specs.declared.inner.statements.GateParts.{GateParts}
+use Rattle.std.specs.Prelude.{Result, Ok, Err}
+use Rattle.bench_circuit.specs.declared.inner.judging.LineRefusal.{LineRefusal}
+use Rattle.model.specs.declared.Refusal.{Refusal}
 
 -- an answer to a name, by the rules that it passed
-abbrev pub NameJudged : NameAnswer → List Rule → Type 0
-NameJudged answer.Added rules = checks rules ≡ value tt
-NameJudged (answer.Refused w) rules = checks rules ≡ refused (refusal_number_of w)
+abbrev pub NameJudged : Result (Unit {0}) Refusal → List Rule → Type 0
+NameJudged (Ok tt) rules = checks rules ≡ value tt
+NameJudged (Err w) rules = checks rules ≡ refused (refusal_number_of w)
 
 -- the words after an answer: with the key after the others, if it was added
-abbrev pub PutAfter : NameAnswer → List ℕ → List ℕ → ℕ → List ℕ → Type 0
-PutAfter answer.Added ws ws' n x = ws' ≡ set (set ws (2 * n) (key_low x)) (2 * n + 1) (key_high x)
-PutAfter (answer.Refused w) ws ws' n x = Unit {0}
+abbrev pub PutAfter : Result (Unit {0}) Refusal → List ℕ → List ℕ → ℕ → List ℕ → Type 0
+PutAfter (Ok tt) ws ws' n x = ws' ≡ set (set ws (2 * n) (key_low x)) (2 * n + 1) (key_high x)
+PutAfter (Err w) ws ws' n x = Unit {0}
 
 abbrev pub input_rules : List ℕ → ℕ → List ℕ → ℕ → List ℕ → List Rule
 input_rules is i gs g x = (81, not (key_known is i gs g x)) ∷ (82, ltb i 64 && ltb (i + g) 512) ∷ []
 
-pub record InputJudged (r : NameAnswer) (x is is' : List ℕ) (i : ℕ) (gs : List ℕ) (g : ℕ) : Type 0 where
+pub record InputJudged (r : Result (Unit {0}) Refusal) (x is is' : List ℕ) (i : ℕ) (gs : List ℕ) (g : ℕ) : Type 0 where
   pub judged : NameJudged r (input_rules is i gs g x)
   pub put : PutAfter r is is' i x
 
 abbrev pub output_rules : List ℕ → ℕ → List ℕ → List Rule
 output_rules os o x = (81, not (ltb (name_place os o x) o)) ∷ (82, ltb o 64) ∷ []
 
-pub record OutputJudged (r : NameAnswer) (x os os' : List ℕ) (o : ℕ) : Type 0 where
+pub record OutputJudged (r : Result (Unit {0}) Refusal) (x os os' : List ℕ) (o : ℕ) : Type 0 where
   pub judged : NameJudged r (output_rules os o x)
   pub put : PutAfter r os os' o x
 
@@ -49,7 +46,7 @@ gate_rules is i gs g x k ys =
 abbrev pub gate_name : GateParts → List ℕ → List ℕ
 gate_name p line = part p.from p.to line
 
-pub record GateJudged (r : NameAnswer) (line : List ℕ) (p : GateParts) (is : List ℕ) (i : ℕ) (gs gs' : List ℕ) (g : ℕ) : Type 0 where
+pub record GateJudged (r : Result (Unit {0}) Refusal) (line : List ℕ) (p : GateParts) (is : List ℕ) (i : ℕ) (gs gs' : List ℕ) (g : ℕ) : Type 0 where
   pub judged : (ys : List (List ℕ))
       → pins_from (gate_name p line) p.kind [] (rest_at p.at line) ≡ gate (gate_name p line) p.kind ys
       → length ys ≡ p.pins → NameJudged r (gate_rules is i gs g (gate_name p line) p.kind ys)
@@ -85,24 +82,24 @@ pub record HeldRoom (is gs os : List ℕ) (n : NameCounts) : Type 0 where
   pub few_outputs : n.outputs ≤ 64
 
 -- a line's answer by that to its name, and how many there are if it was added
-abbrev pub counted_as : NameAnswer → ℕ → ℕ → ℕ → LineAnswer
-counted_as answer.Added i g o = line.Taken (record { inputs = i; gates = g; outputs = o })
-counted_as (answer.Refused w) i g o = line.Refused w
+abbrev pub counted_as : Result (Unit {0}) Refusal → ℕ → ℕ → ℕ → Result NameCounts Refusal
+counted_as (Ok tt) i g o = Ok (record { inputs = i; gates = g; outputs = o })
+counted_as (Err w) i g o = Err w
 
 -- a line that was taken or refused
 pub record LineTaken (n : NameCounts) (c : Circuit) (s : Statement) (is gs os : List ℕ) : Type 0 where
   pub passed : checks (line_rules c s) ≡ value tt
   pub held : Held is gs os n (added c s)
 
-abbrev pub LineJudged : LineAnswer → Circuit → Statement → List ℕ → List ℕ → List ℕ → Type 0
-LineJudged (line.Taken n) c s is gs os = LineTaken n c s is gs os
-LineJudged (line.Refused w) c s is gs os = checks (line_rules c s) ≡ refused (refusal_number_of w)
+abbrev pub LineJudged : Result NameCounts Refusal → Circuit → Statement → List ℕ → List ℕ → List ℕ → Type 0
+LineJudged (Ok n) c s is gs os = LineTaken n c s is gs os
+LineJudged (Err w) c s is gs os = checks (line_rules c s) ≡ refused (refusal_number_of w)
 
-abbrev pub RoomAfter : LineAnswer → List ℕ → List ℕ → List ℕ → Type 0
-RoomAfter (line.Taken n) is gs os = HeldRoom is gs os n
-RoomAfter (line.Refused w) is gs os = Unit {0}
+abbrev pub RoomAfter : Result NameCounts Refusal → List ℕ → List ℕ → List ℕ → Type 0
+RoomAfter (Ok n) is gs os = HeldRoom is gs os n
+RoomAfter (Err w) is gs os = Unit {0}
 
-pub record LineTrue (r : LineAnswer) (l : List ℕ) (n : NameCounts) (is gs os is' gs' os' : List ℕ) : Type 0 where
+pub record LineTrue (r : Result NameCounts Refusal) (l : List ℕ) (n : NameCounts) (is gs os is' gs' os' : List ℕ) : Type 0 where
   pub judged : (c : Circuit) → Held is gs os n c → LineJudged r c (statement_of (tokens_of l)) is' gs' os'
   pub room : RoomAfter r is' gs' os'
 
@@ -117,6 +114,6 @@ pub record LineRefused (number line : ℕ) (text : List ℕ) : Type 0 where
   pub reads : line_by_line empty_circuit (lines_of text) ≡ refused number
   pub place : line ≡ bad_from empty_circuit 1 (lines_of text)
 
-abbrev pub TextTrue : TextAnswer → List ℕ → List ℕ → List ℕ → List ℕ → Type 0
-TextTrue (whole.Taken n) bytes is gs os = TextTaken n bytes is gs os
-TextTrue (whole.Refused w line) bytes is gs os = LineRefused (refusal_number_of w) line bytes
+abbrev pub TextTrue : Result NameCounts LineRefusal → List ℕ → List ℕ → List ℕ → List ℕ → Type 0
+TextTrue (Ok n) bytes is gs os = TextTaken n bytes is gs os
+TextTrue (Err e) bytes is gs os = LineRefused (refusal_number_of e.why) e.line bytes

@@ -13,9 +13,9 @@ use Rattle.bench_lines.specs.declared.inner.keys.NameKey.{NameKey}
 use Rattle.bench_lines.specs.declared.inner.tokens.NextToken.{NextToken}
 use Rattle.bench_lines.specs.declared.inner.tokens.NextToken.TheVariants as token
 use Rattle.bench_lines.specs.declared.inner.statements.LineStatement.{LineStatement}
-use Rattle.bench_lines.specs.declared.inner.statements.PinRead.{PinRead}
-use Rattle.bench_lines.specs.declared.inner.statements.PinRead.TheVariants as pin
 use Rattle.bench_lines.proofs.KeyLaws.{place_of, named-snoc}
+use Rattle.std.specs.Prelude.{Option, Some, None}
+use Rattle.bench_lines.specs.declared.inner.statements.PinPart.{PinPart}
 
 -- ---- what a line states
 
@@ -143,11 +143,11 @@ module _ (line : List ℕ) (at : ℕ) (t : NextToken) (k : TokenIs t at line) wh
   unfolding pins_from
   no-pin-sign b next e = record { stop = λ x k' xs. rw (told-sign line at t k b next e).tokens refl }
 
-  pub pin-named : (from to : ℕ) (r : PinRead) → t ≡ token.Name from to → NamedThen r from to line → PinIs r at line
-  pin-named from to pin.Other e p = record {
+  pub pin-named : (from to : ℕ) (r : Option PinPart) → t ≡ token.Name from to → NamedThen r from to line → PinIs r at line
+  pin-named from to None e p = record {
     stop = λ x k' xs. ap (pins_from x k' xs) (told-name line at t k from to e).tokens ∙ p.stop x k' xs;
   }
-  pin-named from to (pin.Pin f g next more) e p = record {
+  pin-named from to (Some q) e p = record {
     step = λ x k' xs. ap (pins_from x k' xs) (told-name line at t k from to e).tokens ∙ p.step x k' xs;
     is_name = p.is_name;
     later = omega (arith, p.later, (told-name line at t k from to e).low);
@@ -180,28 +180,28 @@ module _ (line : List ℕ) (from to kind at : ℕ) where
     unfolding pins_state
     going m = s.is ∙ ap (λ (b : Bool). pins_state b x kind s.names (rest_at place line)) m
 
-    module _ (p : PinRead) (k : PinIs p place line) (m : more ≡ true) where
-      pub pins-stop : p ≡ pin.Other → pins_from x kind [] (rest_at at line) ≡ other
+    module _ (p : Option PinPart) (k : PinIs p place line) (m : more ≡ true) where
+      pub pins-stop : p ≡ None → pins_from x kind [] (rest_at at line) ≡ other
       pins-stop e =
-          let z : NoPin (rest_at place line) = subst (λ (r : PinRead). PinIs r place line) e k in going m
+          let z : NoPin (rest_at place line) = subst (λ (r : Option PinPart). PinIs r place line) e k in going m
           ∙ z.stop x kind s.names
 
-      module _ (f g next : ℕ) (again : Bool) (e : p ≡ pin.Pin f g next again) where
-        one : OnePin (rest_at place line) place f g next again line
-        one = subst (λ (r : PinRead). PinIs r place line) e k
+      module _ {q : PinPart} (e : p ≡ Some q) where
+        one : OnePin (rest_at place line) place q.from q.to q.next q.more line
+        one = subst (λ (r : Option PinPart). PinIs r place line) e k
 
         pub pins-count : length line < 2 ^ 63 → Fits w64 (pins + 1)
         pins-count l = record { fits = omega (arith, s.few, s.inside) }
 
-        pub pins-less : length line - next < length line - place
+        pub pins-less : length line - q.next < length line - place
         pins-less = omega (arith, one.later, one.high)
 
-        pub pins-again : PinsSoFar next (pins + 1) again
+        pub pins-again : PinsSoFar q.next (pins + 1) q.more
         pins-again = record {
-          names = s.names ++ (part f g line ∷ []);
+          names = s.names ++ (part q.from q.to line ∷ []);
           is = going m ∙ one.step x kind s.names;
-          count = omega (arith, length-append s.names (part f g line ∷ []), s.count);
-          all_named = named-snoc s.names (part f g line) s.all_named one.is_name.named;
+          count = omega (arith, length-append s.names (part q.from q.to line ∷ []), s.count);
+          all_named = named-snoc s.names (part q.from q.to line) s.all_named one.is_name.named;
           few = omega (arith, s.few, one.later);
           inside = one.high;
         }

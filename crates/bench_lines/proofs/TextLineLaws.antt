@@ -1,5 +1,5 @@
 -- A text's lines, one byte at a time, and one line at a time.
-use Rattle.model.proofs.Prelude.{ℕ, ◌≤◌, ◌<◌, ◌+◌, ◌-◌, ◌≡◌, ◌∙◌, ap, refl, sym, List, [], ◌∷◌, ◌++◌, length, get_or, drop, take, drop_of_length-le}
+use Rattle.model.proofs.Prelude.{ℕ, ◌≤◌, ◌<◌, ◌+◌, ◌-◌, ◌≡◌, ◌∙◌, ap, refl, sym, subst, List, [], ◌∷◌, ◌++◌, length, get_or, drop, take, drop_of_length-le}
 use Rattle.model.proofs.Prelude.{get_or-drop, arith, ne_eqb, eq-eqb}
 use lib.Seq.{get_or-take, take-take}
 use Rattle.bench_lines.specs.Text.{lines_from, last_line_of, without_return}
@@ -54,8 +54,10 @@ module _ (text : List ℕ) (at : ℕ) where
     pub line-ends : get_or text i 0 ≡ 0x0A → EndIs i at text
     line-ends e = record { lines = s.lines; low = s.low; high = s.high; ends = λ k. e }
 
-  pub line-last : (i : ℕ) → LineSoFar i → length text ≤ i → EndIs i at text
-  line-last i s h = record { lines = s.lines; low = s.low; high = s.high; ends = λ k. absurd (omega arith) }
+  pub line-last : (i : ℕ) → LineSoFar i → length text ≤ i → EndIs (length text) at text
+  line-last i s h =
+      let e : i ≡ length text = omega (arith, s.high) in
+      subst (λ (n : ℕ). EndIs n at text) e (record { lines = s.lines; low = s.low; high = s.high; ends = λ k. absurd (omega arith) })
 
   last_byte : (end : ℕ) → at < end → end ≤ length text
       → get_or (part at end text) (length (part at end text) - 1) 0 ≡ get_or text (end - 1) 0

@@ -1,6 +1,6 @@
 -- A line's tokens, one byte at a time, and one token at a time.
 use Rattle.model.proofs.Prelude.{ℕ, ◌≤◌, ◌<◌, ◌+◌, ◌-◌, ◌≡◌, ◌∙◌, ap, refl, sym, ⊎_elim, true, Bool, false, List, [], ◌∷◌, ◌++◌, length, get_or, drop}
-use Rattle.model.proofs.Prelude.{drop_of_length-le, arith, le-leb, lt-leb, ne_eqb}
+use Rattle.model.proofs.Prelude.{subst, drop_of_length-le, arith, le-leb, lt-leb, ne_eqb}
 use Rattle.model.specs.Base.{all_of}
 use Rattle.model.proofs.BoolLaws.{le_or_lt}
 use Rattle.bench_lines.specs.Text.{Token, name, sign, name_byte, word, word_then, sign_then, tokens_from}
@@ -71,8 +71,10 @@ module _ (line : List ℕ) where
     pub spaces_stop : (i : ℕ) → SpacesSoFar i → (get_or line i 0 ≡ 0x20 → ⊥) → SpacesEnd i at line
     spaces_stop i s d = record { tokens = s.tokens; low = s.low; high = s.high; no_space = λ e h. d e }
 
-    pub spaces_last : (i : ℕ) → SpacesSoFar i → length line ≤ i → SpacesEnd i at line
-    spaces_last i s k = record { tokens = s.tokens; low = s.low; high = s.high; no_space = λ e h. absurd (omega arith) }
+    pub spaces_last : (i : ℕ) → SpacesSoFar i → length line ≤ i → SpacesEnd (length line) at line
+    spaces_last i s k =
+        let e : i ≡ length line = omega (arith, s.high) in
+        subst (λ (n : ℕ). SpacesEnd n at line) e (record { tokens = s.tokens; low = s.low; high = s.high; no_space = λ e h. absurd (omega arith) })
 
     -- the bytes of a word so far
     pub record WordSoFar (i : ℕ) : Type 0 where
@@ -106,8 +108,10 @@ module _ (line : List ℕ) where
       pub word-stop : b ≡ false → WordEnd i at line
       word-stop e = record { tokens = s.tokens; named = s.named; low = s.low; high = s.high; ends = λ k. sym q ∙ e }
 
-    pub word-last : (i : ℕ) → WordSoFar i → length line ≤ i → WordEnd i at line
-    word-last i s k = record { tokens = s.tokens; named = s.named; low = s.low; high = s.high; ends = λ h. absurd (omega arith) }
+    pub word-last : (i : ℕ) → WordSoFar i → length line ≤ i → WordEnd (length line) at line
+    word-last i s k =
+        let e : i ≡ length line = omega (arith, s.high) in
+        subst (λ (n : ℕ). WordEnd n at line) e (record { tokens = s.tokens; named = s.named; low = s.low; high = s.high; ends = λ h. absurd (omega arith) })
 
 word-then : (w : List ℕ) (ts : List Token) → 1 ≤ length w → word_then w ts ≡ word w ∷ ts
 unfolding word_then

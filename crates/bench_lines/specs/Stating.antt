@@ -6,8 +6,8 @@ use Rattle.bench_lines.specs.LineReading.{part, NameIn, rest_at, name_then}
 use Rattle.bench_lines.specs.Keys.{AllNamed}
 use Rattle.bench_lines.specs.declared.inner.statements.LineStatement.{LineStatement}
 use Rattle.bench_lines.specs.declared.inner.statements.LineStatement.TheVariants as stated
-use Rattle.bench_lines.specs.declared.inner.statements.PinRead.{PinRead}
-use Rattle.bench_lines.specs.declared.inner.statements.PinRead.TheVariants as pin
+use Rattle.std.specs.Prelude.{Option, Some, None}
+use Rattle.bench_lines.specs.declared.inner.statements.PinPart.{PinPart}
 
 unfoldable pub at_end_of : List Token → Bool
 at_end_of [] = true
@@ -29,16 +29,16 @@ pub record OnePin (ts : List Token) (at from to next : ℕ) (more : Bool) (line 
 pub record NoPin (ts : List Token) : Type 0 where
   pub stop : (x : List ℕ) (k : ℕ) (xs : List (List ℕ)) → pins_from x k xs ts ≡ other
 
-abbrev pub PinOf : PinRead → List Token → ℕ → List ℕ → Type 0
-PinOf (pin.Pin from to next more) ts at line = OnePin ts at from to next more line
-PinOf pin.Other ts at line = NoPin ts
+abbrev pub PinOf : Option PinPart → List Token → ℕ → List ℕ → Type 0
+PinOf (Some p) ts at line = OnePin ts at p.from p.to p.next p.more line
+PinOf None ts at line = NoPin ts
 
 -- read from a position on
-abbrev pub PinIs : PinRead → ℕ → List ℕ → Type 0
+abbrev pub PinIs : Option PinPart → ℕ → List ℕ → Type 0
 PinIs r at line = PinOf r (rest_at at line) at line
 
 -- after a name
-abbrev pub NamedThen : PinRead → ℕ → ℕ → List ℕ → Type 0
+abbrev pub NamedThen : Option PinPart → ℕ → ℕ → List ℕ → Type 0
 NamedThen r from to line = PinOf r (name_then from to line) from line
 
 -- a gate's line: its pins, read from a position on

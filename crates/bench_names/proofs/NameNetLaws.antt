@@ -9,10 +9,10 @@ use Rattle.bench_lines.specs.Keys.{key_of, key_place}
 use Rattle.bench_lines.specs.Stating.{PinIs}
 use Rattle.bench_names.specs.NameNets.{name_place, pair_net, key_net, key_known, NamesRoom, PinsJudged}
 use Rattle.bench_lines.specs.declared.inner.keys.NameKey.{NameKey}
-use Rattle.bench_lines.specs.declared.inner.statements.PinRead.{PinRead}
-use Rattle.bench_lines.specs.declared.inner.statements.PinRead.TheVariants as pin
 use Rattle.bench_lines.proofs.PinWalkLaws.{PinsBetween, pins-start, pins-all, pins-stop, pins-more}
 use Rattle.bench_lines.proofs.KeyLaws.{key_top}
+use Rattle.std.specs.Prelude.{Option, Some, None}
+use Rattle.bench_lines.specs.declared.inner.statements.PinPart.{PinPart}
 
 module _ (is : List ℕ) (i : ℕ) (gs : List ℕ) (g : ℕ) (x : List ℕ) where
   pub net-first : name_place is i x < i → key_net is i gs g x ≡ name_place is i x
@@ -70,15 +70,15 @@ module _ (line : List ℕ) (at : ℕ) (is : List ℕ) (i : ℕ) (gs : List ℕ) 
     pub known-end : more ≡ false → PinsJudged known at line is i gs g
     known-end m = record { known = λ x k ys e. s.all ∙ ap (all_of (key_known is i gs g)) (pins-all s.pins m x k ys e) }
 
-    module _ (p : PinRead) (t : PinIs p place line) (m : more ≡ true) where
-      pub known-stop : (r : Bool) → p ≡ pin.Other → PinsJudged r at line is i gs g
+    module _ (p : Option PinPart) (t : PinIs p place line) (m : more ≡ true) where
+      pub known-stop : (r : Bool) → p ≡ None → PinsJudged r at line is i gs g
       known-stop r e = record { known = λ x k ys q. pins-stop s.pins m t e x k ys q }
 
-      pub known-again : (f u next : ℕ) (again : Bool) → p ≡ pin.Pin f u next again
-          → (net : ℕ) (b : Bool) → net ≡ key_net is i gs g (part f u line) → b ≡ known && ltb net (i + g) → KnownSoFar next again b
+      pub known-again : (r : PinPart) → p ≡ Some r
+          → (net : ℕ) (b : Bool) → net ≡ key_net is i gs g (part r.from r.to line) → b ≡ known && ltb net (i + g) → KnownSoFar r.next r.more b
       unfolding key_known
-      known-again f u next again e net b n q = record {
-        names = s.names ++ (part f u line ∷ []);
+      known-again r e net b n q = record {
+        names = s.names ++ (part r.from r.to line ∷ []);
         pins = pins-more s.pins m t e;
-        all = q ∙ rw (s.all, n) (sym (all_more (key_known is i gs g) s.names (part f u line)));
+        all = q ∙ rw (s.all, n) (sym (all_more (key_known is i gs g) s.names (part r.from r.to line)));
       }

@@ -4,7 +4,7 @@ ghost use Rattle.bench_lines.specs.LineReading.{part, NameIn};
 ghost use Rattle.bench_names.specs.NameNets.{pair_net, key_net, NamesRoom, PinsJudged};
 
 use bench_lines::inner::keys::{find_key, key_at};
-use bench_lines::inner::statements::{PinRead, read_pin};
+use bench_lines::inner::statements::{PinPart, read_pin};
 
 // The net of a key: its place among the inputs, or after them among the gates.
 pub fn net_of_key(
@@ -76,15 +76,17 @@ pub fn pins_known(
     while more {
         let pin = read_pin(line, place);
         match pin {
-            PinRead::Other => {
+            None => {
                 return false;
             }
-            PinRead::Pin {
-                from,
-                to,
-                next,
-                more: again,
-            } => {
+            Some(
+                PinPart {
+                    from,
+                    to,
+                    next,
+                    more: again,
+                },
+            ) => {
                 let net = net_at(line, from, to, inputs, input_count, gates, gate_count);
                 known = both(known, net < nets);
                 place = next;

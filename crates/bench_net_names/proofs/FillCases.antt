@@ -14,16 +14,13 @@ use Rattle.bench_circuit.specs.Judging.{LineRefused, TextTaken, TextTrue, NamesH
 use Rattle.bench_circuit.specs.Ending.{TextHeld, TextSound, EndSound, RefusedAt, EndTrue}
 use Rattle.bench_circuit.proofs.CircuitLaws.{Legal, legal-empty, lines-leave, gate_names}
 use Rattle.bench_circuit.proofs.TextEndCases.{at-end}
-use Rattle.bench_circuit.specs.declared.inner.ending.EndAnswer.{EndAnswer}
-use Rattle.bench_circuit.specs.declared.inner.ending.EndAnswer.TheVariants as end
 use Rattle.bench_circuit.specs.declared.inner.judging.NameCounts.{NameCounts}
-use Rattle.bench_circuit.specs.declared.inner.judging.TextAnswer.{TextAnswer}
-use Rattle.bench_circuit.specs.declared.inner.judging.TextAnswer.TheVariants as whole
-use Rattle.model.specs.declared.Refusal.{Refusal}
 use Rattle.bench_text.proofs.ConvertCases.{held-text}
 use Rattle.bench_net_names.specs.NetNames.{names_in_of, names_of, name_of}
 use Rattle.bench_net_names.specs.Table.{no_names_of, NamesTold}
 use Rattle.bench_net_names.proofs.TableLaws.{names_in, words_append, no-names-zero, no-names-long}
+use Rattle.std.specs.Prelude.{Result, Ok, Err}
+use Rattle.bench_circuit.specs.declared.inner.judging.LineRefusal.{LineRefusal}
 
 -- ---- a text that is refused
 
@@ -33,18 +30,18 @@ none_told text names number e n = record {
   told = λ net. names_in [] no_names_of names tt no-names-zero n net ∙ sym (ap (λ (x : Answer Circuit). get_or (names_in_of x) net []) e);
 }
 
-pub fill_line : (text names is gs os : List ℕ) (r : TextAnswer) (w : Refusal) (line : ℕ) → TextTrue r text is gs os
-    → r ≡ whole.Refused w line → names ≡ no_names_of → NamesTold names text
+pub fill_line : (text names is gs os : List ℕ) (r : Result NameCounts LineRefusal) (r0 : LineRefusal) → TextTrue r text is gs os
+    → r ≡ Err r0 → names ≡ no_names_of → NamesTold names text
 unfolding circuit_of
-fill_line text names is gs os r w line t e n =
-    let z : LineRefused (refusal_number_of w) line text = subst (λ (x : TextAnswer). TextTrue x text is gs os) e t in
-    none_told text names (refusal_number_of w) (ap (λ (x : Answer Circuit). x into (λ c. checks (end_rules c) then value c)) z.reads) n
+fill_line text names is gs os r r0 t e n =
+    let z : LineRefused (refusal_number_of r0.why) r0.line text = subst (λ (x : Result NameCounts LineRefusal). TextTrue x text is gs os) e t in
+    none_told text names (refusal_number_of r0.why) (ap (λ (x : Answer Circuit). x into (λ c. checks (end_rules c) then value c)) z.reads) n
 
-pub fill_end : (text names is gs os : List ℕ) (n : NameCounts) (r : EndAnswer) (w : Refusal) (line : ℕ) → EndTrue r text is gs os n
-    → r ≡ end.Refused w line → names ≡ no_names_of → NamesTold names text
-fill_end text names is gs os n r w line t e q =
-    let z : RefusedAt (refusal_number_of w) line text = subst (λ (x : EndAnswer). EndTrue x text is gs os n) e t in
-    none_told text names (refusal_number_of w) z.answer q
+pub fill_end : (text names is gs os : List ℕ) (n : NameCounts) (r : Result (Unit {0}) LineRefusal) (r0 : LineRefusal) → EndTrue r text is gs os n
+    → r ≡ Err r0 → names ≡ no_names_of → NamesTold names text
+fill_end text names is gs os n r r0 t e q =
+    let z : RefusedAt (refusal_number_of r0.why) r0.line text = subst (λ (x : Result (Unit {0}) LineRefusal). EndTrue x text is gs os n) e t in
+    none_told text names (refusal_number_of r0.why) z.answer q
 
 -- ---- a text that is sound
 
@@ -95,10 +92,10 @@ module _ (text is gs os : List ℕ) (n : NameCounts) (t : TextHeld text is gs os
       pub fill_gates-room : 2 * n.inputs + 2 * n.gates ≤ length first
       fill_gates-room = omega (arith, long, few, ap (length {A = ℕ}) f, length-sets names 0 (take (2 * n.inputs) is))
 
-      module _ (last : List ℕ) (g : last ≡ sets first (2 * n.inputs) (take (2 * n.gates) gs)) (r : EndAnswer) (en : EndTrue r text is gs os n) (q : r ≡ end.Sound) where
+      module _ (last : List ℕ) (g : last ≡ sets first (2 * n.inputs) (take (2 * n.gates) gs)) (r : Result (Unit {0}) LineRefusal) (en : EndTrue r text is gs os n) (q : r ≡ Ok tt) where
         sound : EndSound text is gs os n
         unfolding TextSound
-        sound = subst (λ (x : EndAnswer). EndTrue x text is gs os n) q en
+        sound = subst (λ (x : Result (Unit {0}) LineRefusal). EndTrue x text is gs os n) q en
 
         abbrev d : Circuit
         d = sound.taken.circuit

@@ -1,8 +1,6 @@
--- The bytes of words, put one after the other; words copied one after the other.
-use Rattle.model.proofs.Prelude.{ℕ, ◌≤◌, ◌<◌, ◌+◌, ◌-◌, suc, zero, ◌/◌, ◌%◌, ◌≡◌, ◌∙◌, ap, refl, sym, true, false, List, [], ◌∷◌, ◌++◌, length, get_or}
-use Rattle.model.proofs.Prelude.{take, set, replicate, sets, length-take-le, length-sets, eqb, add-one, sub-one, arith, ne_eqb, eq-eqb}
-use lib.Seq.{take-suc}
-use Rattle.record_bytes.proofs.ByteLaws.{sets_append}
+-- The bytes of words, put one after the other; a table without names.
+use Rattle.model.proofs.Prelude.{ℕ, ◌≤◌, ◌<◌, ◌+◌, ◌-◌, suc, zero, ◌/◌, ◌%◌, ◌≡◌, ◌∙◌, ap, refl, sym, subst, true, false, List, [], ◌∷◌, length}
+use Rattle.model.proofs.Prelude.{set, replicate, sets, length-sets, eqb, add-one, sub-one, arith, ne_eqb, eq-eqb}
 use Rattle.text_buffer.specs.Written.{Written}
 use Rattle.bench_net_names.specs.Table.{no_names_of, word_bytes}
 
@@ -46,13 +44,13 @@ module _ (out₀ : List ℕ) (at word : ℕ) where
     pub word_same : length out ≡ length out₀
     word_same = w.same
 
-    pub word-again : 0 < left → (rest ≡ 0 → ⊥) → WordLeft (set out place (rest % 256)) (place + 1) (rest / 256) (left - 1)
-    word-again h d =
-        let e = bytes-more left rest h d in
+    pub word-again : 0 < left → (rest ≡ 0 → ⊥) → (fewer : ℕ) → fewer ≡ left - 1 → WordLeft (set out place (rest % 256)) (place + 1) (rest / 256) fewer
+    word-again h d fewer f =
+        let e = bytes-more left rest h d ∙ ap (λ (k : ℕ). rest % 256 ∷ word_bytes k (rest / 256)) (sym f) in
         record {
           whole = rw (add-one place) (ap (λ (l : List ℕ). sets out place l) (sym e)) ∙ w.whole;
           end = omega (arith, w.end, ap (length {A = ℕ}) e);
-          room = omega (arith, w.room);
+          room = omega (arith, w.room, f);
           same = length-sets out place (rest % 256 ∷ []) ∙ w.same;
         }
 
@@ -69,41 +67,14 @@ module _ (out₀ : List ℕ) (at word : ℕ) where
     pub word-stop : rest ≡ 0 → Written out₀ out at (word_bytes 8 word) place
     word-stop e = done (bytes-none left rest e)
 
-    pub word_end : left ≤ 0 → Written out₀ out at (word_bytes 8 word) place
+    pub word_end : left ≤ 0 → Written out₀ out at (word_bytes 8 word) (at + 8)
     unfolding word_bytes
-    word_end h = let z : left ≡ 0 = omega arith in done (ap (λ (k : ℕ). word_bytes k rest) z)
+    word_end h =
+        let z : left ≡ 0 = omega arith in
+        let e : place ≡ at + 8 = omega (arith, w.room) in
+        subst (λ (r : ℕ). Written out₀ out at (word_bytes 8 word) r) e (done (ap (λ (k : ℕ). word_bytes k rest) z))
 
--- ---- words copied
-
-module _ (to : List ℕ) (at : ℕ) (words : List ℕ) (n : ℕ) where
-  -- the first `i` words are copied
-  pub record Copied (now : List ℕ) (i : ℕ) : Type 0 where
-    pub is : now ≡ sets to at (take i words)
-    pub few : i ≤ n
-
-  pub copy_start : Copied to 0
-  copy_start = record { is = refl; few = omega arith }
-
-  module _ (now : List ℕ) (i : ℕ) (w : Copied now i) where
-    pub copy_same : length now ≡ length to
-    copy_same = ap (length {A = ℕ}) w.is ∙ length-sets to at (take i words)
-
-    pub copy_end : n ≤ i → now ≡ sets to at (take n words)
-    copy_end h = let z : i ≡ n = omega (arith, w.few) in w.is ∙ ap (λ (k : ℕ). sets to at (take k words)) z
-
-    pub copy_place : (n ≤ length words) × (at + n ≤ length to) → i < n → at + i < length now
-    copy_place f h = omega (arith, f.1, copy_same)
-
-    pub copy_again : (n ≤ length words) × (at + n ≤ length to) → i < n → Copied (set now (at + i) (get_or words i 0)) (i + 1)
-    copy_again f h =
-        let t : take (i + 1) words ≡ take i words ++ (get_or words i 0 ∷ []) = rw (add-one i) (take-suc words i 0 (omega (arith, f.0))) in
-        let l : length (take i words) ≡ i = length-take-le i words (omega (arith, f.0)) in
-        record {
-          is = ap (λ (l : List ℕ). set l (at + i) (get_or words i 0)) w.is
-              ∙ sets_append (take i words) (get_or words i 0 ∷ []) to at (at + i) (omega arith)
-              ∙ ap (λ (l : List ℕ). sets to at l) (sym t);
-          few = omega arith;
-        }
+-- ---- no names
 
 pub no_names : replicate 1024 0 ≡ no_names_of
 unfolding no_names_of

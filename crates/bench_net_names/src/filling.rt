@@ -5,8 +5,8 @@ ghost use Rattle.bench_circuit.specs.Ending.{TextHeld, TextSound};
 ghost use Rattle.bench_net_names.specs.Table.{no_names_of, NamesTold};
 
 use crate::words::copy_words;
-use bench_circuit::inner::ending::{EndAnswer, check_end};
-use bench_circuit::inner::judging::{NameCounts, TextAnswer, judge_text};
+use bench_circuit::inner::ending::check_end;
+use bench_circuit::inner::judging::{LineRefusal, NameCounts, judge_text};
 
 // Fills the table, with words for the names of inputs, gates and outputs.
 pub(crate) fn fill_names(
@@ -22,8 +22,8 @@ pub(crate) fn fill_names(
 {
     let judged = judge_text(text, inputs, gates, outputs);
     match judged {
-        TextAnswer::Refused { why: _, line: _ } => {}
-        TextAnswer::Taken(counts) => fill_judged(text, names, inputs, gates, outputs, counts),
+        Err(LineRefusal { why: _, line: _ }) => {}
+        Ok(counts) => fill_judged(text, names, inputs, gates, outputs, counts),
     }
 }
 
@@ -42,8 +42,8 @@ fn fill_judged(
 {
     let end = check_end(text, inputs, gates, outputs, counts);
     match end {
-        EndAnswer::Refused { why: _, line: _ } => {}
-        EndAnswer::Sound => {
+        Err(LineRefusal { why: _, line: _ }) => {}
+        Ok(()) => {
             let input_words = 2 * counts.inputs;
             let gate_words = 2 * counts.gates;
             copy_words(names, 0, inputs, input_words);

@@ -16,11 +16,7 @@ pub(crate) fn copy_words(to_words: &mut [u64], at: usize, words: &[u64], n: usiz
     requires { (n ≤ length words.now) × (at + n ≤ length to_words.old) }
     ensures { to_words.new ≡ sets to_words.old at (take n words.now) }
 {
-    let mut i = 0;
-    while i < n {
-        to_words[at + i] = words[i];
-        i += 1;
-    }
+    to_words[at..at + n].copy_from_slice(&words[..n]);
 }
 
 // Puts the bytes of a word, low byte first, as long as any is left that is not 0.
@@ -29,16 +25,12 @@ pub(crate) fn put_word(out: &mut [u8], at: usize, word: u64) -> usize
     ensures { Written out.old out.new at (word_bytes 8 word) result × (result ≤ at + 8) }
 {
     let mut rest = word;
-    let mut place = at;
-    let mut left: usize = 8;
-    while 0 < left {
+    for place in at..at + 8 {
         if rest == 0 {
             return place;
         }
         out[place] = (rest % 256) as u8;
         rest = rest / 256;
-        place += 1;
-        left -= 1;
     }
-    place
+    at + 8
 }

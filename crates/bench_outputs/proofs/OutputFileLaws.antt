@@ -1,5 +1,5 @@
 -- The records of the outputs written one after the other.
-use Rattle.model.proofs.Prelude.{ℕ, ◌≤◌, ◌<◌, ◌+◌, ◌-◌, ◌*◌, suc, zero, ◌≡◌, ◌∙◌, ap, refl, sym, true, Bool, false, List, [], ◌∷◌, ◌++◌, length, get_or}
+use Rattle.model.proofs.Prelude.{ℕ, ◌≤◌, ◌<◌, ◌+◌, ◌-◌, suc, zero, ◌≡◌, ◌∙◌, ap, refl, sym, true, Bool, false, List, [], ◌∷◌, ◌++◌, length, get_or}
 use Rattle.model.proofs.Prelude.{length-append, sets, length-sets, ltb, sub-one, arith}
 use Rattle.model.specs.Base.{little_endian}
 use Rattle.model.specs.Encode.{output_bytes}
@@ -45,11 +45,9 @@ module _ (out₀ : List ℕ) (p : ℕ) (ws : List ℕ) (n first : ℕ) (os : Lis
     pub put : sets out write (key_outputs os o ws left at net) ≡ sets out₀ p (key_outputs os o ws n 0 first)
     pub next : write + length (key_outputs os o ws left at net) ≡ p + length (key_outputs os o ws n 0 first)
     pub same : length out ≡ length out₀
-    pub words : at + 2 * left ≡ 2 * n
-    pub nets : net + left ≡ first + n
 
   pub outputs-start : OutputsLeft out₀ p n 0 first
-  outputs-start = record { put = refl; next = refl; same = refl; words = omega arith; nets = refl }
+  outputs-start = record { put = refl; next = refl; same = refl }
 
   module _ (out : List ℕ) (write left at net : ℕ) (s : OutputsLeft out write left at net) where
     pub outputs-same : length out ≡ length out₀
@@ -90,6 +88,4 @@ module _ (out₀ : List ℕ) (p : ℕ) (ws : List ℕ) (n first : ℕ) (os : Lis
                 ∙ ap (sets out write) (sym split) ∙ s.put;
             next = omega (arith, b.next, s.next, ap length split, length-append x y);
             same = ap length b.put ∙ length-sets out write x ∙ s.same;
-            words = omega (arith, s.words);
-            nets = omega (arith, s.nets);
           }

@@ -34,17 +34,11 @@ pub fn put_outputs(
         (key_outputs outputs.now output_count words.now n 0 first) }
 {
     let mut write = to_place;
-    let mut left = n;
-    let mut at: usize = 0;
-    let mut net = first;
-    while 0 < left {
-        let low = words[at];
-        let high = words[at + 1];
+    for k in 0..n {
+        let low = words[2 * k];
+        let high = words[2 * k + 1];
         let place = find_key(outputs, output_count, low, high);
-        write = put_output(out, write, net, place < output_count);
-        at += 2;
-        net += 1;
-        left -= 1;
+        write = put_output(out, write, first + k, place < output_count);
     }
     write
 }

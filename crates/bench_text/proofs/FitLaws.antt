@@ -4,15 +4,15 @@ use Rattle.model.specs.Base.{Answer, refused, value, ◌into◌, after}
 use Rattle.model.proofs.AnswerLaws.{value_inj, not_refused}
 use Rattle.bench_text.specs.Calls.{convert_call, convert_answer, convert_buffer}
 use Rattle.bench_text.specs.Converting.{ConvertTrue}
-use Rattle.bench_text.specs.declared.BenchAnswer.{BenchAnswer}
-use Rattle.bench_text.specs.declared.BenchAnswer.TheVariants as bench
+use Rattle.std.specs.Prelude.{Result, Ok}
+use Rattle.bench_circuit.specs.declared.inner.judging.LineRefusal.{LineRefusal}
 
-module _ (r : BenchAnswer) (text out out' : List ℕ) (n : ℕ) (t : ConvertTrue r text out out') (e : r ≡ bench.Written n) where
+module _ (r : Result ℕ LineRefusal) (text out out' : List ℕ) (n : ℕ) (t : ConvertTrue r text out out') (e : r ≡ Ok n) where
   pub written-fits : n ≤ length out'
   unfolding convert_answer convert_buffer
   written-fits =
-      let z : ConvertTrue (bench.Written n) text out out' =
-      subst (λ (x : BenchAnswer). ConvertTrue x text out out') e t in
+      let z : ConvertTrue (Ok n) text out out' =
+      subst (λ (x : Result ℕ LineRefusal). ConvertTrue x text out out') e t in
       go (convert_call text out) z.answer z.buffer
     where
       go : (x : Answer (List ℕ)) → value n ≡ (x into λ bs. value (length bs))

@@ -11,11 +11,11 @@ use Rattle.bench_lines.specs.Stating.{PinIs}
 use Rattle.bench_names.specs.NameNets.{key_net}
 use Rattle.bench_text.specs.FileWriting.{PinsThere, PinsPut, GatePut}
 use Rattle.bench_lines.specs.declared.inner.statements.GateParts.{GateParts}
-use Rattle.bench_lines.specs.declared.inner.statements.PinRead.{PinRead}
-use Rattle.bench_lines.specs.declared.inner.statements.PinRead.TheVariants as pin
 use Rattle.bench_lines.proofs.KindLaws.{pins-say}
 use Rattle.bench_lines.proofs.PinWalkLaws.{PinsBetween, pins-start, pins-all, pins-going, pins-stop, pins-more}
 use Rattle.bench_text.proofs.BytesLaws.{length-nets}
+use Rattle.std.specs.Prelude.{Option, Some, None}
+use Rattle.bench_lines.specs.declared.inner.statements.PinPart.{PinPart}
 
 -- ---- pins
 
@@ -64,15 +64,15 @@ module _ (out₀ : List ℕ) (p : ℕ) (line : List ℕ) (at : ℕ) (is : List �
         → Fits w64 (write + 2)
     put-fits pins m w r l = record { fits = omega (arith, put-room pins m w r, put-length) }
 
-    module _ (q : PinRead) (t : PinIs q place line) (m : more ≡ true) where
-      pub put-stop : (out' : List ℕ) → q ≡ pin.Other → PinsPut out₀ out' p line at is i gs g
+    module _ (q : Option PinPart) (t : PinIs q place line) (m : more ≡ true) where
+      pub put-stop : (out' : List ℕ) → q ≡ None → PinsPut out₀ out' p line at is i gs g
       put-stop out' e = record { put = λ x k ys r. pins-stop s.pins m t e x k ys r }
 
-      pub put-again : (f u next : ℕ) (again : Bool) → q ≡ pin.Pin f u next again
-          → (net : ℕ) (out' : List ℕ) → net ≡ key_net is i gs g (part f u line)
-          → out' ≡ sets out write (little_endian 2 net) → PutSoFar out' (write + 2) next again
-      put-again f u next again e net out' n o =
-          let y = part f u line in
+      pub put-again : (r : PinPart) → q ≡ Some r
+          → (net : ℕ) (out' : List ℕ) → net ≡ key_net is i gs g (part r.from r.to line)
+          → out' ≡ sets out write (little_endian 2 net) → PutSoFar out' (write + 2) r.next r.more
+      put-again r e net out' n o =
+          let y = part r.from r.to line in
           let net-of = key_net is i gs g in
           let old = map net-of s.names in
           let b = net_bytes old in
@@ -80,12 +80,12 @@ module _ (out₀ : List ℕ) (p : ℕ) (line : List ℕ) (at : ℕ) (is : List �
           ap net_bytes (map_more net-of s.names y) ∙ nets-more old (net-of y) in
           let l : length b ≡ 2 * length s.names = omega (arith, length-nets old, length-map s.names net-of) in
           record {
-            names = s.names ++ (part f u line ∷ []);
+            names = s.names ++ (part r.from r.to line ∷ []);
             pins = pins-more s.pins m t e;
             written = o ∙ ap₂ (λ (a : List ℕ) (k : ℕ). sets a write (little_endian 2 k)) s.written n
                 ∙ sets_append b (little_endian 2 (net-of y)) out₀ p write (omega (arith, l, s.next))
                 ∙ ap (sets out₀ p) (sym w);
-            next = omega (arith, s.next, length-append s.names (part f u line ∷ []));
+            next = omega (arith, s.next, length-append s.names (part r.from r.to line ∷ []));
           }
 
 -- ---- a gate

@@ -4,8 +4,8 @@ use Rattle.model.specs.Base.{Answer, refused, value, ◌into◌, ◌then◌, Rul
 use Rattle.model.specs.Refusals.{refusal_number_of}
 use Rattle.bench_circuit.specs.Circuit.{refused_line_of}
 use Rattle.bench_text.specs.NetlistFile.{converted}
-use Rattle.bench_text.specs.declared.BenchAnswer.{BenchAnswer}
-use Rattle.bench_text.specs.declared.BenchAnswer.TheVariants as bench
+use Rattle.std.specs.Prelude.{Result, Ok, Err}
+use Rattle.bench_circuit.specs.declared.inner.judging.LineRefusal.{LineRefusal}
 
 -- bytes of an output buffer, at the least: 8 + 511 * 20 + 64 * 4
 abbrev pub netlist_buffer_bytes : ℕ
@@ -31,10 +31,10 @@ unfoldable pub convert_line : List ℕ → List ℕ → ℕ
 convert_line text buffer = elim (checks (buffer_rule buffer ∷ [])) [ refused n ↦ 0 | value u ↦ refused_line_of text ]
 
 -- What the code's answer means: the length, or the papers' number; and the line
-abbrev pub bench_of : BenchAnswer → Answer ℕ
-bench_of (bench.Written n) = value n
-bench_of (bench.Refused w line) = refused (refusal_number_of w)
+abbrev pub bench_of : Result ℕ LineRefusal → Answer ℕ
+bench_of (Ok n) = value n
+bench_of (Err e) = refused (refusal_number_of e.why)
 
-abbrev pub line_of : BenchAnswer → ℕ
-line_of (bench.Written n) = 0
-line_of (bench.Refused w line) = line
+abbrev pub line_of : Result ℕ LineRefusal → ℕ
+line_of (Ok n) = 0
+line_of (Err e) = e.line

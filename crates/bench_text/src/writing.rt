@@ -12,7 +12,7 @@ ghost use Rattle.bench_outputs.specs.OutputWriting.{RoomFor, BytesPut};
 
 use bench_circuit::inner::judging::NameCounts;
 use bench_lines::inner::lines::next_line;
-use bench_lines::inner::statements::{GateParts, LineStatement, PinRead, read_pin, read_statement};
+use bench_lines::inner::statements::{GateParts, LineStatement, PinPart, read_pin, read_statement};
 use bench_names::inner::net_at;
 use bench_outputs::inner::put_outputs;
 use record_bytes::inner::put;
@@ -40,15 +40,17 @@ fn put_pins(
     while more {
         let pin = read_pin(line, place);
         match pin {
-            PinRead::Other => {
+            None => {
                 return;
             }
-            PinRead::Pin {
-                from,
-                to,
-                next,
-                more: again,
-            } => {
+            Some(
+                PinPart {
+                    from,
+                    to,
+                    next,
+                    more: again,
+                },
+            ) => {
                 let net = net_at(line, from, to, inputs, input_count, gates, gate_count);
                 put(out, write, 2, net as u64);
                 place = next;

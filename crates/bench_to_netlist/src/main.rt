@@ -4,7 +4,7 @@
 
 ghost use Rattle.std.specs.Prelude.{◌≡◌, length};
 
-use bench_text::{BenchAnswer, NETLIST_BYTES};
+use bench_text::{LineRefusal, NETLIST_BYTES};
 use model::Refusal;
 use program_files::{file_name, has_argument, is_argument, load_file};
 use program_sentences::{
@@ -49,8 +49,8 @@ fn convert_text(text: &[u8]) {
     let mut netlist = [0u8; NETLIST_BYTES];
     let answer = bench_text::bench_to_netlist(text, &mut netlist);
     match answer {
-        BenchAnswer::Refused { why, line } => print_refused(why, line),
-        BenchAnswer::Written(length) => print(STDOUT_FILENO, &netlist[..length]),
+        Err(LineRefusal { why, line }) => print_refused(why, line),
+        Ok(length) => print(STDOUT_FILENO, &netlist[..length]),
     }
 }
 

@@ -1,5 +1,5 @@
 -- The records of a block read one after the other: the first of them, one more, one that is refused, the end.
-use Rattle.model.proofs.Prelude.{ℕ, ◌≤◌, ◌<◌, ◌+◌, ◌-◌, ◌*◌, ◌≡◌, ◌∙◌, ap, sym, ap₂, inl, inr, false, List, length, get_or, drop, take, set, arith}
+use Rattle.model.proofs.Prelude.{ℕ, ◌≤◌, ◌<◌, ◌+◌, ◌-◌, ◌*◌, ◌≡◌, ◌∙◌, ap, sym, subst, ap₂, inl, inr, false, List, length, get_or, drop, take, set, arith}
 use Rattle.model.proofs.Prelude.{rules}
 use native.Mathlib.Nat.{mul-add, mul-zero, mul-one}
 use Rattle.model.specs.Base.{value, checks, bit}
@@ -7,13 +7,13 @@ use Rattle.model.specs.Netlist.{Netlist}
 use Rattle.model.specs.Detect.{Class}
 use Rattle.model.specs.Read.{test_rules, test_of, vector_bytes_of, record_length}
 use Rattle.model.specs.declared.Refusal.{Refusal}
-use Rattle.record_test.specs.Records.{record_of, RecordTrue, VectorsTrue}
-use Rattle.record_test.specs.declared.inner.RecordAnswer.{RecordAnswer}
-use Rattle.record_test.specs.declared.inner.RecordAnswer.TheVariants as record-answer
+use Rattle.record_test.specs.Records.{RecordTrue, VectorsTrue}
 use Rattle.record_test.specs.declared.inner.Vectors.{Vectors}
 use Rattle.record_test.proofs.VectorWordLaws.{both-room, new-first, new-second, old-first, old-second}
 use Rattle.block_activity.specs.Marks.{VectorsOf, record_at, test_at, BlockRead}
 use Rattle.block_activity.proofs.OneMoreLaws.{one_more}
+use Rattle.std.specs.Prelude.{Result, Ok, Err}
+use Rattle.model.specs.Returned.{answer_of}
 
 -- the first n records of a netlist's file, which end at byte `at`
 pub record ReadFor (N : Netlist) (tests vectors : List ℕ) (at n : ℕ) : Type 0 where
@@ -51,17 +51,19 @@ module _ {inputs : ℕ} {tests vectors : List ℕ} {at n : ℕ} (s : ReadSoFar i
   whole-so_far : (N : Netlist) → N.inputs ≡ inputs → record_length N * n ≤ length tests
   whole-so_far N e = omega (arith, (s.read N e).ends, s.within)
 
-  pub read_all : 64 ≤ n → (N : Netlist) → N.inputs ≡ inputs → BlockRead N tests vectors n record-answer.Legal
-  read_all l N e = record {
-    few = s.few;
-    whole = whole-so_far N e;
-    legal = (s.read N e).legal;
-    vectors_are = (s.read N e).vectors_are;
-    ended = λ q. inl (omega (arith, s.few));
-    refuses = λ w q. (let z : ◌≡◌ {A = ℕ} 0 1 = cc in absurd (omega arith));
-  }
+  pub read_all : 64 ≤ n → (N : Netlist) → N.inputs ≡ inputs → BlockRead N tests vectors 64 (Ok tt)
+  read_all l N e =
+      let all : n ≡ 64 = omega (arith, s.few) in
+      subst (λ (m : ℕ). BlockRead N tests vectors m (Ok tt)) all (record {
+        few = s.few;
+        whole = whole-so_far N e;
+        legal = (s.read N e).legal;
+        vectors_are = (s.read N e).vectors_are;
+        ended = λ q. inl (omega (arith, s.few));
+        refuses = λ w q. (let z : ◌≡◌ {A = ℕ} 0 1 = cc in absurd (omega arith));
+      })
 
-  pub read_short : length tests - at < bytes → (N : Netlist) → N.inputs ≡ inputs → BlockRead N tests vectors n record-answer.Legal
+  pub read_short : length tests - at < bytes → (N : Netlist) → N.inputs ≡ inputs → BlockRead N tests vectors n (Ok tt)
   read_short l N e = record {
     few = s.few;
     whole = whole-so_far N e;
@@ -80,11 +82,11 @@ module _ {inputs : ℕ} {tests vectors : List ℕ} {at n : ℕ} (s : ReadSoFar i
         let z : at + bytes - at ≡ record_length N = omega (arith, bytes-is N e) in
         ap₂ (λ k i. take k (drop i tests)) z (s.read N e).ends
 
-    answers : {r : RecordAnswer} → RecordTrue r inputs rec → (N : Netlist) → N.inputs ≡ inputs → record_of r ≡ checks (test_rules N (record_at N tests n))
+    answers : {r : (Result (Unit {0}) Refusal)} → RecordTrue r inputs rec → (N : Netlist) → N.inputs ≡ inputs → answer_of r ≡ checks (test_rules N (record_at N tests n))
     answers t N e = t.answer N e ∙ ap (λ (x : List ℕ). checks (test_rules N x)) (rec-is N e)
 
-    pub read-refused : {r : RecordAnswer} → RecordTrue r inputs rec → (w : Refusal) → r ≡ record-answer.Refused w
-        → (N : Netlist) → N.inputs ≡ inputs → BlockRead N tests vectors n (record-answer.Refused w)
+    pub read-refused : {r : (Result (Unit {0}) Refusal)} → RecordTrue r inputs rec → (w : Refusal) → r ≡ Err w
+        → (N : Netlist) → N.inputs ≡ inputs → BlockRead N tests vectors n (Err w)
     read-refused {r} t w q N e = record {
       few = s.few;
       whole = whole-so_far N e;
@@ -93,11 +95,11 @@ module _ {inputs : ℕ} {tests vectors : List ℕ} {at n : ℕ} (s : ReadSoFar i
       ended = λ z. (let y : ◌≡◌ {A = ℕ} 0 1 = cc in absurd (omega arith));
       refuses = λ v z. (
         omega (arith, s.within, next-end N e),
-        sym (answers t N e) ∙ ap record_of (q ∙ z),
+        sym (answers t N e) ∙ ap answer_of (q ∙ z),
       );
     }
 
-    module _ (l : n < 64) {r : RecordAnswer} (t : RecordTrue r inputs rec) (q : r ≡ record-answer.Legal) {v : Vectors} (x : VectorsTrue v inputs rec) where
+    module _ (l : n < 64) {r : (Result (Unit {0}) Refusal)} (t : RecordTrue r inputs rec) (q : r ≡ Ok tt) {v : Vectors} (x : VectorsTrue v inputs rec) where
       pub read_more : ReadSoFar inputs tests (set (set vectors n v.v1) (64 + n) v.v2) (at + bytes) (n + 1)
       read_more = record {
         few = omega arith;
@@ -105,7 +107,7 @@ module _ {inputs : ℕ} {tests vectors : List ℕ} {at n : ℕ} (s : ReadSoFar i
         room = both-room vectors n v.v1 v.v2 s.room l;
         read = λ N e. record {
           ends = next-end N e;
-          legal = one_more (λ i. checks (test_rules N (record_at N tests i)) ≡ value tt) n (s.read N e).legal (sym (answers t N e) ∙ ap record_of q);
+          legal = one_more (λ i. checks (test_rules N (record_at N tests i)) ≡ value tt) n (s.read N e).legal (sym (answers t N e) ∙ ap answer_of q);
           vectors_are = λ c. record {
             first = λ i j a b. one_more (λ m. bit (get_or all m 0) j ≡ get_or (test_at N c tests m).v1 j false) n
                 (λ m o. ap (λ k. bit k j) (old-first vectors n v.v1 v.v2 s.room l m o) ∙ ((s.read N e).vectors_are c).first m j o b)

@@ -8,13 +8,12 @@ use Rattle.model.specs.Detect.{Class, Test}
 use Rattle.model.specs.Read.{test_rules, test_of, record_length}
 use Rattle.model.specs.Refusals.{refusal_number_of}
 use Rattle.model.specs.declared.Refusal.{Refusal}
-use Rattle.record_test.specs.declared.inner.RecordAnswer.{RecordAnswer}
-use Rattle.record_test.specs.declared.inner.RecordAnswer.TheVariants as record-answer
 use Rattle.detection.specs.Cases.{Case, case_of}
 use Rattle.block_words.specs.Block.{live_net}
 use Rattle.block_words.specs.Lists.{live_entries}
 use Rattle.block_words.specs.Layout.{list_size}
 use Rattle.block_activity.specs.Layout.{output_offsets_at, up_outs_at, down_outs_at, up_lengths_at, down_lengths_at, out_at}
+use Rattle.std.specs.Prelude.{Result, Ok, Err}
 
 -- the path offsets of a netlist's pins and outputs: the paths of the pins before pin p of the gate that drives net n at place 8 n + p, the paths of the outputs
 -- before output o, and its net
@@ -63,11 +62,11 @@ test_at N c bytes t = test_of N c (record_at N bytes t)
 
 -- what reading a block of records yields: n legal records, at most 64, and what its checks answer of the one after them: Legal where 64 are read or no whole
 -- record is left
-pub record BlockRead (N : Netlist) (bytes vectors : List ℕ) (n : ℕ) (after : RecordAnswer) : Type 0 where
+pub record BlockRead (N : Netlist) (bytes vectors : List ℕ) (n : ℕ) (after : Result (Unit {0}) Refusal) : Type 0 where
   pub few : n ≤ 64
   pub whole : record_length N * n ≤ length bytes
   pub legal : (t : ℕ) → t < n → checks (test_rules N (record_at N bytes t)) ≡ value tt
   pub vectors_are : (c : Class) → VectorsOf N (test_at N c bytes) n vectors
-  pub ended : after ≡ record-answer.Legal → (n ≡ 64) ⊎ (length bytes < record_length N * (n + 1))
-  pub refuses : (w : Refusal) → after ≡ record-answer.Refused w
+  pub ended : after ≡ Ok tt → (n ≡ 64) ⊎ (length bytes < record_length N * (n + 1))
+  pub refuses : (w : Refusal) → after ≡ Err w
       → (record_length N * (n + 1) ≤ length bytes) × (checks (test_rules N (record_at N bytes n)) ≡ refused (refusal_number_of w))

@@ -4,13 +4,13 @@ pub mod marks;
 pub mod offsets;
 pub mod reading;
 
-use record_test::inner::RecordAnswer;
+use model::Refusal;
 
 // What reading a block yields: the number of its legal records, and what the checks answer of the one after them.
 #[derive(Drop)]
 pub struct ReadRecords {
     pub records: usize,
-    pub after: RecordAnswer,
+    pub after: Result<(), Refusal>,
 }
 
 // A block's numbers: those of the netlist, the number of its records and their class.

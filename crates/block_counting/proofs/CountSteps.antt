@@ -14,8 +14,8 @@ use Rattle.store_words.proofs.SoundLaws.{sound_more}
 use Rattle.store_coverage.specs.Both.{CoversBoth}
 use Rattle.store_coverage.specs.Stage.{MemoryReady, store_after, work_stage}
 use Rattle.store_coverage.specs.TestCall.{returned_by, TestedIs}
-use Rattle.store_coverage.specs.declared.TestAnswer.{TestAnswer}
-use Rattle.store_coverage.specs.declared.inner.edges.BothAnswer.{BothAnswer}
+use Rattle.store_coverage.specs.declared.inner.edges.Over.{Over}
+use Rattle.store_writing.specs.declared.inner.Change.{Change}
 use Rattle.store_coverage.proofs.EdgesLaws.{memory-sound, memory-few}
 use Rattle.store_coverage.proofs.WorkMemory.{stage-memory}
 use Rattle.block_activity.specs.declared.inner.Batch.{Batch}
@@ -27,6 +27,9 @@ use Rattle.block_counting.specs.declared.inner.AnswerWords.{AnswerWords}
 use Rattle.block_stage.specs.declared.inner.listed.RecordEdges.{RecordEdges}
 use Rattle.block_stage.proofs.BlockSteps.{BlockIn, list_of, listed_here, block-begun}
 use Rattle.block_counting.proofs.CountBothLaws.{totals-next, says_of}
+use Rattle.std.specs.Prelude.{Result}
+use Rattle.model.specs.declared.Refusal.{Refusal}
+use Rattle.store_coverage.specs.declared.TestCounts.{TestCounts}
 
 -- the words of one record put among the answers: the others stay
 module _ (answers : List ℕ) (room : length answers ≡ 192) {t : ℕ} (h : t < 64) (a : AnswerWords) where
@@ -108,7 +111,7 @@ module _ {table offsets risingLists fallingLists marks ws₀ work₀ : List ℕ}
       pub some-handed : SomeListedBoth table offsets (list_of risingLists marks 256 t) (list_of fallingLists marks 320 t) edges ws spans work
       some-handed = record { circuit = g.circuit; test = g.tests t; listed = listed_here g.block h ee g.input_spans here.memory }
 
-      module _ {work₁ : List ℕ} (same : length work₁ ≡ length work) {made : BothAnswer}
+      module _ {work₁ : List ℕ} (same : length work₁ ≡ length work) {made : Result (Change × Change) Over}
           (covers : (N : Netlist) (test : Test) → ListedBoth N test table offsets (list_of risingLists marks 256 t) (list_of fallingLists marks 320 t) edges ws spans work
           → CoversBoth N test ws work work₁ made) where
         made-here : (N : Netlist) (tests : ℕ → Test) → BlockIn N tests table offsets risingLists fallingLists marks inputs records ws₀ work₀
@@ -126,7 +129,7 @@ module _ {table offsets risingLists fallingLists marks ws₀ work₀ : List ℕ}
         pub some-counted : SomeBothCounted held made ws work₁
         some-counted = record { circuit = g.circuit; test = g.tests t; found = work; counted = made-here g.circuit g.tests g.block }
 
-        module _ {ws' : List ℕ} {answer : TestAnswer}
+        module _ {ws' : List ℕ} {answer : (Result TestCounts Refusal)}
             (counted : (N : Netlist) (test : Test) (found : List ℕ) → BothCounted N test ws found work₁ made held → TestedIs (work_stage N test ws) ws ws' found work₁ answer)
             {a : AnswerWords} (ea : a ≡ words_of answer) where
           now-is : (N : Netlist) (tests : ℕ → Test) → BlockIn N tests table offsets risingLists fallingLists marks inputs records ws₀ work₀

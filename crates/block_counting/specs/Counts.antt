@@ -1,5 +1,5 @@
 -- The records of a block in order on a sound store, with the faults counted that each adds: a refused one leaves the store, and the next goes on.
-use Rattle.std.specs.Prelude.{◌≡◌, Bool, true, false, List, ℕ, zero, suc, ◌+◌, ◌<◌, ◌≤◌, ◌^◌, length, get_or, set}
+use Rattle.std.specs.Prelude.{◌&&◌, ◌≡◌, Bool, true, false, List, ℕ, zero, suc, ◌+◌, ◌<◌, ◌≤◌, ◌^◌, length, get_or, set}
 use Rattle.model.specs.Base.{Answer, refused, value}
 use Rattle.model.specs.Netlist.{Netlist, path_total}
 use Rattle.model.specs.Detect.{Test}
@@ -11,52 +11,48 @@ use Rattle.store_writing.specs.declared.inner.Change.{Change}
 use Rattle.store_writing.specs.declared.inner.Change.TheVariants as change
 use Rattle.store_coverage.specs.Stage.{BothMade, work_stage, store_after}
 use Rattle.store_coverage.specs.TestCall.{returned_by}
-use Rattle.store_coverage.specs.declared.TestAnswer.{TestAnswer}
-use Rattle.store_coverage.specs.declared.TestAnswer.TheVariants as test
-use Rattle.store_coverage.specs.declared.inner.edges.BothAnswer.{BothAnswer}
-use Rattle.store_coverage.specs.declared.inner.edges.BothAnswer.TheVariants as both
-use Rattle.store_coverage.specs.declared.inner.StageAnswer.{StageAnswer}
-use Rattle.store_coverage.specs.declared.inner.StageAnswer.TheVariants as stage
+use Rattle.store_coverage.specs.declared.inner.edges.Over.{Over}
 use Rattle.block_counting.specs.declared.inner.AnswerWords.{AnswerWords}
+use Rattle.std.specs.Prelude.{Result, Ok, Err}
+use Rattle.model.specs.declared.Refusal.{Refusal}
+use Rattle.store_coverage.specs.declared.TestCounts.{TestCounts}
 
 -- whether an edge's runs are kept, and those of both edges
 abbrev pub keeps_edge : Change → Bool
 keeps_edge change.Kept = true
 keeps_edge (change.Made from to n) = false
 
-abbrev pub keeps_both_of : BothAnswer → Bool
-keeps_both_of (both.Fits change.Kept f) = keeps_edge f
-keeps_both_of (both.Fits (change.Made from to n) f) = false
-keeps_both_of both.WorkOver = false
-keeps_both_of both.StoreOver = false
+abbrev pub keeps_both_of : Result (Change × Change) Over → Bool
+keeps_both_of (Ok changes) = keeps_edge changes.0 && keeps_edge changes.1
+keeps_both_of (Err o) = false
 
 -- what a stage that keeps the store's runs answers
-abbrev pub counts_kept : StoreTotals → StageAnswer → TestAnswer
-counts_kept before (stage.Refused why) = test.Refused why
-counts_kept before stage.Taken = test.Taken 0 0 before.rising before.falling
+abbrev pub counts_kept : StoreTotals → Result (Unit {0}) Refusal → Result TestCounts Refusal
+counts_kept before (Err why) = Err why
+counts_kept before (Ok tt) = Ok (record { new_rising = 0; new_falling = 0; held_rising = before.rising; held_falling = before.falling })
 
 -- what was made of both edges of a sound store, and the faults that the store held before
-pub record BothCounted (N : Netlist) (t : Test) (ws found work : List ℕ) (b : BothAnswer) (before : StoreTotals) : Type 0 where
+pub record BothCounted (N : Netlist) (t : Test) (ws found work : List ℕ) (b : Result (Change × Change) Over) (before : StoreTotals) : Type 0 where
   pub made : BothMade N t ws found work b
   pub few_paths : path_total N ≤ 2 ^ 62
   pub totals : totals_in before ≡ totals_both ws
 
 -- the same of some test
-pub record SomeBothCounted (before : StoreTotals) (b : BothAnswer) (ws work : List ℕ) : Type 0 where
+pub record SomeBothCounted (before : StoreTotals) (b : Result (Change × Change) Over) (ws work : List ℕ) : Type 0 where
   pub circuit : Netlist
   pub test : Test
   pub found : List ℕ
   pub counted : BothCounted circuit test ws found work b before
 
 -- the faults that a store holds after a test, from those before it
-abbrev pub totals_after_of : StoreTotals → TestAnswer → StoreTotals
-totals_after_of before (test.Taken newR newF heldR held_f) = record { rising = heldR; falling = held_f }
-totals_after_of before (test.Refused why) = before
+abbrev pub totals_after_of : StoreTotals → Result TestCounts Refusal → StoreTotals
+totals_after_of before (Ok counts) = record { rising = counts.held_rising; falling = counts.held_falling }
+totals_after_of before (Err why) = before
 
 -- an answer as words: the new faults of each edge and 0, or 0 twice and the number of the refusal
-abbrev pub words_of : TestAnswer → AnswerWords
-words_of (test.Taken newR newF heldR held_f) = record { rising = newR; falling = newF; refusal = 0 }
-words_of (test.Refused why) = record { rising = 0; falling = 0; refusal = refusal_number_of why }
+abbrev pub words_of : Result TestCounts Refusal → AnswerWords
+words_of (Ok counts) = record { rising = counts.new_rising; falling = counts.new_falling; refusal = 0 }
+words_of (Err why) = record { rising = 0; falling = 0; refusal = refusal_number_of why }
 
 -- the answer of record t in the words of all: its rising faults at t, its falling ones at 64 + t, its refusal at 128 + t
 abbrev pub with_answer : List ℕ → ℕ → AnswerWords → List ℕ

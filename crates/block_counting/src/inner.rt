@@ -15,10 +15,11 @@ use block_intervals::layout::SPANS_SIZE;
 use block_stage::inner::listed::{cover_listed, edges_at};
 use block_stage::inner::spans::{begin_spans, renew_sections};
 use block_words::inner::layout::{GATE_TABLE_SIZE, LIST_SIZE};
+use model::Refusal;
 use model_refusals::refusal_number;
-use store_coverage::TestAnswer;
-use store_coverage::inner::edges::BothAnswer;
-use store_coverage::inner::{StageAnswer, count_answer, write_both};
+use store_coverage::TestCounts;
+use store_coverage::inner::edges::Over;
+use store_coverage::inner::{count_answer, write_both};
 use store_words::inner::{StoreTotals, totals_of};
 use store_writing::inner::Change;
 
@@ -31,44 +32,35 @@ pub struct AnswerWords {
 }
 
 // Whether both edges keep the runs that the store holds.
-fn keeps_both(answer: BothAnswer) -> bool
+fn keeps_both(answer: Result<(Change, Change), Over>) -> bool
     ensures { result ≡ keeps_both_of answer }
 {
     match answer {
-        BothAnswer::Fits(rising, falling) => match rising {
-            Change::Kept => match falling {
-                Change::Kept => true,
-                Change::Made(_, _, _) => false,
-            },
-            Change::Made(_, _, _) => false,
-        },
-        BothAnswer::WorkOver => false,
-        BothAnswer::StoreOver => false,
+        Ok((Change::Kept, Change::Kept)) => true,
+        _ => false,
     }
 }
 
 // What a stage that keeps the store's runs answers: nothing is new.
-fn count_kept(before: StoreTotals, answer: StageAnswer) -> TestAnswer
+fn count_kept(before: StoreTotals, answer: Result<(), Refusal>) -> Result<TestCounts, Refusal>
     ensures { result ≡ counts_kept before answer }
 {
-    match answer {
-        StageAnswer::Refused(why) => TestAnswer::Refused(why),
-        StageAnswer::Taken => TestAnswer::Taken {
-            new_rising: 0,
-            new_falling: 0,
-            held_rising: before.rising,
-            held_falling: before.falling,
-        },
-    }
+    answer?;
+    Ok(TestCounts {
+        new_rising: 0,
+        new_falling: 0,
+        held_rising: before.rising,
+        held_falling: before.falling,
+    })
 }
 
 // Writes the runs made of both edges, and counts the faults that are new and those then held. A store that keeps its runs is not counted again.
 fn count_both(
     before: StoreTotals,
-    answer: BothAnswer,
+    answer: Result<(Change, Change), Over>,
     store: &mut [u64],
     work: &[u64],
-) -> TestAnswer
+) -> Result<TestCounts, Refusal>
     requires { SomeBothCounted before answer store.old work.now }
     ensures { (N : Netlist) (t : Test) (found : List ℕ) → BothCounted N t store.old found work.now answer before
         → TestedIs (work_stage N t store.old) store.old store.new found work.now result }
@@ -81,37 +73,41 @@ fn count_both(
 }
 
 // The faults that a store holds after a record.
-fn totals_after(before: StoreTotals, answer: TestAnswer) -> StoreTotals
+fn totals_after(before: StoreTotals, answer: Result<TestCounts, Refusal>) -> StoreTotals
     ensures { result ≡ totals_after_of before answer }
 {
     match answer {
-        TestAnswer::Taken {
-            held_rising,
-            held_falling,
-            ..
-        } => StoreTotals {
+        Ok(
+            TestCounts {
+                held_rising,
+                held_falling,
+                ..
+            },
+        ) => StoreTotals {
             rising: held_rising,
             falling: held_falling,
         },
-        TestAnswer::Refused(_) => before,
+        Err(_) => before,
     }
 }
 
 // An answer as words.
-fn answer_words(answer: TestAnswer) -> AnswerWords
+fn answer_words(answer: Result<TestCounts, Refusal>) -> AnswerWords
     ensures { result ≡ words_of answer }
 {
     match answer {
-        TestAnswer::Taken {
-            new_rising,
-            new_falling,
-            ..
-        } => AnswerWords {
+        Ok(
+            TestCounts {
+                new_rising,
+                new_falling,
+                ..
+            },
+        ) => AnswerWords {
             rising: new_rising,
             falling: new_falling,
             refusal: 0,
         },
-        TestAnswer::Refused(why) => AnswerWords {
+        Err(why) => AnswerWords {
             rising: 0,
             falling: 0,
             refusal: refusal_number(why) as u64,
@@ -155,8 +151,7 @@ pub fn count_block(
     begin_spans(offsets, inputs, outputs, store, &mut spans);
     let mut answers = [0u64; 192];
     let mut held = totals_of(store);
-    let mut t = 0;
-    while t < records {
+    for t in 0..records {
         let at = LIST_SIZE * t;
         let up = &rising_lists[at..at + marks[UP_LENGTHS_AT + t] as usize];
         let down = &falling_lists[at..at + marks[DOWN_LENGTHS_AT + t] as usize];
@@ -166,7 +161,6 @@ pub fn count_block(
         held = totals_after(held, answer);
         put_answer(&mut answers, t, answer_words(answer));
         renew_sections(offsets, outputs, made, store, &mut spans);
-        t += 1;
     }
     answers
 }

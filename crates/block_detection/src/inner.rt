@@ -72,8 +72,7 @@ pub fn gate_words(table: &[u16; GATE_TABLE_SIZE], shape: Shape, class: u32, word
 {
     let mut rising_rows = [0u64; 8];
     let mut falling_rows = [0u64; 8];
-    let mut net = shape.inputs;
-    while net < shape.nets {
+    for net in shape.inputs..shape.nets {
         let gate = gate_at(table, net);
         let scan = scan_pins(table, gate, words);
         let live = active_words(
@@ -86,7 +85,6 @@ pub fn gate_words(table: &[u16; GATE_TABLE_SIZE], shape: Shape, class: u32, word
             &mut falling_rows,
         );
         put_net(words, net, net_state(gate, scan, live));
-        net += 1;
     }
 }
 

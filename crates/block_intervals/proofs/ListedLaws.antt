@@ -8,8 +8,6 @@ use Rattle.model.proofs.ReadLaws.{legal, Limits, limits}
 use Rattle.model.proofs.WellFormed.{WellFormed}
 use Rattle.run_lists.specs.RunLists.{only_if, run_at}
 use Rattle.run_lists.specs.Answers.{Adds}
-use Rattle.run_lists.specs.declared.inner.Added.{Added}
-use Rattle.run_lists.specs.declared.inner.Added.TheVariants.{Count, Full}
 use Rattle.run_lists.proofs.MemberLaws.{run-path}
 use Rattle.run_union.proofs.Adding.{answer-fits, adds-count}
 use Rattle.detection.specs.Cases.{Case, set_runs_of, detected, working}
@@ -21,6 +19,7 @@ use Rattle.block_intervals.specs.Spans.{InputSpans, ListedAt, SomeListedAt, Span
 use Rattle.block_intervals.specs.PinSpans.{NetsListed, SomeNetsListed}
 use Rattle.block_intervals.specs.LiveOutputs.{runs_of_outputs, SpansListed}
 use Rattle.block_intervals.proofs.LiveOutputLaws.{outputs-detect, outputs-ready}
+use Rattle.std.specs.Prelude.{Option, Some, None}
 
 over-true : {b : Bool} {n : ℕ} → b ≡ true → b ≡ not (leb n max_runs) → max_runs < n
 over-true {b} {n} t e = go (leb n max_runs) refl (sym t ∙ e)
@@ -66,7 +65,7 @@ module _ {table offsets entries : List ℕ} {edges inputs : ℕ} {spans ws : Lis
     pub listed-inputs : inputs ≤ 64
     listed-inputs = omega (arith, a.circuit.inputs_are, lim.few_inputs)
 
-    pub listed-none : edges ≡ 0 → Detects K ws ws (Count 0)
+    pub listed-none : edges ≡ 0 → Detects K ws ws (Some 0)
     listed-none z = unmade_edge K well z a.listed.makes_edge ws
 
     begun-listed : NetsListed K inputs table offsets entries spans (set (set ws 0 1) 1 1)
@@ -96,7 +95,7 @@ module _ {table offsets entries : List ℕ} {edges inputs : ℕ} {spans ws : Lis
   listed-nets k = record { case = k.case; inputs = inputs; at-nets = begun-listed k.at-list }
 
   -- after the nets
-  module _ {ws₁ spans₁ : List ℕ} {q : Added}
+  module _ {ws₁ spans₁ : List ℕ} {q : (Option ℕ)}
       (made : (K : Case) (inputs : ℕ) → NetsListed K inputs table offsets entries spans (set (set ws 0 1) 1 1) → SpansMade K inputs (set (set ws 0 1) 1 1) ws₁ spans₁ q) where
     pub listed-spans : SomeListedAt table offsets entries edges inputs spans ws → InputSpans spans₁ inputs
     listed-spans k = (made k.case inputs (begun-listed k.at-list)).input_spans
@@ -108,7 +107,7 @@ module _ {table offsets entries : List ℕ} {edges inputs : ℕ} {spans ws : Lis
       kept : Kept ws ws₁
       kept = kept_then (begun_kept ws) m.kept
 
-      over : max_runs < working K → SpansListed K offsets outs spans₁ ws ws₁ Full
+      over : max_runs < working K → SpansListed K offsets outs spans₁ ws ws₁ None
       over l = record {
         kept = kept;
         over = λ e. l;
@@ -117,17 +116,17 @@ module _ {table offsets entries : List ℕ} {edges inputs : ℕ} {spans ws : Lis
         detects = λ n p. absurd (full-count p);
       }
 
-      pub listed-full : q ≡ Full → SpansListed K offsets outs spans₁ ws ws₁ Full
+      pub listed-full : q ≡ None → SpansListed K offsets outs spans₁ ws ws₁ None
       listed-full t = over (m.full t)
 
-      module _ {n : ℕ} (t : q ≡ Count n) {b : Bool} (e : b ≡ not (leb (runs_before (input_runs_of edges) inputs + n) max_runs)) where
+      module _ {n : ℕ} (t : q ≡ Some n) {b : Bool} (e : b ≡ not (leb (runs_before (input_runs_of edges) inputs + n) max_runs)) where
         working-is : runs_before (input_runs_of edges) inputs + n ≡ working K
         working-is = ap (λ k. k + n) (inputs-before a inputs (omega arith)) ∙ m.total n t
 
-        pub listed-over : b ≡ true → SpansListed K offsets outs spans₁ ws ws₁ Full
+        pub listed-over : b ≡ true → SpansListed K offsets outs spans₁ ws ws₁ None
         listed-over o = over (omega (arith, over-true {n = runs_before (input_runs_of edges) inputs + n} o e, working-is))
 
-        pub listed-fits : b ≡ false → SpansListed K offsets outs spans₁ ws ws₁ (Count n)
+        pub listed-fits : b ≡ false → SpansListed K offsets outs spans₁ ws ws₁ (Some n)
         listed-fits f = record {
           kept = kept;
           over = λ p. absurd (full-count (sym p));
@@ -137,23 +136,23 @@ module _ {table offsets entries : List ℕ} {edges inputs : ℕ} {spans ws : Lis
         }
 
   -- what was made of the list, as the detected runs
-  module _ {K : Case} {outs : ℕ} (a : ListedAt K table offsets entries edges outs inputs spans ws) {ws₁ spans₁ : List ℕ} {q : Added}
+  module _ {K : Case} {outs : ℕ} (a : ListedAt K table offsets entries edges outs inputs spans ws) {ws₁ spans₁ : List ℕ} {q : (Option ℕ)}
       (s : SpansListed K offsets outs spans₁ ws ws₁ q) where
-    pub spans-over : q ≡ Full → Detects K ws ws₁ Full
+    pub spans-over : q ≡ None → Detects K ws ws₁ None
     spans-over t = record {
-      answers = ap (λ x. cond x (Count (length (detected K))) Full) (sym (lt-leb (working K) max_runs (s.over t)));
+      answers = ap (λ x. cond x (Some (length (detected K))) None) (sym (lt-leb (working K) max_runs (s.over t)));
       runs_are = λ n p. absurd (full-count p);
       kept = λ k h. s.kept.above k (omega arith);
     }
 
-    pub spans-detect : {n : ℕ} → q ≡ Count n → {ws₂ : List ℕ} {r : Added} → Adds ws₁ ws₂ max_runs max_runs (runs_of_outputs offsets outs spans₁ ws₁) r → Detects K ws ws₂ r
+    pub spans-detect : {n : ℕ} → q ≡ Some n → {ws₂ : List ℕ} {r : (Option ℕ)} → Adds ws₁ ws₂ max_runs max_runs (runs_of_outputs offsets outs spans₁ ws₁) r → Detects K ws ws₂ r
     spans-detect {n} t {ws₂} {r} x =
         let y : Adds ws₁ ws₂ max_runs max_runs (detected K) r = as_adds (s.detects n t) refl x in
         let fit : working K ≤ max_runs = s.fits n t in
         record {
           answers =
               y.answers ∙ answer-fits max_runs (detected K) (length (detected K)) refl (omega (arith, few-detected K (well a)))
-              ∙ ap (λ z. cond z (Count (length (detected K))) Full) (sym (le-leb (working K) max_runs fit));
+              ∙ ap (λ z. cond z (Some (length (detected K))) None) (sym (le-leb (working K) max_runs fit));
           runs_are = λ k p. (adds-count ws₁ ws₂ max_runs max_runs k (detected K) r (omega (arith, a.room, s.kept.same)) p y).2;
           kept = λ k h. adds-kept k (omega arith) y ∙ s.kept.above k (omega arith);
         }

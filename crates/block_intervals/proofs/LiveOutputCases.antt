@@ -9,8 +9,6 @@ use Rattle.model.specs.Runs.{Run}
 use Rattle.model.specs.Store.{max_runs}
 use Rattle.run_lists.specs.RunLists.{Sound, add_runs, shift_runs, runs_in_words}
 use Rattle.run_lists.specs.Answers.{Room, Adds}
-use Rattle.run_lists.specs.declared.inner.Added.{Added}
-use Rattle.run_lists.specs.declared.inner.Added.TheVariants.{Count, Full}
 use Rattle.run_union.specs.Unions.{with_shifted}
 use Rattle.run_union.proofs.Adding.{Adding, adding-start, adding-runs, adding-length, adding-done, part-full, part-more, as_rest}
 use Rattle.detection.proofs.AddedLaws.{as_adds}
@@ -21,6 +19,7 @@ use Rattle.block_intervals.specs.LiveOutputs.{out_shift, runs_of_output, runs_of
 use Rattle.block_intervals.proofs.BitRunLaws.{and_within, no_bits, bits-low}
 use Rattle.block_activity.specs.Layout.{offset_table_size, output_offsets_at, output_nets_at, out_at}
 use Rattle.block_intervals.specs.Layout.{spans_size, ends_at, shifts_at}
+use Rattle.std.specs.Prelude.{Option, Some, None}
 
 -- places of the two arrays
 pub place-fits : (x : ℕ) → x < offset_table_size → Fits w64 x
@@ -61,7 +60,7 @@ module _ {offsets : List ℕ} {outs : ℕ} {spans ws₀ : List ℕ} where
     pub outputs-room : Room ws max_runs count max_runs
     outputs-room = record { fits = i.adding.fits; inside = omega (arith, outputs-same, i.ready.room) }
 
-    pub outputs-done : left ≡ 0 → Adds ws₀ ws max_runs max_runs (runs_of_outputs offsets outs spans ws₀) (Count count)
+    pub outputs-done : left ≡ 0 → Adds ws₀ ws max_runs max_runs (runs_of_outputs offsets outs spans ws₀) (Some count)
     outputs-done z =
         let f = runs_of_output offsets spans ws₀ in
         adding-done ws₀ ws max_runs max_runs count (runs_of_outputs offsets outs spans ws₀) (as_rest (ap (λ w. bit_runs f w 64) z ∙ no_bits f 64) i.adding)
@@ -123,7 +122,7 @@ module _ {offsets : List ℕ} {outs : ℕ} {spans ws₀ : List ℕ} where
       pub output-less : bit_and left (left - 1) < left
       output-less = less-left i.small ne
 
-      module _ {ws' : List ℕ} {q : Added}
+      module _ {ws' : List ℕ} {q : (Option ℕ)}
           (d : Adds ws ws' max_runs max_runs (with_shifted ws (first_of spans (out_at offsets (count_trailing_zeros 64 left))) (end_of spans (out_at offsets (count_trailing_zeros 64 left)))
           max_runs count (out_shift offsets spans (count_trailing_zeros 64 left))) q) where
         abbrev part : List Run
@@ -138,10 +137,10 @@ module _ {offsets : List ℕ} {outs : ℕ} {spans ws₀ : List ℕ} where
         added : Adds ws ws' max_runs max_runs (add_runs (runs_in_words ws max_runs count) part) q
         added = as_adds (ap (λ (s : List Run). add_runs (runs_in_words ws max_runs count) (shift_runs (out_shift offsets spans output) s)) stays) refl d
 
-        pub output-full : q ≡ Full → Adds ws₀ ws' max_runs max_runs (runs_of_outputs offsets outs spans ws₀) Full
+        pub output-full : q ≡ None → Adds ws₀ ws' max_runs max_runs (runs_of_outputs offsets outs spans ws₀) None
         output-full t = part-full ws₀ ws max_runs max_runs count (runs_of_outputs offsets outs spans ws₀) ws' part rest then q t added
 
-        pub output-more : {c : ℕ} → q ≡ Count c → OutputsDone offsets outs spans ws₀ ws' (bit_and left (left - 1)) c
+        pub output-more : {c : ℕ} → q ≡ Some c → OutputsDone offsets outs spans ws₀ ws' (bit_and left (left - 1)) c
         output-more {c} t = record {
           ready = i.ready;
           small = omega (arith, output-less, i.small);

@@ -8,7 +8,6 @@ use Rattle.model.specs.Netlist.{nets}
 use Rattle.model.specs.Store.{max_runs}
 use Rattle.model.proofs.BoolLaws.{cases, equal_or_not}
 use Rattle.model.proofs.ReadLaws.{limits}
-use Rattle.run_lists.specs.declared.inner.Added.TheVariants.{Count, Full}
 use Rattle.detection.specs.Cases.{Case, set_runs_of}
 use Rattle.detection.specs.Walks.{runs_before, Kept}
 use Rattle.detection.proofs.AddedLaws.{full-count}
@@ -19,11 +18,10 @@ use Rattle.block_words.specs.Lists.{keep, gate_entry, live_entries}
 use Rattle.block_words.proofs.LiveLaws.{dead_runs, live-runs}
 use Rattle.block_intervals.specs.Spans.{SpanIs, InputSpans, SpansMade}
 use Rattle.block_intervals.specs.PinSpans.{entry_runs_of, SpanMade, NetSpanned, EntryReady, NetsListed, SomeNetsListed}
-use Rattle.block_intervals.specs.declared.nets.Grown.{Grown}
-use Rattle.block_intervals.specs.declared.nets.Grown.TheVariants.{Made, Over}
 use Rattle.block_intervals.proofs.EntryLaws.{NextKept, none_kept, next-kept}
 use Rattle.block_intervals.proofs.SpanStayLaws.{runs-dead, some_runs, span-stays, inputs-stay, input-span}
 use Rattle.block_intervals.proofs.LiveRunLaws.{GateAt, live_below, entry-net, entry_runs, entry_ready}
+use Rattle.std.specs.Prelude.{Option, Some, None}
 
 -- ---- the invariant
 
@@ -75,7 +73,7 @@ module _ {table offsets entries spans₀ ws₀ : List ℕ} where
     pub spans-kept : (ws' : List ℕ) → length ws' ≡ length ws → length ws' ≡ length ws₀
     spans-kept ws' e = e ∙ x.kept.same
 
-    pub spans-end : length entries ≤ i → (K : Case) (inputs : ℕ) → NetsListed K inputs table offsets entries spans₀ ws₀ → SpansMade K inputs ws₀ ws spans (Count total)
+    pub spans-end : length entries ≤ i → (K : Case) (inputs : ℕ) → NetsListed K inputs table offsets entries spans₀ ws₀ → SpansMade K inputs ws₀ ws spans (Some total)
     spans-end h K inputs a =
         let d = x.done K inputs a in
         let next = d.next in
@@ -147,7 +145,7 @@ module _ {table offsets entries spans₀ ws₀ : List ℕ} where
       pub spans-ready : EntryReady table offsets (get_or entries i 0) spans ws made
       spans-ready = ready x.some.case x.some.inputs x.some.at-nets
 
-      module _ {spans' ws' : List ℕ} {r : Grown}
+      module _ {spans' ws' : List ℕ} {r : (Option (ℕ × ℕ))}
           (m : NetSpanned made (get_or entries i 0 / 256) (entry_runs_of table offsets (get_or entries i 0) spans ws) spans ws spans' ws' r) where
         kept : Kept ws₀ ws'
         kept = kept_then x.kept m.kept
@@ -165,7 +163,7 @@ module _ {table offsets entries spans₀ ws₀ : List ℕ} where
           inputs-kept = inputs-stay made-here (omega (arith, (d K inputs a).begun, (listed K inputs a).low)) (omega (arith, high K inputs a, few-nets K inputs a))
               (d K inputs a).input_spans
 
-          pub spans-full : r ≡ Over → SpansMade K inputs ws₀ ws' spans' Full
+          pub spans-full : r ≡ None → SpansMade K inputs ws₀ ws' spans' None
           spans-full e = record {
             kept = kept;
             input_spans = inputs-kept;
@@ -176,7 +174,7 @@ module _ {table offsets entries spans₀ ws₀ : List ℕ} where
                 omega (arith, made-here.over e, working-all K, more, runs-next (set_runs_of K) here, so_far K inputs a, standing-few K inputs a);
           }
 
-          module _ {count after : ℕ} (e : r ≡ Made count after) where
+          module _ {count after : ℕ} (e : r ≡ Some (count, after)) where
             span : SpanMade made here (set_runs_of K here) spans' ws' count after
             span = made-here.spanned count after e
 
@@ -215,7 +213,7 @@ module _ {table offsets entries spans₀ ws₀ : List ℕ} where
                 whole : (d K inputs a).next + (nets K.netlist - (d K inputs a).next) ≡ nets K.netlist
                 whole = omega (arith, (d K inputs a).within)
 
-        module _ {count after : ℕ} (e : r ≡ Made count after) where
+        module _ {count after : ℕ} (e : r ≡ Some (count, after)) where
           abbrev K : Case
           K = x.some.case
 

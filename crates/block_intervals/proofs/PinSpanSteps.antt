@@ -9,8 +9,6 @@ use Rattle.model.specs.Runs.{Run}
 use Rattle.model.specs.Store.{max_runs}
 use Rattle.run_lists.specs.RunLists.{Sound, add_runs, shift_runs, runs_in_words}
 use Rattle.run_lists.specs.Answers.{Room, Adds}
-use Rattle.run_lists.specs.declared.inner.Added.{Added}
-use Rattle.run_lists.specs.declared.inner.Added.TheVariants.{Count, Full}
 use Rattle.run_union.proofs.Adding.{Adding, adding-start, adding-runs, adding-length, adding-done, as_rest, part-full, part-more}
 use Rattle.detection.proofs.AddedLaws.{as_adds}
 use Rattle.block_words.proofs.LowBitLaws.{low-there, less-left}
@@ -18,6 +16,7 @@ use Rattle.block_intervals.specs.Spans.{first_of, end_of, standing}
 use Rattle.block_intervals.specs.PinSpans.{source_at, shift_at, pin_runs_of, bit_runs, byte_runs, PinReady, ByteReady}
 use Rattle.block_intervals.proofs.BitRunLaws.{set-within, and_within, no_bits, bits-low}
 use Rattle.block_words.specs.Layout.{kinds_at}
+use Rattle.std.specs.Prelude.{Option, Some, None}
 
 -- the runs of a net that stands before the list are as they were
 pub standing-kept : (spans ws ws' : List ℕ) (made net : ℕ) → ((f k : ℕ) → f + k ≤ made → runs_in_words ws' f k ≡ runs_in_words ws f k)
@@ -60,7 +59,7 @@ module _ {table offsets : List ℕ} {first byte : ℕ} {spans ws₀ : List ℕ} 
     pub pins-room : Room ws made count (max_runs - made)
     pins-room = record { fits = x.adding.fits; inside = omega (arith, pins-same, x.ready.room, pins-used) }
 
-    pub pins-done : left ≡ 0 → Adds ws₀ ws made (max_runs - made) (byte_runs table offsets first byte spans ws₀) (Count count)
+    pub pins-done : left ≡ 0 → Adds ws₀ ws made (max_runs - made) (byte_runs table offsets first byte spans ws₀) (Some count)
     pins-done e = adding-done ws₀ ws made (max_runs - made) count all (as_rest (ap (λ w. bit_runs adds w 8) e ∙ no_bits adds 8) x.adding)
 
     wide : left < 2 ^ 64
@@ -104,15 +103,15 @@ module _ {table offsets : List ℕ} {first byte : ℕ} {spans ws₀ : List ℕ} 
       then : Adding ws₀ ws made (max_runs - made) count (adds (count_trailing_zeros 64 left) ++ bit_runs adds (bit_and left (left - 1)) 8) all
       then = as_rest (bits-low adds wide ne pin-in) x.adding
 
-      module _ {ws' : List ℕ} {q : Added}
+      module _ {ws' : List ℕ} {q : (Option ℕ)}
           (d : Adds ws ws' made (max_runs - made) (add_runs (runs_in_words ws made count) (pin_runs_of table offsets spans ws (first + count_trailing_zeros 64 left))) q) where
         added : Adds ws ws' made (max_runs - made) (add_runs (runs_in_words ws made count) (adds (count_trailing_zeros 64 left))) q
         added = as_adds (ap (λ (s : List Run). add_runs (runs_in_words ws made count) (shift_runs (shift_at table offsets spans (first + count_trailing_zeros 64 left)) s)) kept) refl d
 
-        pub pin-full : q ≡ Full → Adds ws₀ ws' made (max_runs - made) (byte_runs table offsets first byte spans ws₀) Full
+        pub pin-full : q ≡ None → Adds ws₀ ws' made (max_runs - made) (byte_runs table offsets first byte spans ws₀) None
         pin-full t = part-full ws₀ ws made (max_runs - made) count all ws' (adds (count_trailing_zeros 64 left)) (bit_runs adds (bit_and left (left - 1)) 8) then q t added
 
-        pub pin-more : {c : ℕ} → q ≡ Count c → PinsAdding table offsets first byte spans ws₀ made ws' (bit_and left (left - 1)) c
+        pub pin-more : {c : ℕ} → q ≡ Some c → PinsAdding table offsets first byte spans ws₀ made ws' (bit_and left (left - 1)) c
         pin-more {c} t = record {
           ready = x.ready;
           small = omega (arith, left_less, x.small);

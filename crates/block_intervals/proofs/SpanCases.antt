@@ -11,8 +11,6 @@ use Rattle.model.specs.Runs.{Run}
 use Rattle.model.specs.Store.{max_runs}
 use Rattle.run_lists.specs.RunLists.{Sound, add_runs, shift_runs, runs_in_words}
 use Rattle.run_lists.specs.Answers.{Adds}
-use Rattle.run_lists.specs.declared.inner.Added.{Added}
-use Rattle.run_lists.specs.declared.inner.Added.TheVariants.{Count, Full}
 use Rattle.run_lists.proofs.RunWordLaws.{length_runs}
 use Rattle.run_union.proofs.Adding.{answer-over, adds-count}
 use Rattle.run_union.proofs.RunWriteLaws.{runs-write_before}
@@ -23,11 +21,10 @@ use Rattle.detection.proofs.KeptLaws.{kept_refl, kept-write}
 use Rattle.block_words.proofs.LowBitLaws.{low-there}
 use Rattle.block_intervals.specs.Spans.{first_of, end_of, shift_of, standing}
 use Rattle.block_intervals.specs.PinSpans.{source_at, shift_at, pin_runs_of, bit_runs, entry_runs_of, with_span, SameSpan, SpanMade, NetSpanned, PinReady, EntryReady}
-use Rattle.block_intervals.specs.declared.nets.Grown.{Grown}
-use Rattle.block_intervals.specs.declared.nets.Grown.TheVariants.{Made, Over}
 use Rattle.block_intervals.proofs.BitRunLaws.{set-within, no_bits, bits-low, adds-alone, shift_none}
 use Rattle.block_words.specs.Layout.{kinds_at}
 use Rattle.block_intervals.specs.Layout.{spans_size, ends_at, shifts_at, rising_sections}
+use Rattle.std.specs.Prelude.{Option, Some, None}
 
 -- ---- a span written
 
@@ -85,17 +82,21 @@ module _ (spans : List ℕ) (net first end shift : ℕ) where
 
 -- ---- answers
 
-made-over : {a b : ℕ} → ◌≡◌ {A = Grown} (Made a b) Over → ⊥
+made-over : {a b : ℕ} → ◌≡◌ {A = Option (ℕ × ℕ)} (Some (a, b)) None → ⊥
 made-over {a} {b} p = let z : ◌≡◌ {A = ℕ} 0 1 = cc in omega arith
 
-over-made : {a b : ℕ} → ◌≡◌ {A = Grown} Over (Made a b) → ⊥
+over-made : {a b : ℕ} → ◌≡◌ {A = Option (ℕ × ℕ)} None (Some (a, b)) → ⊥
 over-made {a} {b} p = let z : ◌≡◌ {A = ℕ} 0 1 = cc in omega arith
 
+abbrev made_of : Option (ℕ × ℕ) → ℕ × ℕ
+made_of (Some x) = x
+made_of None = (0, 0)
+
 as_made : {made net : ℕ} {s : List Run} {spans' ws' : List ℕ} {a b : ℕ} → SpanMade made net s spans' ws' a b
-    → (count after : ℕ) → Made a b ≡ Made count after → SpanMade made net s spans' ws' count after
+    → (count after : ℕ) → ◌≡◌ {A = Option (ℕ × ℕ)} (Some (a, b)) (Some (count, after)) → SpanMade made net s spans' ws' count after
 as_made {made} {net} {s} {spans'} {ws'} {a} {b} x count after e =
-    let f : a ≡ count = cc in
-    let g : b ≡ after = cc in
+    let f : a ≡ count = ap (λ (r : Option (ℕ × ℕ)). (made_of r).0) e in
+    let g : b ≡ after = ap (λ (r : Option (ℕ × ℕ)). (made_of r).1) e in
     subst₂ (λ m n. SpanMade made net s spans' ws' m n) f g x
 
 module _ {table offsets : List ℕ} {entry : ℕ} {spans ws : List ℕ} {made : ℕ} (r : EntryReady table offsets entry spans ws made) where
@@ -157,7 +158,7 @@ module _ {table offsets : List ℕ} {entry : ℕ} {spans ws : List ℕ} {made : 
         (shift_at table offsets spans (8 * (entry / 256) + count_trailing_zeros 64 (entry % 256)))
         → count ≡ end_of spans (source_at table (8 * (entry / 256) + count_trailing_zeros 64 (entry % 256)))
         - first_of spans (source_at table (8 * (entry / 256) + count_trailing_zeros 64 (entry % 256)))
-        → NetSpanned made (entry / 256) (entry_runs_of table offsets entry spans ws) spans ws spans' ws (Made count made)
+        → NetSpanned made (entry / 256) (entry_runs_of table offsets entry spans ws) spans ws spans' ws (Some (count, made))
     one_span {spans'} {count} e n = record {
       kept = kept_refl ws;
       below = λ f k h. refl;
@@ -202,14 +203,14 @@ module _ {table offsets : List ℕ} {entry : ℕ} {spans ws : List ℕ} {made : 
 
   -- ---- more
 
-  module _ {ws' : List ℕ} {q : Added} (d : Adds ws ws' made (max_runs - made) (entry_runs_of table offsets entry spans ws) q) where
+  module _ {ws' : List ℕ} {q : (Option ℕ)} (d : Adds ws ws' made (max_runs - made) (entry_runs_of table offsets entry spans ws) q) where
     kept : Kept ws ws'
     kept = kept-write made (take (max_runs - made) s) d.writes (omega (arith, take_short (max_runs - made) s, r.byte.used))
 
     below : (f k : ℕ) → f + k ≤ made → runs_in_words ws' f k ≡ runs_in_words ws f k
     below f k h = ap (λ x. runs_in_words x f k) d.writes ∙ runs-write_before ws made f k (take (max_runs - made) s) h
 
-    pub more-over : q ≡ Full → NetSpanned made (entry / 256) (entry_runs_of table offsets entry spans ws) spans ws spans ws' Over
+    pub more-over : q ≡ None → NetSpanned made (entry / 256) (entry_runs_of table offsets entry spans ws) spans ws spans ws' None
     more-over t = record {
       kept = kept;
       below = below;
@@ -220,7 +221,7 @@ module _ {table offsets : List ℕ} {entry : ℕ} {spans ws : List ℕ} {made : 
       spanned = λ count after p. absurd (over-made p);
     }
 
-    module _ {c : ℕ} (t : q ≡ Count c) where
+    module _ {c : ℕ} (t : q ≡ Some c) where
       added : (length s ≤ max_runs - made) × (c ≡ length s) × (runs_in_words ws' made c ≡ s)
       added = adds-count ws ws' made (max_runs - made) c s q (omega (arith, r.byte.room, r.byte.used)) t d
 
@@ -228,7 +229,7 @@ module _ {table offsets : List ℕ} {entry : ℕ} {spans ws : List ℕ} {made : 
       more-fits = record { fits = omega (arith, added.0, added.1, r.byte.used) }
 
       pub more-span : {spans' : List ℕ} → spans' ≡ with_span spans (entry / 256) made (made + c) 0
-          → NetSpanned made (entry / 256) (entry_runs_of table offsets entry spans ws) spans ws spans' ws' (Made c (made + c))
+          → NetSpanned made (entry / 256) (entry_runs_of table offsets entry spans ws) spans ws spans' ws' (Some (c, (made + c)))
       more-span {spans'} e = record {
         kept = kept;
         below = below;

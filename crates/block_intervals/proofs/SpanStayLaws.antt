@@ -11,8 +11,8 @@ use Rattle.block_words.specs.Block.{live_net}
 use Rattle.block_words.proofs.LiveLaws.{live-input}
 use Rattle.block_intervals.specs.Spans.{first_of, end_of, standing, SpanIs, InputSpans}
 use Rattle.block_intervals.specs.PinSpans.{SameSpan, NetSpanned, NetsListed}
-use Rattle.block_intervals.specs.declared.nets.Grown.{Grown}
 use Rattle.block_intervals.proofs.SectionLaws.{ascending-same}
+use Rattle.std.specs.Prelude.{Option}
 
 -- nets without runs add none
 pub runs-dead : (f : ℕ → List Run) (n m : ℕ) → n ≤ m → ((q : ℕ) → n ≤ q → q < m → f q ≡ []) → runs_before f m ≡ runs_before f n
@@ -27,7 +27,7 @@ some_runs (r ∷ s) ne = omega arith
 
 -- ---- spans that stay
 
-module _ {made net : ℕ} {s : List Run} {spans ws spans' ws' : List ℕ} {r : Grown} (m : NetSpanned made net s spans ws spans' ws' r) where
+module _ {made net : ℕ} {s : List Run} {spans ws spans' ws' : List ℕ} {r : (Option (ℕ × ℕ))} (m : NetSpanned made net s spans ws spans' ws' r) where
   pub span-stays : {K : Case} {after q : ℕ} → q < 512 → (q ≡ net → ⊥) → made ≤ after → SpanIs K spans ws made q → SpanIs K spans' ws' after q
   span-stays {K} {after} {q} h d l x =
       let o = m.others q h d in

@@ -5,13 +5,12 @@ use Rattle.model.specs.Base.{bit}
 use Rattle.model.specs.Runs.{Run}
 use Rattle.model.specs.Store.{max_runs}
 use Rattle.run_lists.specs.RunLists.{Sound, add_runs, shift_runs}
-use Rattle.run_lists.specs.declared.inner.Added.{Added}
-use Rattle.run_lists.specs.declared.inner.Added.TheVariants.{Count, Full}
 use Rattle.detection.specs.Cases.{Case, detected, working}
 use Rattle.detection.specs.Walks.{Kept}
 use Rattle.block_intervals.specs.Spans.{first_of, end_of, shift_of, standing}
 use Rattle.block_intervals.specs.PinSpans.{bit_runs}
 use Rattle.block_activity.specs.Layout.{output_offsets_at, out_at}
+use Rattle.std.specs.Prelude.{Option, Some, None}
 
 -- of an output: by how much its runs are higher than those that stand for its net, and its runs
 abbrev pub out_shift : List ℕ → List ℕ → ℕ → ℕ
@@ -44,9 +43,9 @@ pub record OutputsReady (offsets : List ℕ) (outs : ℕ) (spans ws : List ℕ) 
   pub in_order : (o p q : ℕ) → o < p → p ≤ q → q < 64 → bit outs o ≡ true → bit outs q ≡ true → EndsBefore offsets spans ws o p
 
 -- the runs of a record's listed nets stand, by their spans: Full exactly where the working runs are over 1,024, and else the live outputs add the detected runs
-pub record SpansListed (K : Case) (offsets : List ℕ) (outs : ℕ) (spans' ws ws' : List ℕ) (r : Added) : Type 0 where
+pub record SpansListed (K : Case) (offsets : List ℕ) (outs : ℕ) (spans' ws ws' : List ℕ) (r : Option ℕ) : Type 0 where
   pub kept : Kept ws ws'
-  pub over : r ≡ Full → max_runs < working K
-  pub fits : (n : ℕ) → r ≡ Count n → working K ≤ max_runs
-  pub ready : (n : ℕ) → r ≡ Count n → OutputsReady offsets outs spans' ws'
-  pub detects : (n : ℕ) → r ≡ Count n → runs_of_outputs offsets outs spans' ws' ≡ detected K
+  pub over : r ≡ None → max_runs < working K
+  pub fits : (n : ℕ) → r ≡ Some n → working K ≤ max_runs
+  pub ready : (n : ℕ) → r ≡ Some n → OutputsReady offsets outs spans' ws'
+  pub detects : (n : ℕ) → r ≡ Some n → runs_of_outputs offsets outs spans' ws' ≡ detected K

@@ -7,10 +7,9 @@ use Rattle.run_lists.specs.RunLists.{Sound, only_if, add_runs, shift_runs, run_a
 use Rattle.detection.specs.Cases.{Case}
 use Rattle.detection.specs.Walks.{Kept}
 use Rattle.block_intervals.specs.Spans.{first_of, end_of, shift_of, standing, ListedAt}
-use Rattle.block_intervals.specs.declared.nets.Grown.{Grown}
-use Rattle.block_intervals.specs.declared.nets.Grown.TheVariants.{Made, Over}
 use Rattle.block_words.specs.Layout.{kinds_at}
 use Rattle.block_intervals.specs.Layout.{spans_size, ends_at, shifts_at, rising_sections}
+use Rattle.std.specs.Prelude.{Option, Some, None}
 
 -- the net at a pin's place in the table, and by how much the runs that stand for it are higher at the pin
 abbrev pub source_at : List ℕ → ℕ → ℕ
@@ -81,14 +80,14 @@ pub record SpanMade (made net : ℕ) (s : List Run) (spans' ws' : List ℕ) (cou
   pub runs : shift_runs (shift_of spans' net) (standing spans' ws' net) ≡ s
 
 -- the span of one net more; the other spans and the runs before run place `made` are as they were
-pub record NetSpanned (made net : ℕ) (s : List Run) (spans ws spans' ws' : List ℕ) (r : Grown) : Type 0 where
+pub record NetSpanned (made net : ℕ) (s : List Run) (spans ws spans' ws' : List ℕ) (r : Option (ℕ × ℕ)) : Type 0 where
   pub kept : Kept ws ws'
   pub below : (f k : ℕ) → f + k ≤ made → runs_in_words ws' f k ≡ runs_in_words ws f k
   pub same_room : length spans' ≡ length spans
   pub others : (q : ℕ) → q < 512 → (q ≡ net → ⊥) → SameSpan spans spans' q
   pub sections : (k : ℕ) → rising_sections ≤ k → get_or spans' k 0 ≡ get_or spans k 0
-  pub over : r ≡ Over → max_runs < made + length s
-  pub spanned : (count after : ℕ) → r ≡ Made count after → SpanMade made net s spans' ws' count after
+  pub over : r ≡ None → max_runs < made + length s
+  pub spanned : (count after : ℕ) → r ≡ Some (count, after) → SpanMade made net s spans' ws' count after
 
 -- what all listed nets are handed: a case's list and tables, and the run 1 to 1 at run place 0
 pub record NetsListed (K : Case) (inputs : ℕ) (table offsets entries spans ws : List ℕ) : Type 0 where

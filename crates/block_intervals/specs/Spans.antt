@@ -4,14 +4,13 @@ use Rattle.model.specs.Netlist.{nets}
 use Rattle.model.specs.Runs.{Run}
 use Rattle.model.specs.Store.{max_runs}
 use Rattle.run_lists.specs.RunLists.{Sound, shift_runs, runs_in_words}
-use Rattle.run_lists.specs.declared.inner.Added.{Added}
-use Rattle.run_lists.specs.declared.inner.Added.TheVariants.{Count, Full}
 use Rattle.detection.specs.Cases.{Case, set_runs_of, working}
 use Rattle.detection.specs.Walks.{runs_before, Kept}
 use Rattle.block_words.specs.Block.{live_net}
 use Rattle.block_words.specs.Table.{CircuitTable}
 use Rattle.block_activity.specs.Marks.{OffsetTable, ListedEdge}
 use Rattle.block_intervals.specs.Layout.{spans_size, ends_at, shifts_at, rising_sections, falling_sections}
+use Rattle.std.specs.Prelude.{Option, Some, None}
 
 -- of a net: the run place of its first run, the place after its last, and by how much its runs are higher than those that stand there
 abbrev pub first_of : List ℕ → ℕ → ℕ
@@ -63,9 +62,9 @@ pub record SomeListedAt (table offsets entries : List ℕ) (edges inputs : ℕ) 
   pub at-list : ListedAt case table offsets entries edges outs inputs spans ws
 
 -- the runs of the listed nets: the number of all of them, those that stand and those by reference; Full only where the working runs are over 1,024
-pub record SpansMade (K : Case) (inputs : ℕ) (ws ws' spans' : List ℕ) (r : Added) : Type 0 where
+pub record SpansMade (K : Case) (inputs : ℕ) (ws ws' spans' : List ℕ) (r : Option ℕ) : Type 0 where
   pub kept : Kept ws ws'
   pub input_spans : InputSpans spans' inputs
-  pub total : (n : ℕ) → r ≡ Count n → runs_before (set_runs_of K) inputs + n ≡ working K
-  pub spans : (n : ℕ) → r ≡ Count n → (net : ℕ) → net < nets K.netlist → live_net K net ≡ true → SpanIs K spans' ws' max_runs net
-  pub full : r ≡ Full → max_runs < working K
+  pub total : (n : ℕ) → r ≡ Some n → runs_before (set_runs_of K) inputs + n ≡ working K
+  pub spans : (n : ℕ) → r ≡ Some n → (net : ℕ) → net < nets K.netlist → live_net K net ≡ true → SpanIs K spans' ws' max_runs net
+  pub full : r ≡ None → max_runs < working K

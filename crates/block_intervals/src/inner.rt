@@ -13,7 +13,6 @@ use crate::layout::{ENDS_AT, SHIFTS_AT, SPANS_SIZE};
 use crate::nets::{net_spans, over_working};
 use block_activity::inner::layout::OFFSET_TABLE_SIZE;
 use block_words::inner::layout::GATE_TABLE_SIZE;
-use run_lists::inner::Added;
 
 // The spans of the inputs, the same for every record and edge: each has the run at run place 0. The sections of both edges are empty until they are found.
 pub fn input_spans(spans: &mut [u64; SPANS_SIZE], inputs: usize)
@@ -21,16 +20,14 @@ pub fn input_spans(spans: &mut [u64; SPANS_SIZE], inputs: usize)
     ensures { InputSpans spans.new inputs }
 {
     clear_sections(spans);
-    let mut input = 0;
-    while input < inputs {
+    for input in 0..inputs {
         spans[input] = 0;
         spans[ENDS_AT + input] = 1;
         spans[SHIFTS_AT + input] = 0;
-        input += 1;
     }
 }
 
-// Makes the runs of a record's listed nets in the first quarter of the words, or answers Full where the working runs are over 1,024.
+// Makes the runs of a record's listed nets in the first quarter of the words, or answers nothing where the working runs are over 1,024.
 pub fn listed_spans(
     table: &[u16; GATE_TABLE_SIZE],
     offsets: &[u64; OFFSET_TABLE_SIZE],
@@ -39,7 +36,7 @@ pub fn listed_spans(
     inputs: usize,
     spans: &mut [u64; SPANS_SIZE],
     words: &mut [u64],
-) -> Added
+) -> Option<usize>
     requires { SomeListedAt table.now offsets.now entries.now edges inputs spans.old words.old }
     ensures { InputSpans spans.new inputs
         × ((K : Case) (outs : ℕ)
@@ -48,13 +45,9 @@ pub fn listed_spans(
 {
     words[0] = 1;
     words[1] = 1;
-    match net_spans(table, offsets, entries, spans, words) {
-        Added::Full => Added::Full,
-        Added::Count(total) => {
-            if over_working(total, edges, inputs) {
-                return Added::Full;
-            }
-            Added::Count(total)
-        }
+    let total = net_spans(table, offsets, entries, spans, words)?;
+    if over_working(total, edges, inputs) {
+        return None;
     }
+    Some(total)
 }

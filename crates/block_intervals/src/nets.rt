@@ -13,15 +13,7 @@ use crate::layout::{ENDS_AT, SHIFTS_AT, SPANS_SIZE};
 use block_activity::inner::layout::OFFSET_TABLE_SIZE;
 use block_words::inner::layout::GATE_TABLE_SIZE;
 use model::MAX_RUNS;
-use run_lists::inner::Added;
 use run_union::inner::append_shifted;
-
-// A net's runs, and the place after all runs that stand; or there is no more room.
-#[derive(Drop)]
-pub(crate) enum Grown {
-    Made(usize, usize),
-    Over,
-}
 
 // Writes where the runs of a net stand.
 fn put_span(spans: &mut [u64; SPANS_SIZE], net: usize, first: usize, end: usize, shift: u64)
@@ -64,7 +56,7 @@ fn add_pin(
     words: &mut [u64],
     made: usize,
     count: usize,
-) -> Added
+) -> Option<usize>
     requires at_lt_kinds_at { (at < kinds_at) × (made ≤ max_runs) }
     requires room { Room words.old made count (max_runs - made) }
     requires pin_ready { PinReady table.now offsets.now spans.now words.old made at }
@@ -92,7 +84,7 @@ fn more_pins(
     spans: &[u64; SPANS_SIZE],
     words: &mut [u64],
     made: usize,
-) -> Added
+) -> Option<usize>
     requires { ByteReady table.now offsets.now spans.now words.old made first byte }
     ensures { Adds words.old words.new made (max_runs - made)
         (byte_runs table.now offsets.now first byte spans.now words.old) result }
@@ -101,17 +93,10 @@ fn more_pins(
     let mut count = 0;
     while left != 0 {
         let pin = u64::trailing_zeros(left) as usize;
-        match add_pin(table, offsets, first + pin, spans, words, made, count) {
-            Added::Count(c) => {
-                count = c;
-            }
-            Added::Full => {
-                return Added::Full;
-            }
-        }
+        count = add_pin(table, offsets, first + pin, spans, words, made, count)?;
         left = left & (left - 1);
     }
-    Added::Count(count)
+    Some(count)
 }
 
 // The span of one listed net, by its entry: 256 net + byte of its active pins. Nearly every net has one active pin.
@@ -122,7 +107,7 @@ fn net_span(
     spans: &mut [u64; SPANS_SIZE],
     words: &mut [u64],
     made: usize,
-) -> Grown
+) -> Option<(usize, usize)>
     requires { EntryReady table.now offsets.now entry spans.old words.old made }
     ensures { NetSpanned made (entry / 256) (entry_runs_of table.now offsets.now entry spans.old words.old)
         spans.old words.old spans.new words.new result }
@@ -133,26 +118,22 @@ fn net_span(
     if byte & (byte - 1) == 0 {
         let pin = u64::trailing_zeros(byte) as usize;
         let count = one_pin(table, offsets, first + pin, net, spans);
-        return Grown::Made(count, made);
+        return Some((count, made));
     }
-    match more_pins(table, offsets, first, byte, spans, words, made) {
-        Added::Count(count) => {
-            let after = made + count;
-            put_span(spans, net, made, after, 0);
-            Grown::Made(count, after)
-        }
-        Added::Full => Grown::Over,
-    }
+    let count = more_pins(table, offsets, first, byte, spans, words, made)?;
+    let after = made + count;
+    put_span(spans, net, made, after, 0);
+    Some((count, after))
 }
 
-// The runs of all listed nets: those of a net with one active pin by reference. Answers how many they are, or Full where those that stand find no room.
+// The runs of all listed nets: those of a net with one active pin by reference. Answers how many they are, or nothing where those that stand find no room.
 pub(crate) fn net_spans(
     table: &[u16; GATE_TABLE_SIZE],
     offsets: &[u64; OFFSET_TABLE_SIZE],
     entries: &[u32],
     spans: &mut [u64; SPANS_SIZE],
     words: &mut [u64],
-) -> Added
+) -> Option<usize>
     requires { SomeNetsListed table.now offsets.now entries.now spans.old words.old }
     ensures { (K : Case) (inputs : ℕ)
         → NetsListed K inputs table.now offsets.now entries.now spans.old words.old
@@ -160,20 +141,12 @@ pub(crate) fn net_spans(
 {
     let mut made = 1;
     let mut total = 0;
-    let mut i = 0;
-    while i < entries.len() {
-        match net_span(table, offsets, entries[i], spans, words, made) {
-            Grown::Made(count, after) => {
-                total += count;
-                made = after;
-            }
-            Grown::Over => {
-                return Added::Full;
-            }
-        }
-        i += 1;
+    for i in 0..entries.len() {
+        let (count, after) = net_span(table, offsets, entries[i], spans, words, made)?;
+        total += count;
+        made = after;
     }
-    Added::Count(total)
+    Some(total)
 }
 
 // Whether the working runs, those of the gates' nets and one for each input that makes the edge, are over 1,024. Inputs are at most 64, so their bits are
@@ -188,11 +161,9 @@ pub(crate) fn over_working(total: usize, edges: u64, inputs: usize) -> bool
     if MAX_RUNS < total {
         return true;
     }
-    let mut input = 0;
     let mut sum = total;
-    while input < inputs {
+    for input in 0..inputs {
         sum += ((edges >> (input as u64)) & 1) as usize;
-        input += 1;
     }
     MAX_RUNS < sum
 }

@@ -8,9 +8,7 @@ use Rattle.model.specs.Refusals.{refusal_number_of}
 use Rattle.model.specs.Calls.{Tested, store_left, work_words_count}
 use Rattle.model.specs.declared.Refusal.{Refusal}
 use Rattle.model.proofs.ReadLaws.{limits}
-use Rattle.store_coverage.specs.Stage.{MemoryReady, work_stage, store_after, stage_of, StageIs}
-use Rattle.store_coverage.specs.declared.inner.StageAnswer.{StageAnswer}
-use Rattle.store_coverage.specs.declared.inner.StageAnswer.TheVariants as stage
+use Rattle.store_coverage.specs.Stage.{MemoryReady, work_stage, store_after, StageIs}
 use Rattle.store_words.specs.Sound.{FewRuns}
 use Rattle.store_coverage.proofs.EdgesLaws.{memory-few}
 use Rattle.store_coverage.proofs.TestCallLaws.{refused-by, taken-by}
@@ -24,6 +22,8 @@ use Rattle.block_stage.specs.BlockStage.{work_all, one_more_test, work_taken, Bl
 use Rattle.block_stage.specs.declared.inner.listed.RecordEdges.{RecordEdges}
 use Rattle.block_words.specs.Layout.{list_size}
 use Rattle.block_activity.specs.Layout.{up_lengths_at, down_lengths_at}
+use Rattle.std.specs.Prelude.{Result, Ok, Err}
+use Rattle.model.specs.Returned.{answer_of}
 
 -- a block by the numbers that the loop holds, and the store and the words that it is handed
 pub record BlockIn (N : Netlist) (tests : ℕ → Test) (table offsets risingLists fallingLists marks : List ℕ) (inputs records : ℕ) (ws work : List ℕ) : Type 0 where
@@ -133,20 +133,20 @@ module _ {table offsets risingLists fallingLists marks ws₀ work₀ : List ℕ}
     ended-kept = record { store_length = here.memory.store_length; same_length_of = g.same_length_of; past_work = g.past_work }
 
     pub ended : records ≤ t → (N : Netlist) (tests : ℕ → Test) → BlockIn N tests table offsets risingLists fallingLists marks inputs records ws₀ work₀
-        → BlockTaken (record { taken = t; answer = stage.Taken }) N tests records ws₀ ws
+        → BlockTaken (record { taken = records; answer = (Ok tt) }) N tests records ws₀ ws
     unfolding work_all work_taken
     ended h N tests b =
         let s = g.so_far N tests b in
         let z : records - t ≡ 0 = omega arith in
         let none : t + 0 ≡ work_taken N tests 0 records ws₀ = ap (λ (n : ℕ). t + work_taken N tests t n ws) (sym z) ∙ s.counted in
-        record { answer = ap (λ (n : ℕ). work_all N tests t n ws) (sym z) ∙ s.rest; taken = omega (arith, none) }
+        record { answer = ap (λ (n : ℕ). work_all N tests t n ws) (sym z) ∙ s.rest; taken = omega (arith, none, g.within) }
 
     module _ (h : t < records) where
       module _ {edges : RecordEdges} {outputs : ℕ} (ee : edges ≡ edges_at marks t inputs outputs) where
         pub some-listed : SomeListedBoth table offsets (list_of risingLists marks up_lengths_at t) (list_of fallingLists marks down_lengths_at t) edges ws spans work
         some-listed = record { circuit = g.circuit; test = g.tests t; listed = listed_here g.block h ee g.input_spans here.memory }
 
-        module _ {ws' work' : List ℕ} {r : StageAnswer}
+        module _ {ws' work' : List ℕ} {r : (Result (Unit {0}) Refusal)}
             (a : (N : Netlist) (test : Test) → ListedBoth N test table offsets (list_of risingLists marks up_lengths_at t) (list_of fallingLists marks down_lengths_at t) edges ws spans work
             → StageIs (work_stage N test ws) ws ws' work work' r) where
           now-is : (N : Netlist) (tests : ℕ → Test) → BlockIn N tests table offsets risingLists fallingLists marks inputs records ws₀ work₀
@@ -156,10 +156,10 @@ module _ {table offsets risingLists fallingLists marks ws₀ work₀ : List ℕ}
           this : StageIs (work_stage g.circuit (g.tests t) ws) ws ws' work work' r
           this = now-is g.circuit g.tests g.block
 
-          module _ {w : Refusal} (q : r ≡ stage.Refused w) where
+          module _ {w : Refusal} (q : r ≡ Err w) where
             refuses : (N : Netlist) (tests : ℕ → Test) → BlockIn N tests table offsets risingLists fallingLists marks inputs records ws₀ work₀
                 → work_stage N (tests t) ws ≡ refused (refusal_number_of w)
-            refuses N tests b = refused-by (work_stage N (tests t) ws) (refusal_number_of w) (sym (ap stage_of q) ∙ (now-is N tests b).answer)
+            refuses N tests b = refused-by (work_stage N (tests t) ws) (refusal_number_of w) (sym (ap answer_of q) ∙ (now-is N tests b).answer)
 
             pub refused-kept : MemoryKept ws' work₀ work'
             unfolding store_after
@@ -172,7 +172,7 @@ module _ {table offsets risingLists fallingLists marks ws₀ work₀ : List ℕ}
                 }
 
             pub refused-here : (N : Netlist) (tests : ℕ → Test) → BlockIn N tests table offsets risingLists fallingLists marks inputs records ws₀ work₀
-                → BlockTaken (record { taken = t; answer = stage.Refused w }) N tests records ws₀ ws'
+                → BlockTaken (record { taken = t; answer = Err w }) N tests records ws₀ ws'
             refused-here N tests b =
                 let s = g.so_far N tests b in
                 let x = refuses N tests b in
@@ -180,14 +180,14 @@ module _ {table offsets risingLists fallingLists marks ws₀ work₀ : List ℕ}
                 let none : work_taken N tests t (records - t) ws ≡ 0 = taken_next N tests t records h ws ∙ rw x refl in
                 record { answer = sym whole; taken = omega (arith, none, s.counted) }
 
-          module _ (q : r ≡ stage.Taken) where
+          module _ (q : r ≡ Ok tt) where
             taken_here : (N : Netlist) (tests : ℕ → Test) → BlockIn N tests table offsets risingLists fallingLists marks inputs records ws₀ work₀
                 → SoFar table offsets risingLists fallingLists marks ws₀ work₀ inputs records N tests ws' work' (t + 1)
             unfolding store_after
             taken_here N tests b =
                 let s = g.so_far N tests b in
                 let x = now-is N tests b in
-                let p = taken-by (work_stage N (tests t) ws) (sym (ap stage_of q) ∙ x.answer) in
+                let p = taken-by (work_stage N (tests t) ws) (sym (ap answer_of q) ∙ x.answer) in
                 let left : ws' ≡ store_left p.got = x.store ∙ ap (λ (y : Answer Tested). after y ws store_left) p.is in
                 let others : work_taken N tests t (records - t) ws ≡ 1 + work_taken N tests (t + 1) (records - (t + 1)) ws' =
                 taken_next N tests t records h ws ∙ rw p.is (ap (λ (y : List ℕ). 1 + work_taken N tests (t + 1) (records - (t + 1)) y) (sym left)) in

@@ -9,8 +9,6 @@ use Rattle.model.proofs.ReadLaws.{legal, limits}
 use Rattle.model.proofs.RunLaws.{runs-test, runs_same, runs-of_runs}
 use Rattle.run_lists.specs.RunLists.{Sound}
 use Rattle.run_lists.specs.Answers.{Adds}
-use Rattle.run_lists.specs.declared.inner.Added.{Added}
-use Rattle.run_lists.specs.declared.inner.Added.TheVariants.{Count, Full}
 use Rattle.run_lists.proofs.MemberLaws.{sound-mono}
 use Rattle.run_lists.proofs.RunWordLaws.{length_runs}
 use Rattle.store_writing.specs.Writing.{changed, Within}
@@ -19,8 +17,8 @@ use Rattle.store_writing.specs.declared.inner.Change.TheVariants.{Kept}
 use Rattle.detection.specs.Cases.{Case, detects_path, detected, working}
 use Rattle.detection.specs.Walks.{Detects}
 use Rattle.store_coverage.specs.Covers.{then_runs_of, held_runs, JoinReady, Covers}
-use Rattle.store_coverage.specs.declared.inner.edges.EdgeAnswer.{EdgeAnswer}
-use Rattle.store_coverage.specs.declared.inner.edges.EdgeAnswer.TheVariants.{Covered, OverWork}
+use Rattle.store_coverage.specs.declared.inner.edges.Over.{Over}
+use Rattle.store_coverage.specs.declared.inner.edges.Over.TheVariants as over
 use Rattle.store_coverage.proofs.CoverLaws.{runs-drop, rules-fit, found-few, found-sound, join_over}
 use Rattle.block_intervals.specs.Spans.{Ascending, InputSpans, ListedAt, SomeListedAt}
 use Rattle.block_intervals.specs.LiveOutputs.{runs_of_outputs, OutputsReady, SpansListed}
@@ -30,6 +28,7 @@ use Rattle.block_intervals.proofs.HeldLaws.{AllIn, all_none, outputs-numbers}
 use Rattle.block_stage.specs.Covering.{EdgeReady, SomeEdgeReady}
 use Rattle.block_stage.specs.declared.covering.EdgeMarks.{EdgeMarks}
 use Rattle.block_intervals.specs.Layout.{rising_sections, falling_sections}
+use Rattle.std.specs.Prelude.{Option, Some, None, Result, Ok, Err}
 
 -- ---- nothing new
 
@@ -53,7 +52,7 @@ module _ {table offsets entries : List ℕ} {marks : EdgeMarks} {held spans ws :
     paths = (limits h.listed.circuit.file K.netlist h.listed.circuit.legal).total_fits
 
     kept-covers : {ws₁ : List ℕ} → working K ≤ max_runs → AllIn (λ x. in_runs (held_runs held) x ≡ true) (detected K) → ((k : ℕ) → 4 * max_runs ≤ k → drop k ws₁ ≡ drop k ws)
-        → Covers K (held_runs held) ws ws₁ marks.target (Covered Kept)
+        → Covers K (held_runs held) ws ws₁ marks.target (Ok Kept)
     kept-covers {ws₁} fit a same =
         let e = then_same K (held_runs held) h.sound_held a in
         let l : length (then_runs_of K (held_runs held)) ≡ length held / 2 = ap (length {A = Run}) e ∙ length_runs held 0 (length held / 2) in
@@ -66,20 +65,20 @@ module _ {table offsets entries : List ℕ} {marks : EdgeMarks} {held spans ws :
         }
 
     -- no input makes the edge
-    pub edge_none : marks.edges ≡ 0 → Covers K (held_runs held) ws ws marks.target (Covered Kept)
+    pub edge_none : marks.edges ≡ 0 → Covers K (held_runs held) ws ws marks.target (Ok Kept)
     edge_none z =
         let d = listed-none h.listed z in
         kept-covers (none-working d) (subst (λ (s : List Run). AllIn (λ x. in_runs (held_runs held) x ≡ true) s) (d.runs_are 0 refl) all_none) (λ k l. refl)
       where
-        count-cases : (b : Bool) (n : ℕ) → ◌≡◌ {A = Added} (Count 0) (cond b (Count n) Full) → b ≡ true
+        count-cases : (b : Bool) (n : ℕ) → ◌≡◌ {A = (Option ℕ)} (Some 0) (cond b (Some n) None) → b ≡ true
         count-cases true n e = refl
         count-cases false n e = let w : ◌≡◌ {A = ℕ} 0 1 = cc in absurd (omega arith)
 
-        none-working : Detects K ws ws (Count 0) → working K ≤ max_runs
+        none-working : Detects K ws ws (Some 0) → working K ≤ max_runs
         none-working d = leb-true (working K) max_runs (count-cases (leb (working K) max_runs) (length (detected K)) d.answers)
 
     -- what joining is handed
-    joins : {ws₁ : List ℕ} {q : Added} → Detects K ws ws₁ q → length ws₁ ≡ length ws → JoinReady q held ws₁ marks.target
+    joins : {ws₁ : List ℕ} {q : (Option ℕ)} → Detects K ws ws₁ q → length ws₁ ≡ length ws → JoinReady q held ws₁ marks.target
     joins d l = record {
       few_found = λ n c. found-few d c (legal h.listed.circuit.file K.netlist h.listed.circuit.legal);
       sound_found = λ n c. found-sound d c paths;
@@ -90,33 +89,33 @@ module _ {table offsets entries : List ℕ} {marks : EdgeMarks} {held spans ws :
     }
 
     -- after the runs of the listed nets
-    module _ {ws₁ spans₁ : List ℕ} {q : Added}
+    module _ {ws₁ spans₁ : List ℕ} {q : (Option ℕ)}
         (made : (K : Case) (outs : ℕ) → ListedAt K table offsets entries marks.edges outs marks.inputs spans ws → SpansListed K offsets outs spans₁ ws ws₁ q) where
       here : SpansListed K offsets marks.outs spans₁ ws ws₁ q
       here = made K marks.outs h.listed
 
-      pub edge-over : q ≡ Full → Covers K (held_runs held) ws ws₁ marks.target OverWork
+      pub edge-over : q ≡ None → Covers K (held_runs held) ws ws₁ marks.target (Err over.Work)
       edge-over t = let d = spans-over h.listed here t in join_over (joins d here.kept.same) refl K ws d h.sound_held
 
-      module _ {n : ℕ} (t : q ≡ Count n) where
+      module _ {n : ℕ} (t : q ≡ Some n) where
         pub edge-outputs : OutputsReady offsets marks.outs spans₁ ws₁
         edge-outputs = here.ready n t
 
-        pub edge-held : {b : Bool} → b ≡ true → (b ≡ true → OutputsHeld offsets marks.outs spans₁ ws₁ held) → Covers K (held_runs held) ws ws₁ marks.target (Covered Kept)
+        pub edge-held : {b : Bool} → b ≡ true → (b ≡ true → OutputsHeld offsets marks.outs spans₁ ws₁ held) → Covers K (held_runs held) ws ws₁ marks.target (Ok Kept)
         edge-held e f =
             kept-covers (here.fits n t)
             (subst (λ (s : List Run). AllIn (λ x. in_runs (held_runs held) x ≡ true) s) (here.detects n t)
             (outputs-numbers (path_total K.netlist) h.sound_held (here.ready n t) (f e)))
             (λ k l. here.kept.above k (omega arith))
 
-        module _ {ws₂ : List ℕ} {r : Added} (x : Adds ws₁ ws₂ max_runs max_runs (runs_of_outputs offsets marks.outs spans₁ ws₁) r) where
+        module _ {ws₂ : List ℕ} {r : (Option ℕ)} (x : Adds ws₁ ws₂ max_runs max_runs (runs_of_outputs offsets marks.outs spans₁ ws₁) r) where
           detects : Detects K ws ws₂ r
           detects = spans-detect h.listed here t x
 
           pub edge-joins : length ws₂ ≡ length ws → JoinReady r held ws₂ marks.target
           edge-joins = joins detects
 
-          pub edge-joined : {ws₃ : List ℕ} {a : EdgeAnswer}
+          pub edge-joined : {ws₃ : List ℕ} {a : Result Change Over}
               → ((K : Case) (w : List ℕ) → Detects K w ws₂ r → Sound (path_total K.netlist) (held_runs held) → Covers K (held_runs held) w ws₃ marks.target a)
               → Covers K (held_runs held) ws ws₃ marks.target a
           edge-joined joined = joined K ws detects h.sound_held

@@ -13,9 +13,8 @@ use Rattle.detection.specs.Cases.{Case, case_of}
 use Rattle.store_coverage.specs.Covers.{held_runs, Covers}
 use Rattle.store_coverage.specs.Both.{joined, CoversBoth}
 use Rattle.store_coverage.specs.Stage.{MemoryReady, BothMade, SomeBothMade, work_stage, StageIs}
-use Rattle.store_coverage.specs.declared.inner.edges.EdgeAnswer.{EdgeAnswer}
-use Rattle.store_coverage.specs.declared.inner.edges.BothAnswer.{BothAnswer}
-use Rattle.store_coverage.specs.declared.inner.StageAnswer.{StageAnswer}
+use Rattle.store_coverage.specs.declared.inner.edges.Over.{Over}
+use Rattle.store_writing.specs.declared.inner.Change.{Change}
 use Rattle.store_coverage.proofs.WorkMemory.{stage-memory}
 use Rattle.store_coverage.proofs.BothLaws.{covers-both}
 use Rattle.store_coverage.proofs.EdgesLaws.{held-half, held-are, memory-sound, memory-few}
@@ -27,6 +26,8 @@ use Rattle.block_stage.specs.declared.covering.EdgeMarks.{EdgeMarks}
 use Rattle.block_stage.specs.Listed.{ListedBoth, SomeListedBoth}
 use Rattle.block_stage.specs.declared.inner.listed.RecordEdges.{RecordEdges}
 use Rattle.block_intervals.specs.Layout.{rising_sections, falling_sections}
+use Rattle.std.specs.Prelude.{Result}
+use Rattle.model.specs.declared.Refusal.{Refusal}
 
 -- the marks of each edge of a record
 abbrev pub up_marks : RecordEdges → EdgeMarks
@@ -82,11 +83,11 @@ module _ {table offsets risingList fallingList : List ℕ} {edges : RecordEdges}
     some-down is i l = record { case = case_of h.circuit h.test falling; ready = down-ready h.listed is i l }
 
   -- both edges are covered
-  module _ {heldUp : List ℕ} (hu : heldUp ≡ edge_words ws rising) {work₁ : List ℕ} (l₁ : length work₁ ≡ length work) {a : EdgeAnswer}
+  module _ {heldUp : List ℕ} (hu : heldUp ≡ edge_words ws rising) {work₁ : List ℕ} (l₁ : length work₁ ≡ length work) {a : Result Change Over}
       (up : (K : Case) → EdgeReady K table offsets risingList (up_marks edges) heldUp spans work → Covers K (held_runs heldUp) work work₁ (2 * max_runs) a)
-      {heldDown : List ℕ} (hd : heldDown ≡ edge_words ws falling) {spans₁ : List ℕ} (s₁ : InputSpans spans₁ edges.inputs) {work₂ : List ℕ} {b : EdgeAnswer}
+      {heldDown : List ℕ} (hd : heldDown ≡ edge_words ws falling) {spans₁ : List ℕ} (s₁ : InputSpans spans₁ edges.inputs) {work₂ : List ℕ} {b : Result Change Over}
       (down : (K : Case) → EdgeReady K table offsets fallingList (down_marks edges) heldDown spans₁ work₁ → Covers K (held_runs heldDown) work₁ work₂ (3 * max_runs) b) where
-    pub both-listed : {q : BothAnswer} → q ≡ joined a b → (N : Netlist) (t : Test) → ListedBoth N t table offsets risingList fallingList edges ws spans work
+    pub both-listed : {q : Result (Change × Change) Over} → q ≡ joined a b → (N : Netlist) (t : Test) → ListedBoth N t table offsets risingList fallingList edges ws spans work
         → CoversBoth N t ws work work₂ q
     both-listed is N t h =
         covers-both
@@ -97,7 +98,7 @@ module _ {table offsets risingList fallingList : List ℕ} {edges : RecordEdges}
         is
 
   -- what was made is written
-  module _ {work' : List ℕ} (same : length work' ≡ length work) {q : BothAnswer}
+  module _ {work' : List ℕ} (same : length work' ≡ length work) {q : Result (Change × Change) Over}
       (covers : (N : Netlist) (t : Test) → ListedBoth N t table offsets risingList fallingList edges ws spans work → CoversBoth N t ws work work' q) where
     listed-made : {N : Netlist} {t : Test} → ListedBoth N t table offsets risingList fallingList edges ws spans work → BothMade N t ws work work' q
     listed-made {N = N} {t = t} h = record { memory = h.memory; same_length_of = same; covers = covers N t h }
@@ -105,12 +106,12 @@ module _ {table offsets risingList fallingList : List ℕ} {edges : RecordEdges}
     pub listed-writes : SomeListedBoth table offsets risingList fallingList edges ws spans work → SomeBothMade q ws work'
     listed-writes h = record { circuit = h.circuit; test = h.test; found = work; made = listed-made h.listed }
 
-    pub listed-written : {ws' : List ℕ} {r : StageAnswer}
+    pub listed-written : {ws' : List ℕ} {r : (Result (Unit {0}) Refusal)}
         → ((N : Netlist) (t : Test) (found : List ℕ) → BothMade N t ws found work' q → StageIs (work_stage N t ws) ws ws' found work' r)
         → (N : Netlist) (t : Test) → ListedBoth N t table offsets risingList fallingList edges ws spans work → StageIs (work_stage N t ws) ws ws' work work' r
     listed-written writes N t h = writes N t work (listed-made h)
 
-    pub listed-few : {ws' : List ℕ} {r : StageAnswer}
+    pub listed-few : {ws' : List ℕ} {r : (Result (Unit {0}) Refusal)}
         → ((N : Netlist) (t : Test) (found : List ℕ) → BothMade N t ws found work' q → StageIs (work_stage N t ws) ws ws' found work' r)
         → SomeListedBoth table offsets risingList fallingList edges ws spans work → FewRuns ws'
     listed-few {ws' = ws'} writes h =

@@ -5,11 +5,12 @@ use Rattle.model.specs.Netlist.{Netlist}
 use Rattle.model.specs.Detect.{Test}
 use Rattle.model.specs.Store.{store_words_count}
 use Rattle.model.specs.Calls.{Tested, store_left, work_words_count}
-use Rattle.store_coverage.specs.Stage.{MemoryReady, stage_of, work_stage}
+use Rattle.store_coverage.specs.Stage.{MemoryReady, work_stage}
 use Rattle.block_words.specs.Table.{CircuitTable}
 use Rattle.block_activity.specs.Marks.{OffsetTable, MarksTrue}
 use Rattle.block_activity.specs.declared.inner.Batch.{Batch}
 use Rattle.block_stage.specs.declared.inner.Applied.{Applied}
+use Rattle.model.specs.Returned.{answer_of}
 
 -- the place Work with n tests in order, from test t on: the number of the first refusal, or the store that they leave
 unfoldable pub work_all : Netlist → (ℕ → Test) → ℕ → ℕ → List ℕ → Answer (List ℕ)
@@ -41,7 +42,7 @@ pub record BlockReady (table offsets risingLists fallingLists marks : List ℕ) 
 
 -- the answer with the store that is left, how many were taken, and what holds of the lent memory
 pub record BlockTaken (r : Applied) (N : Netlist) (tests : ℕ → Test) (n : ℕ) (ws ws' : List ℕ) : Type 0 where
-  pub answer : (stage_of r.answer then value ws') ≡ work_all N tests 0 n ws
+  pub answer : (answer_of r.answer then value ws') ≡ work_all N tests 0 n ws
   pub taken : r.taken ≡ work_taken N tests 0 n ws
 
 pub record MemoryKept (ws' work work' : List ℕ) : Type 0 where

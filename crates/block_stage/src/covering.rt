@@ -10,8 +10,7 @@ use block_intervals::inner::outputs::out_runs;
 use block_intervals::inner::sections::outputs_inside;
 use block_intervals::layout::SPANS_SIZE;
 use block_words::inner::layout::GATE_TABLE_SIZE;
-use run_lists::inner::Added;
-use store_coverage::inner::edges::{EdgeAnswer, join_edge};
+use store_coverage::inner::edges::{Over, join_edge};
 use store_writing::inner::Change;
 
 // One edge of one record: a bit for each input that makes it and for each live output, the number of inputs, the place of the edge's sections and the run place
@@ -34,7 +33,7 @@ pub(crate) fn cover_edge(
     held: &[u64],
     spans: &mut [u64; SPANS_SIZE],
     words: &mut [u64],
-) -> EdgeAnswer
+) -> Result<Change, Over>
     requires { SomeEdgeReady table.now offsets.now entries.now marks held.now spans.old words.old }
     ensures { InputSpans spans.new marks.inputs
         × ((K : Case) → EdgeReady K table.now offsets.now entries.now marks held.now spans.old words.old
@@ -43,13 +42,13 @@ pub(crate) fn cover_edge(
     let edges = marks.edges;
     let outs = marks.outs;
     if edges == 0 {
-        return EdgeAnswer::Covered(Change::Kept);
+        return Ok(Change::Kept);
     }
     match listed_spans(table, offsets, entries, edges, marks.inputs, spans, words) {
-        Added::Full => EdgeAnswer::OverWork,
-        Added::Count(total) => {
+        None => Err(Over::Work),
+        Some(total) => {
             if outputs_inside(offsets, outs, spans, marks.base, words, held) {
-                return EdgeAnswer::Covered(Change::Kept);
+                return Ok(Change::Kept);
             }
             let found = out_runs(offsets, outs, spans, words);
             join_edge(found, held, words, marks.target)

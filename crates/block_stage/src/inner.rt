@@ -16,13 +16,13 @@ use block_activity::inner::layout::{
 };
 use block_intervals::layout::SPANS_SIZE;
 use block_words::inner::layout::{GATE_TABLE_SIZE, LIST_SIZE};
-use store_coverage::inner::StageAnswer;
+use model::Refusal;
 
 // The number of records taken before the first that was refused, all of them if none was, and what they answer.
 #[derive(Drop)]
 pub struct Applied {
     pub taken: usize,
-    pub answer: StageAnswer,
+    pub answer: Result<(), Refusal>,
 }
 
 // The place Work with the records of a block in order, each on the store that the one before it left.
@@ -48,23 +48,23 @@ pub fn apply_block(
     let records = batch.records;
     let mut spans = [0u64; SPANS_SIZE];
     begin_spans(offsets, inputs, outputs, store, &mut spans);
-    let mut t = 0;
-    while t < records {
+    for t in 0..records {
         let at = LIST_SIZE * t;
         let up = &rising_lists[at..at + marks[UP_LENGTHS_AT + t] as usize];
         let down = &falling_lists[at..at + marks[DOWN_LENGTHS_AT + t] as usize];
         let edges = edges_at(marks, t, inputs, outputs);
         let stage = apply_listed(table, offsets, up, down, edges, store, &mut spans, work);
         match stage {
-            StageAnswer::Refused(why) => {
-                let answer = StageAnswer::Refused(why);
+            Err(why) => {
+                let answer = Err(why);
                 return Applied { taken: t, answer };
             }
-            StageAnswer::Taken => {
-                t += 1;
-            }
+            Ok(()) => {}
         }
     }
-    let answer = StageAnswer::Taken;
-    Applied { taken: t, answer }
+    let answer = Ok(());
+    Applied {
+        taken: records,
+        answer,
+    }
 }

@@ -19,9 +19,7 @@ fn gather_8x8(vectors: &[u64; 128], first: usize, shift: u64) -> u64
     ensures { Gathered vectors.now first shift result }
 {
     let mut word: u64 = 0;
-    let mut t = 8;
-    while 0 < t {
-        t -= 1;
+    for t in (0..8).rev() {
         word = (word << 1) | spread_bits((vectors[first + t] >> shift) & 255);
     }
     word
@@ -33,11 +31,9 @@ fn scatter_bytes(word: u64, words: &mut [u64; 64], first: usize, place: u64)
     ensures { Scattered word first place words.old words.new }
 {
     let mut left = word;
-    let mut i = 0;
-    while i < 8 {
+    for i in 0..8 {
         words[first + i] = words[first + i] | ((left & 255) << place);
         left = left >> 8;
-        i += 1;
     }
 }
 
@@ -52,11 +48,9 @@ fn transpose_column(
     requires { (first ≤ 64) × (n ≤ 64) × (byte < 8) × (length words.old ≡ 64) }
     ensures { ColumnTransposed vectors.now first n byte words.old words.new }
 {
-    let mut t = 0;
-    while t < n {
+    for t in (0..n).step_by(8) {
         let word = gather_8x8(vectors, first + t, (8 * byte) as u64);
         scatter_bytes(word, words, 8 * byte, t as u64);
-        t += 8;
     }
 }
 
@@ -66,10 +60,8 @@ pub fn transpose(vectors: &[u64; 128], first: usize, n: usize, inputs: usize) ->
     ensures { Transposed vectors.now first n inputs result }
 {
     let mut words = [0u64; 64];
-    let mut byte = 0;
-    while 8 * byte < inputs {
+    for byte in 0..inputs.div_ceil(8) {
         transpose_column(vectors, first, n, byte, &mut words);
-        byte += 1;
     }
     words
 }

@@ -1,10 +1,13 @@
 -- Codes and answer words: what a refusal and what a value leave.
-use Rattle.model.proofs.Prelude.{ℕ, ◌≡◌, refl, subst, List, sets}
+use mir.Val.{bool_byte}
+use Rattle.model.proofs.Prelude.{ℕ, Bool, true, false, ◌≡◌, ap, refl, subst, List, sets, rules}
 use Rattle.model.specs.Base.{Answer, refused, value}
 use Rattle.model.specs.Refusals.{refusal_number_of}
 use Rattle.model.specs.declared.Refusal.{Refusal}
 use Rattle.model.specs.declared.Refusal.TheVariants as why
-use Rattle.c_answer_words.specs.Codes.{code_answer, Answered}
+use Rattle.model.specs.Returned.{answer_of}
+use Rattle.c_answer_words.specs.Codes.{code_answer, Answered, number_word}
+use Rattle.std.specs.Prelude.{cond, Result, Ok, Err}
 
 -- no refusal has the number 0: each is a code of its own
 pub code_refused : (w : Refusal) → code_answer (refusal_number_of w) ≡ refused (refusal_number_of w)
@@ -67,3 +70,28 @@ module _ {A : Type 0} (call : Answer A) (words : A → List ℕ) (found : List �
 pub answered-by : {A : Type 0} {x call : Answer A} {words : A → List ℕ} {code : ℕ} {found left : List ℕ}
     → x ≡ call → Answered x words code found left → Answered call words code found left
 answered-by {words = words} {code = code} {found = found} {left = left} e a = subst (λ y. Answered y words code found left) e a
+
+-- ---- What a function of the library returned, by its cases
+
+module _ (code : ℕ) (w : Refusal) (q : code ≡ refusal_number_of w) where
+  pub told-refused : (r : Result (Unit {0}) Refusal) → r ≡ Err w → code_answer code ≡ answer_of r
+  told-refused r p = rw (q, p) (code_refused w)
+
+  pub number-refused : (r : Result ℕ Refusal) (found : List ℕ) → r ≡ Err w → Answered (answer_of r) number_word code found found
+  number-refused r found p = answered-refused (answer_of r) number_word found w code q (ap answer_of p)
+
+pub told-done : (r : Result (Unit {0}) Refusal) → r ≡ Ok tt → code_answer 0 ≡ answer_of r
+told-done r p = rw p code_zero
+
+pub number-taken : (r : Result ℕ Refusal) (n code : ℕ) (found left : List ℕ) → code ≡ 0 → left ≡ sets found 0 (number_word n) → r ≡ Ok n
+    → Answered (answer_of r) number_word code found left
+number-taken r n code found left q l p = rw (q, l) (answered-value (answer_of r) number_word found n (ap answer_of p))
+
+-- a truth value as the number that a cast makes of it
+pub bit_is : (b : Bool) → bool_byte b ≡ cond b 1 0
+bit_is true = refl
+bit_is false = refl
+
+pub ruleset code-cases = (told-refused, told-done, rules)
+
+pub ruleset number-cases = (number-refused, number-taken, rules)

@@ -6,10 +6,12 @@ use Rattle.model.specs.Refusals.{refusal_number_of}
 use Rattle.model.specs.declared.Refusal.TheVariants as why
 use Rattle.path_faults.specs.Answers.{model_edge, fault_answer, fault_call_of}
 use Rattle.path_faults.specs.declared.Edge.{Edge}
-use Rattle.path_faults.specs.declared.FaultAnswer.{FaultAnswer}
 use Rattle.c_answer_words.specs.Codes.{Answered, answer_after, number_word, edge_in, edge_number_of}
 use Rattle.c_answer_words.proofs.CodeLaws.{answered-refused, answered-value, answered-by}
 use Rattle.c_calls.specs.FaultNumbers.{fault_of_call, path_of_call, path_word, side_word}
+use Rattle.std.specs.Prelude.{Result}
+use Rattle.model.specs.declared.Refusal.{Refusal}
+use Rattle.path_faults.specs.declared.FaultNo.{FaultNo}
 
 -- ---- The fault of a path number and an edge
 
@@ -26,7 +28,7 @@ module _ (i n : ℕ) where
   unfolding fault_of_call edge_in
   of_neither a b = rw (ne_eqb n 0 a, fault_of_call, edge_in) (rw (ne_eqb n 1 b, fault_of_call, edge_in) refl)
 
-module _ (code i n : ℕ) (found left : List ℕ) (r : FaultAnswer) (a : Answered (fault_answer r) number_word code found left) where
+module _ (code i n : ℕ) (found left : List ℕ) (r : Result FaultNo Refusal) (a : Answered (fault_answer r) number_word code found left) where
   pub rising-found : n ≡ 0 → fault_answer r ≡ fault_call_of rising i → Answered (fault_of_call i n) number_word code found left
   rising-found h e = answered-by (e ∙ of_rising i n h) a
 

@@ -3,64 +3,55 @@
 #![tactic(auto)]
 
 ghost use Rattle.std.specs.Prelude.{◌≡◌};
+ghost use Rattle.netlist.specs.Answers.{surveyed_of};
 ghost use Rattle.path_faults.specs.Answers.{model_edge, fault_answer};
 ghost use Rattle.path_to_number.specs.PathNumbers.{number_answer};
-ghost use Rattle.path_of_number.specs.Answers.{path_answer};
-ghost use Rattle.report.specs.Answers.{written_of};
-ghost use Rattle.audit_judging.specs.FileJudging.{audited_of};
-ghost use Rattle.audit_piece_steps.specs.Steps.{begun_of};
 ghost use Rattle.audit_pieces.specs.Calls.{piece_of};
 ghost use Rattle.bench_text.specs.Calls.{bench_of};
 ghost use Rattle.load.specs.Answers.{loaded_of};
-ghost use Rattle.c_answer_words.specs.Codes.{code_answer, answer_after, Answered, survey_words, number_word, edge_number_of};
-ghost use Rattle.c_calls.specs.Answers.{surveyed_of, all_taken, load_words};
+ghost use Rattle.c_answer_words.specs.Codes.{answer_after, Answered, survey_words, number_word, edge_number_of};
+ghost use Rattle.c_calls.specs.Answers.{all_taken, load_words};
 ghost use Rattle.c_calls.specs.FaultNumbers.{fault_of_call, path_of_call, path_word, side_word};
 
-use audit_judging::AuditAnswer;
-use audit_piece_steps::BeginAnswer;
 use audit_pieces::PieceAnswer;
-use bench_text::BenchAnswer;
-use c_answer_words::inner::{put_number, put_survey};
-use load::LoadAnswer;
+use bench_text::LineRefusal;
+use c_answer_words::inner::{put_survey, put_words};
+use load::LoadWritten;
 use model::Refusal;
 use model_refusals::refusal_number;
-use netlist::{SurveyAnswer, Surveyed};
-use path_faults::{Edge, FaultAnswer, FaultNo, PathNo, edge_of, fault_of, path_of};
-use path_of_number::PathAnswer;
-use path_to_number::NumberAnswer;
-use report::WriteAnswer;
+use netlist::NetlistSurvey;
+use path_faults::{Edge, FaultNo, PathNo, edge_of, fault_of, path_of};
 
 // The survey: I, G, U, T, then a count for each of 512 nets.
-pub fn survey_code(surveyed: Surveyed, answer: &mut [u64; 516]) -> u32
+pub fn survey_code(surveyed: Result<NetlistSurvey, Refusal>, answer: &mut [u64; 516]) -> u32
     ensures { Answered (surveyed_of surveyed) survey_words result answer.old answer.new }
 {
-    let found = surveyed.answer;
-    match found {
-        SurveyAnswer::Refused(why) => refusal_number(why),
-        SurveyAnswer::Legal => {
-            put_survey(surveyed.survey, answer);
+    match surveyed {
+        Err(why) => refusal_number(why),
+        Ok(survey) => {
+            put_survey(survey, answer);
             0
         }
     }
 }
 
 // The number of a path.
-pub fn number_code(number: NumberAnswer, answer: &mut [u64; 1]) -> u32
+pub fn number_code(number: Result<PathNo, Refusal>, answer: &mut [u64; 1]) -> u32
     ensures { Answered (number_answer number) number_word result answer.old answer.new }
 {
     match number {
-        NumberAnswer::Refused(why) => refusal_number(why),
-        NumberAnswer::Number(found) => put_number(found.0, answer),
+        Err(why) => refusal_number(why),
+        Ok(found) => put_words([found.0], answer),
     }
 }
 
 // The number of a fault.
-pub fn fault_code(found: FaultAnswer, answer: &mut [u64; 1]) -> u32
+pub fn fault_code(found: Result<FaultNo, Refusal>, answer: &mut [u64; 1]) -> u32
     ensures { Answered (fault_answer found) number_word result answer.old answer.new }
 {
     match found {
-        FaultAnswer::Refused(why) => refusal_number(why),
-        FaultAnswer::Fault(fault) => put_number(fault.0, answer),
+        Err(why) => refusal_number(why),
+        Ok(fault) => put_words([fault.0], answer),
     }
 }
 
@@ -91,7 +82,7 @@ pub fn path_of_code(fault: FaultNo, answer: &mut [u64; 1], edge: &mut [u32; 1]) 
     let path = path_of(fault);
     let side = edge_of(fault);
     edge[0] = edge_number(side);
-    put_number(path.0, answer)
+    put_words([path.0], answer)
 }
 
 // The number of an edge.
@@ -104,46 +95,6 @@ fn edge_number(side: Edge) -> u32
     }
 }
 
-// A path that was written.
-pub fn path_code(written: PathAnswer) -> u32
-    ensures { code_answer result ≡ path_answer written }
-{
-    match written {
-        PathAnswer::Refused(why) => refusal_number(why),
-        PathAnswer::Written => 0,
-    }
-}
-
-// The length of a report.
-pub fn report_code(written: WriteAnswer, answer: &mut [u64; 1]) -> u32
-    ensures { Answered (written_of written) number_word result answer.old answer.new }
-{
-    match written {
-        WriteAnswer::Refused(why) => refusal_number(why),
-        WriteAnswer::Written(length) => put_number(length as u64, answer),
-    }
-}
-
-// A report that was judged.
-pub fn audit_code(audited: AuditAnswer) -> u32
-    ensures { code_answer result ≡ audited_of audited }
-{
-    match audited {
-        AuditAnswer::Refused(why) => refusal_number(why),
-        AuditAnswer::Accepted => 0,
-    }
-}
-
-// The beginning of an audit in pieces.
-pub fn begin_code(begun: BeginAnswer) -> u32
-    ensures { code_answer result ≡ begun_of begun }
-{
-    match begun {
-        BeginAnswer::Refused(why) => refusal_number(why),
-        BeginAnswer::Ready => 0,
-    }
-}
-
 // A piece: the number of its records, if all were taken.
 pub fn piece_code(taken: PieceAnswer, answer: &mut [u64; 1]) -> u32
     ensures { Answered (all_taken (piece_of taken)) number_word result answer.old answer.new }
@@ -151,33 +102,26 @@ pub fn piece_code(taken: PieceAnswer, answer: &mut [u64; 1]) -> u32
     match taken {
         PieceAnswer::Refused(why) => refusal_number(why),
         PieceAnswer::RecordRefused(_, why) => refusal_number(why),
-        PieceAnswer::Taken(records) => put_number(records as u64, answer),
+        PieceAnswer::Taken(records) => put_words([records as u64], answer),
     }
 }
 
 // The length of a netlist file made of .bench text.
-pub fn bench_code(converted: BenchAnswer, answer: &mut [u64; 1]) -> u32
+pub fn bench_code(converted: Result<usize, LineRefusal>, answer: &mut [u64; 1]) -> u32
     ensures { Answered (bench_of converted) number_word result answer.old answer.new }
 {
     match converted {
-        BenchAnswer::Refused { why, line: _ } => refusal_number(why),
-        BenchAnswer::Written(length) => put_number(length as u64, answer),
+        Err(refusal) => refusal_number(refusal.why),
+        Ok(length) => put_words([length as u64], answer),
     }
 }
 
 // The state after a load's vector, and the bytes written.
-pub fn load_code(written: LoadAnswer, answer: &mut [u64; 2]) -> u32
+pub fn load_code(written: Result<LoadWritten, Refusal>, answer: &mut [u64; 2]) -> u32
     ensures { Answered (loaded_of written) load_words result answer.old answer.new }
 {
     match written {
-        LoadAnswer::Refused(why) => refusal_number(why),
-        LoadAnswer::Written {
-            state: after,
-            length,
-        } => {
-            answer[0] = after as u64;
-            answer[1] = length as u64;
-            0
-        }
+        Err(why) => refusal_number(why),
+        Ok(n) => put_words([n.state as u64, n.length as u64], answer),
     }
 }

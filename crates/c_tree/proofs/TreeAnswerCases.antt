@@ -1,83 +1,40 @@
--- The code and the answer words of the calls on a tree, by the cases of their answers.
-use Rattle.model.proofs.Prelude.{ℕ, ◌≡◌, ap, true, false, List, [], ◌∷◌, sets, rules}
+-- The code and the answer words of a search and of a question, by the cases of their answers.
+use mir.Val.{bool_byte}
+use Rattle.model.proofs.Prelude.{ℕ, ◌≡◌, ap, refl, List, [], ◌∷◌, sets, rules}
 use Rattle.model.specs.Refusals.{refusal_number_of}
 use Rattle.model.specs.declared.Refusal.{Refusal}
-use Rattle.tree_words.specs.Calls.{run_of, none, found}
-use Rattle.tree.specs.Answers.{emptied_of, changed_of, search_of, total_in, holds_of}
-use Rattle.tree.specs.Each.{each_of}
-use Rattle.tree.specs.declared.TreeEmptied.{TreeEmptied}
-use Rattle.tree.specs.declared.TreeEmptied.TheVariants as emptied
-use Rattle.tree.specs.declared.TreeChanged.{TreeChanged}
-use Rattle.tree.specs.declared.TreeChanged.TheVariants as changed
-use Rattle.tree.specs.declared.TreeFound.{TreeFound}
-use Rattle.tree.specs.declared.TreeFound.TheVariants as search
-use Rattle.tree.specs.declared.TreeTotal.{TreeTotal}
-use Rattle.tree.specs.declared.TreeTotal.TheVariants as totals
-use Rattle.tree.specs.declared.TreeHolds.{TreeHolds}
-use Rattle.tree.specs.declared.TreeHolds.TheVariants as holds
-use Rattle.tree.specs.declared.TreeAsked.{TreeAsked}
-use Rattle.tree.specs.declared.TreeAsked.TheVariants as each
-use Rattle.c_answer_words.specs.Codes.{code_answer, Answered, number_word}
-use Rattle.c_answer_words.proofs.CodeLaws.{code_refused, code_zero, answered-refused, answered-value}
+use Rattle.tree_words.specs.Calls.{none, found, run_of}
+use Rattle.tree_descent.specs.declared.inner.Visit.{Visit}
+use Rattle.tree.specs.Answers.{search_of, holds_of}
+use Rattle.tree.specs.declared.TreeRun.{TreeRun}
+use Rattle.c_answer_words.specs.Codes.{Answered}
+use Rattle.c_answer_words.proofs.CodeLaws.{answered-refused, answered-value, bit_is}
 use Rattle.c_tree.specs.AnswerWords.{found_words, asked_words}
+use Rattle.std.specs.Prelude.{Result, Ok, Err, Option, Some, None}
 
--- ---- Answers that are a code alone
-
-module _ (code : ℕ) (w : Refusal) (q : code ≡ refusal_number_of w) where
-  pub emptied-refused : (r : TreeEmptied) → r ≡ emptied.Refused w → code_answer code ≡ emptied_of r
-  emptied-refused r p = rw (q, p) (code_refused w)
-
-  pub changed-refused : (r : TreeChanged) → r ≡ changed.Refused w → code_answer code ≡ changed_of r
-  changed-refused r p = rw (q, p) (code_refused w)
-
-pub emptied-done : (r : TreeEmptied) → r ≡ emptied.Emptied → code_answer 0 ≡ emptied_of r
-emptied-done r p = rw p code_zero
-
-pub changed-done : (r : TreeChanged) → r ≡ changed.Changed → code_answer 0 ≡ changed_of r
-changed-done r p = rw p code_zero
-
-pub ruleset code-cases = (emptied-refused, emptied-done, changed-refused, changed-done, rules)
-
--- ---- Answers with words: a call that was refused leaves them as they were
+-- ---- A call that was refused leaves the answer words as they were
 
 module _ (code : ℕ) (w : Refusal) (q : code ≡ refusal_number_of w) (before : List ℕ) where
-  pub found-refused : (r : TreeFound) → r ≡ search.Refused w → Answered (search_of r) found_words code before before
+  pub found-refused : (r : Result (Option TreeRun) Refusal) → r ≡ Err w → Answered (search_of r) found_words code before before
   found-refused r p = answered-refused (search_of r) found_words before w code q (ap search_of p)
 
-  pub total-refused : (r : TreeTotal) → r ≡ totals.Refused w → Answered (total_in r) number_word code before before
-  total-refused r p = answered-refused (total_in r) number_word before w code q (ap total_in p)
-
-  pub holds-refused : (r : TreeHolds) → r ≡ holds.Refused w → Answered (holds_of r) asked_words code before before
+  pub holds-refused : (r : Result Visit Refusal) → r ≡ Err w → Answered (holds_of r) asked_words code before before
   holds-refused r p = answered-refused (holds_of r) asked_words before w code q (ap holds_of p)
-
-  pub each-refused : (r : TreeAsked) → r ≡ each.Refused w → Answered (each_of r) number_word code before before
-  each-refused r p = answered-refused (each_of r) number_word before w code q (ap each_of p)
 
 -- ---- and one that was taken writes them
 
 module _ (code : ℕ) (q : code ≡ 0) (before left : List ℕ) where
-  pub found-run : (r : TreeFound) (l h : ℕ) → r ≡ search.Run l h → left ≡ sets before 0 (1 ∷ l ∷ h ∷ []) → Answered (search_of r) found_words code before left
-  found-run r l h p e = rw (q, e) (answered-value (search_of r) found_words before (found (run_of l h)) (ap search_of p))
+  module _ (r : Result (Option TreeRun) Refusal) (f : Option TreeRun) (p : r ≡ Ok f) where
+    pub found-run : (t : TreeRun) → f ≡ Some t → left ≡ sets before 0 (1 ∷ t.low ∷ t.high ∷ []) → Answered (search_of r) found_words code before left
+    found-run t s e = rw (q, e) (answered-value (search_of r) found_words before (found (run_of t.low t.high)) (rw (p, s) refl))
 
-  pub found_none : (r : TreeFound) → r ≡ search.Nothing → left ≡ sets before 0 (0 ∷ 0 ∷ 0 ∷ []) → Answered (search_of r) found_words code before left
-  found_none r p e = rw (q, e) (answered-value (search_of r) found_words before none (ap search_of p))
+    pub found_none : f ≡ None → left ≡ sets before 0 (0 ∷ 0 ∷ 0 ∷ []) → Answered (search_of r) found_words code before left
+    found_none s e = rw (q, e) (answered-value (search_of r) found_words before none (rw (p, s) refl))
 
-  pub total-taken : (r : TreeTotal) (n : ℕ) → r ≡ totals.Total n → left ≡ sets before 0 (number_word n) → Answered (total_in r) number_word code before left
-  total-taken r n p e = rw (q, e) (answered-value (total_in r) number_word before n (ap total_in p))
-
-  pub holds-yes : (r : TreeHolds) (n : ℕ) → r ≡ holds.Held n → left ≡ sets before 0 (1 ∷ n ∷ []) → Answered (holds_of r) asked_words code before left
-  holds-yes r n p e = rw (q, e) (answered-value (holds_of r) asked_words before (record { held = true; visited = n }) (ap holds_of p))
-
-  pub holds-no : (r : TreeHolds) (n : ℕ) → r ≡ holds.NotHeld n → left ≡ sets before 0 (0 ∷ n ∷ []) → Answered (holds_of r) asked_words code before left
-  holds-no r n p e = rw (q, e) (answered-value (holds_of r) asked_words before (record { held = false; visited = n }) (ap holds_of p))
-
-  pub each-taken : (r : TreeAsked) (n : ℕ) → r ≡ each.Levels n → left ≡ sets before 0 (number_word n) → Answered (each_of r) number_word code before left
-  each-taken r n p e = rw (q, e) (answered-value (each_of r) number_word before n (ap each_of p))
+  pub holds-taken : (r : Result Visit Refusal) (v : Visit) → r ≡ Ok v → left ≡ sets before 0 (bool_byte v.held ∷ v.visited ∷ [])
+      → Answered (holds_of r) asked_words code before left
+  holds-taken r v p e = rw (q, e, bit_is v.held) (answered-value (holds_of r) asked_words before _ (ap holds_of p))
 
 pub ruleset found-cases = (found-refused, found-run, found_none, rules)
 
-pub ruleset total-cases = (total-refused, total-taken, rules)
-
-pub ruleset holds-cases = (holds-refused, holds-yes, holds-no, rules)
-
-pub ruleset each-cases = (each-refused, each-taken, rules)
+pub ruleset holds-cases = (holds-refused, holds-taken, rules)

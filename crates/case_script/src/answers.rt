@@ -82,6 +82,22 @@ pub fn one(a: u64) -> Answer {
     with(accepted(), a)
 }
 
+// The answer of a call that returns nothing, or refuses.
+pub fn answered(answer: Result<(), Refusal>) -> Answer {
+    match answer {
+        Ok(()) => accepted(),
+        Err(why) => refused_by(why),
+    }
+}
+
+// The answer of a call that returns a number, or refuses.
+pub fn answered_one(answer: Result<u64, Refusal>) -> Answer {
+    match answer {
+        Ok(number) => one(number),
+        Err(why) => refused_by(why),
+    }
+}
+
 // The answer of a call that returns two numbers.
 pub fn two(a: u64, b: u64) -> Answer {
     with(one(a), b)
@@ -150,15 +166,13 @@ fn same_numbers(stated: Answer, got: Answer) -> bool {
     let left = stated.numbers;
     let right = got.numbers;
     let count = stated.count;
-    let mut at = 0;
-    while at < MOST {
+    for at in 0..MOST {
         if count <= at {
             return true;
         }
         if left[at] != right[at] {
             return false;
         }
-        at += 1;
     }
     true
 }
@@ -187,15 +201,9 @@ fn print_number(number: u64) {
 // Writes the numbers of an answer, a space before each.
 fn print_numbers(answer: Answer) {
     let numbers = answer.numbers;
-    let count = answer.count;
-    let mut at = 0;
-    while at < MOST {
-        if count <= at {
-            return;
-        }
+    for number in numbers.iter().take(answer.count) {
         print(STDOUT_FILENO, b" ");
-        print_number(numbers[at]);
-        at += 1;
+        print_number(*number);
     }
 }
 

@@ -1,5 +1,4 @@
 // A memory of a script: a cell of 64 bits for each of its words or bytes. Lines set it, or ask what is in it.
-ghost use Rattle.std.specs.Prelude.{◌≤◌};
 
 use crate::answers::{Answer, has_space, no_words, one, unknown, with};
 use crate::names::{ADD, AT, BEGINS, COUNT, CUT, FILL, IS, SET};
@@ -16,13 +15,11 @@ fn first(count: u64, space: usize) -> Length {
 
 // Makes the first cells one word.
 fn fill(cells: &mut [u64], count: u64, word: u64) -> Length {
-    let mut at = 0;
-    while at < cells.len() {
+    for (at, cell) in cells.iter_mut().enumerate() {
         if count <= at as u64 {
             break;
         }
-        cells[at] = word;
-        at += 1;
+        *cell = word;
     }
     first(count, cells.len())
 }
@@ -43,8 +40,7 @@ fn set(cells: &mut [u64], length: usize, at: u64, word: u64) -> Length {
 // Sets the first cells to the numbers of a line, none of them over `most`.
 fn put_numbers(cells: &mut [u64], numbers: Numbers, most: u64) -> Length {
     let count = numbers.count;
-    let mut at = 0;
-    while at < count {
+    for at in 0..count {
         let number = number_at(numbers, at);
         if most < number {
             return wrong();
@@ -53,7 +49,6 @@ fn put_numbers(cells: &mut [u64], numbers: Numbers, most: u64) -> Length {
         if !done.good {
             return wrong();
         }
-        at += 1;
     }
     Length {
         good: numbers.good,
@@ -113,40 +108,24 @@ pub fn change(what: &[u8], cells: &mut [u64], length: usize, most: u64) -> Lengt
     change_words(what, cells, length, most)
 }
 
-// 1 for true, 0 for false.
-fn one_if(test: bool) -> usize
-    ensures { result ≤ 1 }
-{
-    if test { 1 } else { 0 }
-}
-
 // At how many places two memories have the same word.
 pub fn same_places(a: &[u64], b: &[u64]) -> Answer {
-    let mut found = 0;
-    let mut at = 0;
-    while at < a.len() {
-        if b.len() <= at {
-            break;
-        }
-        found += one_if(a[at] == b[at]);
-        at += 1;
-    }
-    one(found as u64)
+    one(
+        a.iter()
+            .zip(b)
+            .filter(|(left, right)| **left == **right)
+            .count() as u64,
+    )
 }
 
 // How many of the first cells are the same in both, before one differs or one of them ends.
 fn same_start(a: &[u64], b: &[u64]) -> Answer {
-    let mut at = 0;
-    while at < a.len() {
-        if b.len() <= at {
-            break;
-        }
-        if a[at] != b[at] {
-            break;
-        }
-        at += 1;
-    }
-    one(at as u64)
+    one(
+        a.iter()
+            .zip(b)
+            .take_while(|(left, right)| **left == **right)
+            .count() as u64,
+    )
 }
 
 // How many of the first cells are the bytes that a part of a line has in hexadecimal.
@@ -166,26 +145,18 @@ fn begins_with(part: &[u8], cells: &[u64]) -> Answer {
 // The words from a place on, as many as an answer holds.
 fn words_from(cells: &[u64], place: u64) -> Answer {
     let mut answer = no_words();
-    let mut at = place as usize;
-    while at < cells.len() {
+    for cell in cells.iter().skip(place as usize) {
         if !has_space(answer) {
             return answer;
         }
-        answer = with(answer, cells[at]);
-        at += 1;
+        answer = with(answer, *cell);
     }
     answer
 }
 
 // How many words are this one.
 fn count_of(cells: &[u64], word: u64) -> Answer {
-    let mut found = 0;
-    let mut at = 0;
-    while at < cells.len() {
-        found += one_if(cells[at] == word);
-        at += 1;
-    }
-    one(found as u64)
+    one(cells.iter().filter(|cell| **cell == word).count() as u64)
 }
 
 // A line that asks what is in a memory: `at` a place, the `count` of a word, or how many bytes it `begins` with of those on the line.

@@ -22,10 +22,8 @@ fn put_field(cells: &mut [u64], at: usize, field: u64) -> usize {
 // Writes so many pins of one net.
 fn put_pins(cells: &mut [u64], from: usize, pins: u64, net: u64) -> usize {
     let mut at = from;
-    let mut left = pins;
-    while 0 < left {
+    for _ in 0..pins {
         at = put_field(cells, at, net);
-        left -= 1;
     }
     at
 }
@@ -40,12 +38,10 @@ fn put_gate(cells: &mut [u64], at: usize, kind: u64, pins: u64, net: u64) -> usi
 // Writes so many gates, each with all pins from the net before; those of the first are from the net given.
 fn put_gates(cells: &mut [u64], from: usize, gates: u64, kind: u64, pins: u64, net: u64) -> usize {
     let mut at = from;
-    let mut left = gates;
     let mut feeding = net;
-    while 0 < left {
+    for _ in 0..gates {
         at = put_gate(cells, at, kind, pins, feeding);
         feeding = feeding % 65536 + 1;
-        left -= 1;
     }
     at
 }

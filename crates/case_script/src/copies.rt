@@ -1,59 +1,33 @@
 // Bytes and words of 16 bits, those of a path or a viewer's places, out of cells and back into them.
 
-// The bytes in cells, as many as there are and as there is space for.
-pub fn load_bytes(cells: &[u64], bytes: &mut [u8]) {
-    let mut at = 0;
-    while at < cells.len() {
-        if bytes.len() <= at {
-            return;
-        }
-        bytes[at] = (cells[at] % 256) as u8;
-        at += 1;
+// A word that a cell holds, by its type: a byte or 16 bits.
+pub trait Word: Copy + Into<u64> {
+    // The word in a cell, its low bits.
+    fn of_cell(cell: u64) -> Self;
+}
+
+impl Word for u8 {
+    fn of_cell(cell: u64) -> u8 {
+        (cell % 256) as u8
     }
 }
 
-// A byte as a word.
-fn wide_byte(byte: u8) -> u64 {
-    byte as u64
-}
-
-// Bytes back into cells.
-pub fn save_bytes(bytes: &[u8], cells: &mut [u64]) {
-    let mut at = 0;
-    while at < bytes.len() {
-        if cells.len() <= at {
-            return;
-        }
-        cells[at] = wide_byte(bytes[at]);
-        at += 1;
+impl Word for u16 {
+    fn of_cell(cell: u64) -> u16 {
+        (cell % 65536) as u16
     }
 }
 
-// The words of 16 bits in cells, as many as there are and as there is space for.
-pub fn load_path(cells: &[u64], path: &mut [u16]) {
-    let mut at = 0;
-    while at < cells.len() {
-        if path.len() <= at {
-            return;
-        }
-        path[at] = (cells[at] % 65536) as u16;
-        at += 1;
+// The words in cells, as many as there are and as there is space for.
+pub fn load<W: Word>(cells: &[u64], words: &mut [W]) {
+    for (word, cell) in words.iter_mut().zip(cells) {
+        *word = W::of_cell(*cell);
     }
 }
 
-// A word of a path as a word.
-fn wide_word(word: u16) -> u64 {
-    word as u64
-}
-
-// The words of a path back into cells.
-pub fn save_path(path: &[u16], cells: &mut [u64]) {
-    let mut at = 0;
-    while at < path.len() {
-        if cells.len() <= at {
-            return;
-        }
-        cells[at] = wide_word(path[at]);
-        at += 1;
+// Words back into cells.
+pub fn save<W: Word>(words: &[W], cells: &mut [u64]) {
+    for (cell, word) in cells.iter_mut().zip(words) {
+        *cell = (*word).into();
     }
 }

@@ -29,13 +29,11 @@ fn change_page(what: &[u8], page: Page, length: usize, cells: &mut [u64]) -> Len
 
 // Copies the store to the words after the greatest store.
 fn keep(store: &mut [u64]) {
-    let mut at = 0;
-    while at < STORE_WORDS {
+    for at in 0..STORE_WORDS {
         if store.len() <= STORE_WORDS + at {
             return;
         }
         store[STORE_WORDS + at] = store[at];
-        at += 1;
     }
 }
 

@@ -95,21 +95,15 @@ pub fn numbers_in(part: &[u8]) -> Numbers {
         count: 0,
         values: [0; MOST],
     };
-    let mut at = 0;
-    while at < part.len() {
-        found = after_byte(found, part[at]);
-        at += 1;
+    for byte in part {
+        found = after_byte(found, *byte);
     }
     found
 }
 
 // A number by its place; 0 where there are fewer.
 pub fn number_at(numbers: Numbers, at: usize) -> u64 {
-    let values = numbers.values;
-    if MOST <= at {
-        return 0;
-    }
-    values[at]
+    numbers.values.get(at).copied().unwrap_or(0)
 }
 
 // Whether there are so many numbers, and nothing else.
@@ -191,10 +185,8 @@ pub fn wrong() -> Length {
 // Writes the bytes that a part of a line consists of, in hexadecimal, from a place on, one to a cell; the place after them.
 pub fn put_hex(part: &[u8], cells: &mut [u64], from: usize) -> Length {
     let mut state = hex_state(true, false, 0, from);
-    let mut at = 0;
-    while at < part.len() {
-        state = after_digit(cells, state, part[at]);
-        at += 1;
+    for byte in part {
+        state = after_digit(cells, state, *byte);
     }
     if state.waits {
         return wrong();

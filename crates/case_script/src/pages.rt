@@ -87,11 +87,7 @@ pub fn page_of(name: u64) -> Page {
 
 // The length of a memory, by its place.
 pub fn length_at(lengths: Lengths, place: usize) -> usize {
-    let of = lengths.of;
-    if MEMORIES <= place {
-        return 0;
-    }
-    of[place]
+    lengths.of.get(place).copied().unwrap_or(0)
 }
 
 // A part of the cells; none where they go past the end.

@@ -6,14 +6,12 @@ pub fn find_byte(text: &[u8], from: usize, byte: u8) -> usize
     requires { from ≤ length text.now }
     ensures { (from ≤ result) × (result ≤ length text.now) }
 {
-    let mut at = from;
-    while at < text.len() {
+    for at in from..text.len() {
         if text[at] == byte {
             return at;
         }
-        at += 1;
     }
-    at
+    text.len()
 }
 
 // What follows the first word of a text, from the space after it on. A space at the text's start belongs to its first word.
@@ -36,16 +34,14 @@ fn with_letter(key: u64, letter: u8) -> u64 {
 // The first word of a text as a number: its letters, two hexadecimal digits each. 0 where there is none.
 pub fn key_of(text: &[u8]) -> u64 {
     let mut key = 0;
-    let mut at = 0;
-    while at < text.len() {
-        if text[at] == b' ' {
+    for letter in text {
+        if *letter == b' ' {
             if 0 < key {
                 return key;
             }
         } else {
-            key = with_letter(key, text[at]);
+            key = with_letter(key, *letter);
         }
-        at += 1;
     }
     key
 }

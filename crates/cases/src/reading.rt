@@ -5,7 +5,7 @@ pub(crate) mod calls;
 use crate::buffers::path_buffer;
 use crate::names::{COUNTS, FALLING, FAULT, HOLDS, LENGTHS, NUMBER, RISING, SURVEY, TOTALS};
 use case_script::answers::{Answer, unknown};
-use case_script::copies::load_path;
+use case_script::copies::load;
 use case_script::numbers::{Numbers, are, number_at, numbers_in};
 use case_script::words::{after_word, key_of};
 
@@ -54,7 +54,7 @@ fn ask_number(numbers: Numbers, netlist: &[u8], cells: &[u64]) -> Answer {
     if 1024 < length {
         return unknown();
     }
-    load_path(cells, &mut path);
+    load(cells, &mut path);
     if are(numbers, 0) {
         return calls::number(netlist, &path[0..length]);
     }

@@ -4,7 +4,7 @@ mod calls;
 use crate::buffers::{record_buffer, record_cells, tests_buffer};
 use crate::names::{AUDIT, CLASS, EMPTY, EXHAUST, FIRST, TEST};
 use case_script::answers::{Answer, unknown};
-use case_script::copies::load_bytes;
+use case_script::copies::load;
 use case_script::numbers::{Numbers, are, number_at, numbers_in, put_hex};
 use case_script::words::{after_word, key_of};
 
@@ -26,7 +26,7 @@ fn ask_test(
     if 128 < length {
         return unknown();
     }
-    load_bytes(&cells, &mut record);
+    load(&cells, &mut record);
     calls::test(netlist, &record[0..length], class, store, work)
 }
 
@@ -71,8 +71,8 @@ fn ask_audit(
         return unknown();
     }
     if are(numbers, 0) {
-        load_bytes(tests, &mut records);
-        load_bytes(report, &mut claim);
+        load(tests, &mut records);
+        load(report, &mut claim);
         return calls::audit(netlist, &records[0..t], &claim[0..r], class, store, work);
     }
     unknown()

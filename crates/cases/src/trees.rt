@@ -28,15 +28,13 @@ fn change(key: u64, low: u64, high: u64, tree: &mut [u64]) -> Answer {
 fn change_runs(key: u64, low: u64, high: u64, times: u64, step: u64, tree: &mut [u64]) -> Answer {
     let mut least = low;
     let mut most = high;
-    let mut left = times;
-    while 0 < left {
+    for _ in 0..times {
         let answer = change(key, least, most, tree);
         if 0 < answer.refusal {
             return answer;
         }
         least = above(least, step);
         most = above(most, step);
-        left -= 1;
     }
     accepted()
 }
@@ -57,8 +55,7 @@ fn ask_change(key: u64, numbers: Numbers, tree: &mut [u64]) -> Answer {
 
 // A run inserted and deleted so many times; the first refusal ends it.
 fn turn(low: u64, high: u64, times: u64, tree: &mut [u64]) -> Answer {
-    let mut left = times;
-    while 0 < left {
+    for _ in 0..times {
         let inserted = calls::insert(low, high, tree);
         if 0 < inserted.refusal {
             return inserted;
@@ -67,7 +64,6 @@ fn turn(low: u64, high: u64, times: u64, tree: &mut [u64]) -> Answer {
         if 0 < deleted.refusal {
             return deleted;
         }
-        left -= 1;
     }
     accepted()
 }

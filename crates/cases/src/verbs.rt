@@ -5,7 +5,7 @@ use crate::storing::ask_storing;
 use crate::viewing::ask_viewing;
 use crate::writing::ask_writing;
 use case_script::answers::{Answer, unknown};
-use case_script::copies::load_bytes;
+use case_script::copies::load;
 use case_script::pages::{
     Lengths, NETLIST_PLACE, NETLIST_START, PATH_PLACE, PATH_START, REPORT_PLACE, REPORT_START,
     STORE_PLACE, TESTS_PLACE, TESTS_START, WORK_PLACE, length_at, part,
@@ -68,7 +68,7 @@ pub(crate) fn ask_call(
     if work.len() < w {
         return unknown();
     }
-    load_bytes(part(cells, NETLIST_START, n), &mut netlist);
+    load(part(cells, NETLIST_START, n), &mut netlist);
     ask_lent(
         line,
         &netlist[0..n],

@@ -2,15 +2,15 @@
 use crate::buffers::path_buffer;
 use crate::names::{HOLDS, RUNS, TOTALS, VIEWER};
 use crate::reading::calls::{held_answer, totals_answer};
-use case_script::answers::{Answer, accepted, refused_by, unknown};
-use case_script::copies::load_path;
+use case_script::answers::{Answer, answered, unknown};
+use case_script::copies::load;
 use case_script::numbers::{Numbers, are, number_at, numbers_in};
 use case_script::pages::{
     Lengths, PLACES_PLACE, PLACES_START, VIEW_PLACE, VIEW_START, end_of, length_at, part,
 };
 use case_script::words::{after_word, key_of};
 use path_faults::FaultNo;
-use viewer::{ViewAnswer, viewer_holds, viewer_runs, viewer_totals};
+use viewer::{viewer_holds, viewer_runs, viewer_totals};
 
 // The totals of a viewer's outputs.
 fn totals(netlist: &[u8], store: &[u64], places: &[u16]) -> Answer {
@@ -27,10 +27,7 @@ fn holds(netlist: &[u8], store: &[u64], places: &[u16], fault: u64) -> Answer {
 // The runs of a viewer's outputs, into a second store.
 fn runs(netlist: &[u8], store: &[u64], places: &[u16], view: &mut [u64]) -> Answer {
     let answer = viewer_runs(netlist, store, places, view);
-    match answer {
-        ViewAnswer::Written => accepted(),
-        ViewAnswer::Refused(why) => refused_by(why),
-    }
+    answered(answer)
 }
 
 // `totals`, `holds` with a fault, and `runs`.
@@ -96,7 +93,7 @@ pub fn ask_viewing(
         return unknown();
     }
     if key_of(line) == VIEWER {
-        load_path(part(cells, PLACES_START, count), &mut places);
+        load(part(cells, PLACES_START, count), &mut places);
         return ask_view(
             after_word(line),
             netlist,

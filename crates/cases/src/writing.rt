@@ -4,7 +4,7 @@ mod calls;
 use crate::buffers::{path_buffer, tests_buffer};
 use crate::names::{BENCH, FIND, LOAD, WRITE};
 use case_script::answers::{Answer, unknown};
-use case_script::copies::{load_bytes, load_path, save_bytes, save_path};
+use case_script::copies::{Word, load, save};
 use case_script::numbers::{Numbers, are, number_at, numbers_in};
 use case_script::pages::{
     Lengths, PATH_PLACE, PATH_START, REPORT_PLACE, REPORT_START, TESTS_PLACE, TESTS_START, end_of,
@@ -12,15 +12,21 @@ use case_script::pages::{
 };
 use case_script::words::{after_word, key_of};
 
-// Number to path, from cells and back.
-fn find_in(number: u64, netlist: &[u8], path: &mut [u16], cells: &mut [u64]) -> Answer {
+// A call that writes words, out of cells and back into them.
+fn in_cells<W: Word, F: FnOnce(&mut [W]) -> Answer>(
+    words: &mut [W],
+    cells: &mut [u64],
+    call: F,
+) -> Answer
+    requires { F.IsAlwaysCallable call }
+{
     let length = cells.len();
-    if path.len() < length {
+    if words.len() < length {
         return unknown();
     }
-    load_path(cells, path);
-    let answer = calls::find(netlist, number, &mut path[0..length]);
-    save_path(path, cells);
+    load(cells, words);
+    let answer = call(&mut words[0..length]);
+    save(words, cells);
     answer
 }
 
@@ -28,7 +34,12 @@ fn find_in(number: u64, netlist: &[u8], path: &mut [u16], cells: &mut [u64]) -> 
 fn ask_find(numbers: Numbers, netlist: &[u8], cells: &mut [u64]) -> Answer {
     let mut path = path_buffer();
     if are(numbers, 1) {
-        return find_in(number_at(numbers, 0), netlist, &mut path, cells);
+        let number = number_at(numbers, 0);
+        return in_cells(
+            &mut path,
+            cells,
+            |words| calls::find(netlist, number, words),
+        );
     }
     unknown()
 }
@@ -42,23 +53,15 @@ fn ask_path(numbers: Numbers, netlist: &[u8], length: usize, cells: &mut [u64]) 
     ask_find(numbers, netlist, &mut cells[PATH_START..end])
 }
 
-// The writer, from cells and back.
-fn write_in(netlist: &[u8], store: &[u64], report: &mut [u8], cells: &mut [u64]) -> Answer {
-    let length = cells.len();
-    if report.len() < length {
-        return unknown();
-    }
-    load_bytes(cells, report);
-    let answer = calls::write(netlist, store, &mut report[0..length]);
-    save_bytes(report, cells);
-    answer
-}
-
 // `write`: the report goes into cells.
 fn ask_write(numbers: Numbers, netlist: &[u8], store: &[u64], cells: &mut [u64]) -> Answer {
     let mut report = io::large_buffer();
     if are(numbers, 0) {
-        return write_in(netlist, store, &mut report, cells);
+        return in_cells(
+            &mut report,
+            cells,
+            |bytes| calls::write(netlist, store, bytes),
+        );
     }
     unknown()
 }
@@ -78,18 +81,6 @@ fn ask_report(
     ask_write(numbers, netlist, store, &mut cells[REPORT_START..end])
 }
 
-// The load call, from cells and back.
-fn load_in(state: u64, inputs: u64, records: &mut [u8], cells: &mut [u64]) -> Answer {
-    let length = cells.len();
-    if records.len() < length {
-        return unknown();
-    }
-    load_bytes(cells, records);
-    let answer = calls::write_load(state, inputs, &mut records[0..length]);
-    save_bytes(records, cells);
-    answer
-}
-
 // `load`, with a state and a number of inputs, on the cells of the report: the records go there.
 fn ask_load(numbers: Numbers, length: usize, cells: &mut [u64]) -> Answer {
     let mut records = io::large_buffer();
@@ -100,21 +91,13 @@ fn ask_load(numbers: Numbers, length: usize, cells: &mut [u64]) -> Answer {
     let state = number_at(numbers, 0);
     let inputs = number_at(numbers, 1);
     if are(numbers, 2) {
-        return load_in(state, inputs, &mut records, &mut cells[REPORT_START..end]);
+        return in_cells(
+            &mut records,
+            &mut cells[REPORT_START..end],
+            |bytes| calls::write_load(state, inputs, bytes),
+        );
     }
     unknown()
-}
-
-// The converter, from cells and back.
-fn bench_in(text: &[u8], netlist: &mut [u8], cells: &mut [u64]) -> Answer {
-    let length = cells.len();
-    if netlist.len() < length {
-        return unknown();
-    }
-    load_bytes(cells, netlist);
-    let answer = calls::bench(text, &mut netlist[0..length]);
-    save_bytes(netlist, cells);
-    answer
 }
 
 // `bench`: the text is in the cells of the tests, its netlist file goes into those of the report.
@@ -130,8 +113,12 @@ fn ask_bench(numbers: Numbers, lengths: Lengths, cells: &mut [u64]) -> Answer {
         return unknown();
     }
     if are(numbers, 0) {
-        load_bytes(part(cells, TESTS_START, t), &mut text);
-        return bench_in(&text[0..t], &mut netlist, &mut cells[REPORT_START..end]);
+        load(part(cells, TESTS_START, t), &mut text);
+        return in_cells(
+            &mut netlist,
+            &mut cells[REPORT_START..end],
+            |bytes| calls::bench(&text[0..t], bytes),
+        );
     }
     unknown()
 }

@@ -7,7 +7,7 @@
 ghost use Rattle.std.specs.Prelude.{◌≤◌};
 
 use length_chart::put_chart;
-use length_coverage::{LengthRows, LengthsAnswer, coverage_by_length, falling_rows, rising_rows};
+use length_coverage::{LengthRows, coverage_by_length, falling_rows, rising_rows};
 use length_text::put_table;
 use model::{Refusal, STORE_WORDS};
 use program_files::{has_argument, is_argument, load_argument, read_class};
@@ -56,11 +56,9 @@ fn print_refusal(why: Refusal) {
 
 // Coverage by length of the faults in a store.
 fn print_coverage(netlist: &[u8], store: &[u64], picture: bool) {
-    let rows = coverage_by_length(netlist, store);
-    let answer = rows.answer;
-    match answer {
-        LengthsAnswer::Counted => print_rows(rows, picture),
-        LengthsAnswer::Refused(why) => print_refusal(why),
+    match coverage_by_length(netlist, store) {
+        Ok(rows) => print_rows(rows, picture),
+        Err(why) => print_refusal(why),
     }
 }
 

@@ -5,14 +5,13 @@ use mathlib.Core.Path.{subst₂}
 use Rattle.model.specs.Runs.{Run}
 use Rattle.run_lists.specs.RunLists.{write_runs_of}
 use Rattle.run_lists.specs.Answers.{Adds}
-use Rattle.run_lists.specs.declared.inner.Added.{Added}
-use Rattle.run_lists.specs.declared.inner.Added.TheVariants.{Count, Full}
 use Rattle.model.proofs.BoolLaws.{cases}
+use Rattle.std.specs.Prelude.{Option, Some, None}
 
-pub as_adds : {ws ws' : List ℕ} {start cap : ℕ} {s t : List Run} {q r : Added} → s ≡ t → q ≡ r → Adds ws ws' start cap s q → Adds ws ws' start cap t r
+pub as_adds : {ws ws' : List ℕ} {start cap : ℕ} {s t : List Run} {q r : (Option ℕ)} → s ≡ t → q ≡ r → Adds ws ws' start cap s q → Adds ws ws' start cap t r
 as_adds {ws} {ws'} {start} {cap} e d a = subst₂ (λ s q. Adds ws ws' start cap s q) e d a
 
-pub full-count : {n : ℕ} → ◌≡◌ {A = Added} Full (Count n) → ⊥
+pub full-count : {n : ℕ} → ◌≡◌ {A = (Option ℕ)} None (Some n) → ⊥
 full-count {n} p = let z : ◌≡◌ {A = ℕ} 0 1 = cc in omega arith
 
 -- ---- words past the runs that are written
@@ -30,5 +29,5 @@ take_short cap s = cases (length s) cap
     (λ h. omega (arith, length-take-le cap s (omega arith)))
 
 -- a call that adds runs changes no word past its room
-pub adds-kept : (k : ℕ) {ws ws' : List ℕ} {start cap : ℕ} {s : List Run} {r : Added} → 2 * (start + cap) ≤ k → Adds ws ws' start cap s r → drop k ws' ≡ drop k ws
+pub adds-kept : (k : ℕ) {ws ws' : List ℕ} {start cap : ℕ} {s : List Run} {r : (Option ℕ)} → 2 * (start + cap) ≤ k → Adds ws ws' start cap s r → drop k ws' ≡ drop k ws
 adds-kept k {ws} {start = start} {cap = cap} {s = s} h d = ap (drop k) d.writes ∙ drop-write k ws start (take cap s) (omega (arith, take_short cap s))

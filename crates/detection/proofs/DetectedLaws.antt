@@ -15,7 +15,6 @@ use Rattle.model.proofs.ReadLaws.{Limits}
 use Rattle.model.proofs.RunLaws.{runs_by, runs-separated}
 use Rattle.model.proofs.WellFormed.{WellFormed, ascending_nets}
 use Rattle.run_lists.specs.RunLists.{Sound, only_if, add_runs, shift_runs, runs_in_words}
-use Rattle.run_lists.specs.declared.inner.Added.TheVariants.{Count, Full}
 use Rattle.run_union.proofs.ShiftLaws.{add_runs-part}
 use Rattle.run_lists.proofs.MemberLaws.{sound-mono}
 use Rattle.detection.specs.Cases.{Case, in_set, detects_path, set_runs_of, detected, working}
@@ -24,6 +23,7 @@ use Rattle.detection.specs.Walks.{runs_before, Detects}
 use Rattle.detection.proofs.SetLaws.{set-input, set-gate, set-output}
 use Rattle.detection.proofs.KeptLaws.{runs-next, runs-mono}
 use Rattle.detection.proofs.PlaceRunLaws.{PlaceIs, first-make, first-none, first-few}
+use Rattle.std.specs.Prelude.{Some, None}
 
 -- a set of at most the number 1
 single : (P : ℕ → Bool) (b : Bool) → ((k : ℕ) → P k ≡ b) → only_if b (run 1 1 ∷ []) ≡ runs_among P 1
@@ -175,13 +175,13 @@ module _ (K : Case) where
       none_before zero l = refl
       none_before (suc n) l = omega (arith, none_before n (omega arith), ap (length {A = Run}) (no-runs (suc n) n (omega arith) (omega arith)))
 
-      quiet : (ws : List ℕ) → Detects K ws ws (Count 0)
+      quiet : (ws : List ℕ) → Detects K ws ws (Some 0)
       quiet ws =
           let none : working K ≡ 0 = working-all ∙ none_before (nets N) (omega arith) in
           let d : detected K ≡ [] = no_length (detected K) (omega (arith, few-detected)) in
           let f : leb (working K) max_runs ≡ true = le-leb (working K) max_runs (omega arith) in
           record {
-            answers = ap Count (sym (ap (length {A = Run}) d)) ∙ sym (ap (λ (b : Bool). cond b (Count (length (detected K))) Full) f);
+            answers = ap Some (sym (ap (length {A = Run}) d)) ∙ sym (ap (λ (b : Bool). cond b (Some (length (detected K))) None) f);
             runs_are = λ n p. let e : 0 ≡ n = cc in subst (λ (k : ℕ). runs_in_words ws max_runs k ≡ detected K) e (sym d);
             kept = λ k q. refl;
           }
@@ -192,5 +192,5 @@ module _ (K : Case) where
 
 -- from the bits of the inputs that make the edge
 pub unmade_edge : (K : Case) → WellFormed K.netlist → {edges : ℕ} → edges ≡ 0 → ((j : ℕ) → j < K.netlist.inputs → bit edges j ≡ K.makes_edge j)
-    → (ws : List ℕ) → Detects K ws ws (Count 0)
+    → (ws : List ℕ) → Detects K ws ws (Some 0)
 unmade_edge K w z made ws = quiet K w (λ j l. sym (made j l) ∙ ap (λ (k : ℕ). bit k j) z ∙ zero_bit j) ws

@@ -4,14 +4,13 @@ use Rattle.model.specs.Base.{bit}
 use Rattle.model.specs.Runs.{Run, run}
 use Rattle.model.specs.Store.{max_runs}
 use Rattle.run_lists.specs.RunLists.{only_if, runs_in_words}
-use Rattle.run_lists.specs.declared.inner.Added.{Added}
-use Rattle.run_lists.specs.declared.inner.Added.TheVariants.{Count, Full}
 use Rattle.detection.specs.Cases.{Case, detected, working}
+use Rattle.std.specs.Prelude.{Option, Some, None}
 
 -- Full exactly where the working runs are over 1,024; else the number of the detected runs, which then stand in the second quarter
-pub record Detects (K : Case) (ws ws' : List ℕ) (r : Added) : Type 0 where
-  pub answers : r ≡ cond (leb (working K) max_runs) (Count (length (detected K))) Full
-  pub runs_are : (n : ℕ) → r ≡ Count n → runs_in_words ws' max_runs n ≡ detected K
+pub record Detects (K : Case) (ws ws' : List ℕ) (r : Option ℕ) : Type 0 where
+  pub answers : r ≡ cond (leb (working K) max_runs) (Some (length (detected K))) None
+  pub runs_are : (n : ℕ) → r ≡ Some n → runs_in_words ws' max_runs n ≡ detected K
   pub kept : (k : ℕ) → 4 * max_runs ≤ k → drop k ws' ≡ drop k ws
 
 -- the runs of an input, by its bit: number 1 where it makes the edge

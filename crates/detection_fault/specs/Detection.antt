@@ -8,8 +8,8 @@ use Rattle.model.specs.Path.{edge_of_fault, path_of_fault}
 use Rattle.model.specs.Detect.{Test, detects_number}
 use Rattle.model.specs.Read.{within, read_netlist, class_of, class_rule, test_rules, test_of}
 use Rattle.model.specs.Refusals.{refusal_number_of}
-use Rattle.detection_fault.specs.declared.DetectionAnswer.{DetectionAnswer}
-use Rattle.detection_fault.specs.declared.DetectionAnswer.TheVariants as detection
+use Rattle.std.specs.Prelude.{Result, Ok, Err}
+use Rattle.model.specs.declared.Refusal.{Refusal}
 
 -- the test detects the fault of this number
 unfoldable pub detects_fault : Netlist → Test → ℕ → Bool
@@ -26,9 +26,3 @@ detection_on N class rec fault = checks (detection_rules N class rec fault) then
 -- The call
 unfoldable pub detection_call : List ℕ → ℕ → List ℕ → ℕ → Answer Bool
 detection_call netlist class rec fault = read_netlist netlist into λ N. detection_on N class rec fault
-
--- the papers' number of a refusal, or whether the fault is detected
-abbrev pub detection_of : DetectionAnswer → Answer Bool
-detection_of detection.Detected = value true
-detection_of detection.NotDetected = value false
-detection_of (detection.Refused w) = refused (refusal_number_of w)

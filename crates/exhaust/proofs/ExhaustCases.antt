@@ -14,7 +14,6 @@ use Rattle.model.proofs.AnswerLaws.{not_refused, →checks}
 use Rattle.model.proofs.RefusalLaws.{refused-inj}
 use Rattle.netlist.specs.Answers.{LoadedTrue}
 use Rattle.netlist.specs.Tables.{SomeTables}
-use Rattle.netlist.specs.declared.SurveyAnswer.TheVariants as survey
 use Rattle.netlist.specs.declared.inner.Loaded.{Loaded}
 use Rattle.netlist.proofs.LoadLaws.{loaded_legal, loaded_refused}
 use Rattle.store_words.specs.Sound.{SoundWords}
@@ -22,8 +21,6 @@ use Rattle.store_words.specs.WordAnswers.{totals_in, totals_both}
 use Rattle.store_words.specs.declared.inner.StoreTotals.{StoreTotals}
 use Rattle.block_words.specs.Layout.{lists_size}
 use Rattle.store_coverage.specs.Stage.{MemoryReady, StageReady}
-use Rattle.store_coverage.specs.declared.inner.StageAnswer.{StageAnswer}
-use Rattle.store_coverage.specs.declared.inner.StageAnswer.TheVariants as stage
 use Rattle.audit_block.specs.RecordsTaken.{left_store}
 use Rattle.audit_block.proofs.MemoryLaws.{of_netlist_lem, emptied, empty-memory, all-memory, memory-sound}
 use Rattle.audit_block.specs.FileBlocks.{TablesMade, BlocksReady}
@@ -35,9 +32,8 @@ use Rattle.exhaust_pairs.specs.AllPairs.{all_pairs}
 use Rattle.exhaust_pairs.specs.Exhaust.{few_inputs, pairs_on, exhaust_call, exhaust_answer, exhaust_after, exhaust_store, of_work, PairsWork}
 use Rattle.exhaust_pairs.proofs.OnTheWayLaws.{on-the-way, before-found, emptied-work}
 use Rattle.exhaust.specs.PairsTaken.{PairsTrue, AllTaken}
-use Rattle.exhaust.specs.Answers.{exhaust_of, ExhaustTrue, PairsApplied}
-use Rattle.exhaust.specs.declared.ExhaustAnswer.{ExhaustAnswer}
-use Rattle.exhaust.specs.declared.ExhaustAnswer.TheVariants as exhaust
+use Rattle.exhaust.specs.Answers.{totals_among, ExhaustTrue, PairsApplied}
+use Rattle.std.specs.Prelude.{Result, Ok, Err}
 
 -- the totals of the store that some tests leave
 abbrev summed : Answer (List ℕ) → Answer (ByEdge ℕ)
@@ -62,27 +58,27 @@ module _ (netlist : List ℕ) (loaded : Loaded) (ws work : List ℕ) (ready : Re
         → BlocksReady table offsets numbers risingLists fallingLists ws work × (numbers.inputs ≤ 6)
     pairs-blocks u d = (stage-blocks stage_ready made u d, subst (λ (k : FileNumbers). k.inputs ≤ 6) (sym made.numbers_are) start.1)
 
-    module _ {t : StageAnswer} {ws' work' : List ℕ} (x : AllTaken t table offsets numbers ws ws' work work') where
+    module _ {t : (Result (Unit {0}) Refusal)} {ws' work' : List ℕ} (x : AllTaken t table offsets numbers ws ws' work work') where
       whole : PairsTrue t C (class_of class) empty_store ws'
       whole =
           subst (λ (v : List ℕ). PairsTrue t C (class_of class) v ws') start.0
           (subst (λ (k : FileNumbers). PairsTrue t C (class_of k.class) ws ws') made.numbers_are (x.of_circuit C (made.tables C ready.tables) ready.memory))
 
       -- from the netlist at hand
-      applied : (a : ExhaustAnswer) → exhaust_of a ≡ summed (pairs C) → PairsApplied a netlist class ws' work work'
+      applied : (a : Result StoreTotals Refusal) → totals_among a ≡ summed (pairs C) → PairsApplied a netlist class ws' work work'
       applied a e = record {
-        answer = of_netlist_lem netlist ready.tables.legal (λ N. exhaust_of a ≡ summed (pairs N)) e;
+        answer = of_netlist_lem netlist ready.tables.legal (λ N. totals_among a ≡ summed (pairs N)) e;
         store = of_netlist_lem netlist ready.tables.legal (λ N. ws' ≡ left_store (pairs N)) whole.store;
         same_length_of = x.same_length_of;
         past_work = x.past_work;
       }
 
-      pub pairs-refused : (w : Refusal) → t ≡ stage.Refused w → PairsApplied (exhaust.Refused w) netlist class ws' work work'
+      pub pairs-refused : (w : Refusal) → t ≡ Err w → PairsApplied (Err w) netlist class ws' work work'
       pairs-refused w q =
           let e : pairs C ≡ refused (refusal_number_of w) = sym (rw q at whole.answer) in
-          applied (exhaust.Refused w) (rw e refl)
+          applied (Err w) (rw e refl)
 
-      module _ (q : t ≡ stage.Taken) where
+      module _ (q : t ≡ Ok tt) where
         left_is : pairs C ≡ value ws'
         left_is = sym (rw q at whole.answer)
 
@@ -92,8 +88,8 @@ module _ (netlist : List ℕ) (loaded : Loaded) (ws work : List ℕ) (ready : Re
             (all-memory C (class_of class) ws work work ready.memory refl (all_pairs C.inputs) ws'
             (ap (test_all C (class_of class) (all_pairs C.inputs)) start.0 ∙ left_is))
 
-        pub pairs-taken : (h : StoreTotals) → totals_in h ≡ totals_both ws' → PairsApplied (exhaust.Totals h.rising h.falling) netlist class ws' work work'
-        pairs-taken h s = applied (exhaust.Totals h.rising h.falling) (ap value s ∙ rw left_is refl)
+        pub pairs-taken : (h : StoreTotals) → totals_in h ≡ totals_both ws' → PairsApplied (Ok (record { rising = h.rising; falling = h.falling })) netlist class ws' work work'
+        pairs-taken h s = applied (Ok (record { rising = h.rising; falling = h.falling })) (ap value s ∙ rw left_is refl)
 
 module _ (netlist : List ℕ) (class : ℕ) (ws work : List ℕ) where
   -- working memory that the call did not touch
@@ -104,7 +100,7 @@ module _ (netlist : List ℕ) (class : ℕ) (ws work : List ℕ) where
   lent = checks (store_rule ws ∷ work_rule work ∷ [])
 
   -- a refusal before the pairs
-  early : (w : Refusal) → before_test netlist class ws work ≡ refused (refusal_number_of w) → ExhaustTrue (exhaust.Refused w) netlist class ws ws work work
+  early : (w : Refusal) → before_test netlist class ws work ≡ refused (refusal_number_of w) → ExhaustTrue (Err w) netlist class ws ws work work
   unfolding exhaust_answer exhaust_call
   early w e = record {
     answer = rw e refl;
@@ -112,35 +108,35 @@ module _ (netlist : List ℕ) (class : ℕ) (ws work : List ℕ) where
     work = kept;
   }
 
-  pub exhaust_words : (length ws ≡ store_words_count → ⊥) → ExhaustTrue (exhaust.Refused why.StoreLength) netlist class ws ws work work
+  pub exhaust_words : (length ws ≡ store_words_count → ⊥) → ExhaustTrue (Err why.StoreLength) netlist class ws ws work work
   exhaust_words d = early why.StoreLength (rw (ne_eqb (length ws) store_words_count d) refl)
 
   module _ (l : length ws ≡ store_words_count) where
-    pub exhaust_short : length work < work_words_count → ExhaustTrue (exhaust.Refused why.WorkLength) netlist class ws ws work work
+    pub exhaust_short : length work < work_words_count → ExhaustTrue (Err why.WorkLength) netlist class ws ws work work
     exhaust_short h = early why.WorkLength (rw (eq-eqb (length ws) store_words_count l, lt-leb work_words_count (length work) h) refl)
 
-    module _ (h : work_words_count ≤ length work) (loaded : Loaded) (t : LoadedTrue loaded netlist) where
+    module _ (h : work_words_count ≤ length work) (r : Result Loaded Refusal) (t : LoadedTrue r netlist) where
       passed : lent ≡ value tt
       passed = rw (eq-eqb (length ws) store_words_count l, le-leb work_words_count (length work) h) refl
 
-      pub exhaust_netlist : (w : Refusal) → loaded.answer ≡ survey.Refused w → ExhaustTrue (exhaust.Refused w) netlist class ws ws work work
-      exhaust_netlist w e = early w (rw (passed, loaded_refused loaded netlist t w e) refl)
+      pub exhaust_netlist : (w : Refusal) → r ≡ Err w → ExhaustTrue (Err w) netlist class ws ws work work
+      exhaust_netlist w e = early w (rw (passed, loaded_refused r netlist t w e) refl)
 
-      module _ (e : loaded.answer ≡ survey.Legal) (k : Bool) (ek : k ≡ within 1 2 class) where
-        pub exhaust_class : not k ≡ true → ExhaustTrue (exhaust.Refused why.UnknownClass) netlist class ws ws work work
+      module _ (loaded : Loaded) (e : r ≡ Ok loaded) (k : Bool) (ek : k ≡ within 1 2 class) where
+        pub exhaust_class : not k ≡ true → ExhaustTrue (Err why.UnknownClass) netlist class ws ws work work
         exhaust_class hk =
-            let d = loaded_legal loaded netlist t e in
+            let d = loaded_legal r netlist t loaded e in
             let q : within 1 2 class ≡ false = sym ek ∙ not-true k hk in
             early why.UnknownClass (rw (passed, d.tables.legal) (rw q refl))
 
         module _ (hk : not k ≡ false) where
-          reached : before_test netlist class ws work ≡ value (loaded_legal loaded netlist t e).circuit
-          reached = let d = loaded_legal loaded netlist t e in rw (passed, d.tables.legal) (rw (sym ek ∙ not-false k hk) refl)
+          reached : before_test netlist class ws work ≡ value (loaded_legal r netlist t loaded e).circuit
+          reached = let d = loaded_legal r netlist t loaded e in rw (passed, d.tables.legal) (rw (sym ek ∙ not-false k hk) refl)
 
-          pub exhaust_many : 6 < loaded.shape.inputs → ExhaustTrue (exhaust.Refused why.TooManyInputs) netlist class ws ws work work
+          pub exhaust_many : 6 < loaded.shape.inputs → ExhaustTrue (Err why.TooManyInputs) netlist class ws ws work work
           unfolding exhaust_answer exhaust_call exhaust_store pairs_on
           exhaust_many m =
-              let d = loaded_legal loaded netlist t e in
+              let d = loaded_legal r netlist t loaded e in
               let few = lt-leb d.circuit.inputs 6 (omega (arith, d.tables.inputs_are, m)) in
               let a : exhaust_call netlist class ws work ≡ refused 91 = rw reached (rw few refl) in
               record {
@@ -156,7 +152,7 @@ module _ (netlist : List ℕ) (class : ℕ) (ws work : List ℕ) where
 
               pub exhaust_ready : Ready netlist loaded ws' work
               exhaust_ready =
-                  let d = loaded_legal loaded netlist t e in
+                  let d = loaded_legal r netlist t loaded e in
                   record {
                     circuit = d.circuit;
                     tables = d.tables;
@@ -164,20 +160,20 @@ module _ (netlist : List ℕ) (class : ℕ) (ws work : List ℕ) where
                     memory = subst (λ (x : List ℕ). MemoryReady d.circuit x work) (sym exhaust_empty) (empty-memory d.circuit work h);
                   }
 
-            pub exhaust_done : (r : ExhaustAnswer) (ws'' work'' : List ℕ) → PairsApplied r netlist class ws'' work work'' → ExhaustTrue r netlist class ws ws'' work work''
+            pub exhaust_done : (a : Result StoreTotals Refusal) (ws'' work'' : List ℕ) → PairsApplied a netlist class ws'' work work'' → ExhaustTrue a netlist class ws ws'' work work''
             unfolding exhaust_answer exhaust_call exhaust_store pairs_on left_store
-            exhaust_done r ws'' work'' f =
-                let d = loaded_legal loaded netlist t e in
+            exhaust_done a ws'' work'' f =
+                let d = loaded_legal r netlist t loaded e in
                 let N : Netlist = d.circuit in
                 let read = d.tables.legal in
                 let few : T (few_inputs N).1 = le→leb N.inputs 6 (omega (arith, d.tables.inputs_are, m)) in
                 let pairs : Answer (List ℕ) = test_all N (class_of class) (all_pairs N.inputs) empty_store in
-                let a : exhaust_call netlist class ws work ≡ pairs = rw reached (rw (→checks (few_inputs N ∷ []) (few, tt)) refl) in
+                let call : exhaust_call netlist class ws work ≡ pairs = rw reached (rw (→checks (few_inputs N ∷ []) (few, tt)) refl) in
                 let way : (n : ℕ) → pairs ≡ refused n → T (of_work n) = on-the-way netlist N read few (class_of class) in
-                let total : exhaust_answer netlist class ws work ≡ summed pairs = ap summed a in
+                let total : exhaust_answer netlist class ws work ≡ summed pairs = ap summed call in
                 record {
                   answer = f.answer N read ∙ sym total;
-                  store = f.store N read ∙ left_after pairs way ∙ sym (ap (λ (y : Answer (List ℕ)). exhaust_after y ws) a);
+                  store = f.store N read ∙ left_after pairs way ∙ sym (ap (λ (y : Answer (List ℕ)). exhaust_after y ws) call);
                   work = record {
                     same_length_of = f.same_length_of;
                     past_work = f.past_work;

@@ -11,9 +11,7 @@ use Rattle.model.specs.Report.{test_all}
 use Rattle.model.proofs.PieceLaws.{test_all-append}
 use Rattle.model.proofs.ReadLaws.{limits, in_class_lem}
 use Rattle.block_activity.specs.declared.inner.Batch.{Batch}
-use Rattle.store_coverage.specs.Stage.{MemoryReady, stage_of}
-use Rattle.store_coverage.specs.declared.inner.StageAnswer.{StageAnswer}
-use Rattle.store_coverage.specs.declared.inner.StageAnswer.TheVariants as stage
+use Rattle.store_coverage.specs.Stage.{MemoryReady}
 use Rattle.block_stage.specs.declared.inner.Applied.{Applied}
 use Rattle.audit_block.specs.RecordsTaken.{file_of, left_store}
 use Rattle.audit_block.specs.FileBlocks.{BlockTables, BlocksReady}
@@ -26,6 +24,8 @@ use Rattle.exhaust_pairs.specs.HeldPairs.{held_pair, held_pairs}
 use Rattle.exhaust_pairs.proofs.PairVectorLaws.{first_bit, second-bit}
 use Rattle.exhaust_pairs.proofs.HeldPairLaws.{held-legal}
 use Rattle.exhaust.specs.PairsTaken.{WithTaken, AllTaken}
+use Rattle.std.specs.Prelude.{Result, Ok, Err}
+use Rattle.model.specs.Returned.{answer_of}
 
 module _ {table offsets : List ℕ} {numbers : FileNumbers} {risingLists fallingLists ws work : List ℕ} (s : BlocksReady table offsets numbers risingLists fallingLists ws work)
     (few : numbers.inputs ≤ 6) where
@@ -84,9 +84,9 @@ module _ {table offsets : List ℕ} {numbers : FileNumbers} {risingLists falling
             ∙ sym (block-all N c (held_pair vectors) work n m legal) ∙ ap (λ (rs : List (List ℕ)). test_all N c rs ws) are;
       }
         where
-          file-is : (a : StageAnswer) → file_of a ws' ≡ (stage_of a then value ws')
-          file-is stage.Taken = refl
-          file-is (stage.Refused w) = refl
+          file-is : (a : Result (Unit {0}) Refusal) → file_of a ws' ≡ (answer_of a then value ws')
+          file-is (Ok tt) = refl
+          file-is (Err w) = refl
 
 -- one V1 after the other: of one netlist, the pairs from V1 `first` on, from the store so far, give the whole
 pub record Going (N : Netlist) (c : Class) (ws₀ ws work : List ℕ) (first : ℕ) : Type 0 where
@@ -126,7 +126,7 @@ module _ (table offsets : List ℕ) (numbers : FileNumbers) (risingLists₀ fall
     count-is : (N : Netlist) → BlockTables N table offsets numbers → count ≡ 2 ^ N.inputs
     count-is N t = ec.0 ∙ ap (λ (i : ℕ). 2 ^ i) t.circuit.inputs_are
 
-    pub taking_end : count ≤ first → AllTaken stage.Taken table offsets numbers ws₀ ws work₀ work
+    pub taking_end : count ≤ first → AllTaken (Ok tt) table offsets numbers ws₀ ws work₀ work
     unfolding left_store test_all pairs_from
     taking_end h =
         let left : (N : Netlist) → BlockTables N table offsets numbers → MemoryReady N ws₀ work₀ → value ws ≡ test_all N cl (all_pairs N.inputs) ws₀ =
@@ -152,7 +152,7 @@ module _ (table offsets : List ℕ) (numbers : FileNumbers) (risingLists₀ fall
       pub taking_below : first < count → first < 2 ^ numbers.inputs
       taking_below h = omega (arith, ec.0)
 
-      module _ (more : first < count) {r : StageAnswer} {risingLists' fallingLists' ws' work' : List ℕ}
+      module _ (more : first < count) {r : (Result (Unit {0}) Refusal)} {risingLists' fallingLists' ws' work' : List ℕ}
           (d : WithTaken r table offsets numbers first risingLists risingLists' fallingLists fallingLists' ws ws' work work') where
         -- the pairs of this V1, then those of the others
         module _ (N : Netlist) (t : BlockTables N table offsets numbers) (m : MemoryReady N ws₀ work₀) where
@@ -172,8 +172,8 @@ module _ (table offsets : List ℕ) (numbers : FileNumbers) (risingLists₀ fall
               ∙ ap (λ (j : ℕ). test_all N cl (pairs_with first 0 m₀) ws into λ left. test_all N cl (pairs_from m₀ j (m₀ - (first + 1))) left) one
               ∙ ap (λ x. x into λ left. test_all N cl others left) (sym (d.of_circuit N t (g.goes N t m).memory))
 
-        pub taking_refused : {w : Refusal} → r ≡ stage.Refused w → {ws'' : List ℕ} → ws'' ≡ replicate (length ws') 0
-            → AllTaken (stage.Refused w) table offsets numbers ws₀ ws'' work₀ work'
+        pub taking_refused : {w : Refusal} → r ≡ Err w → {ws'' : List ℕ} → ws'' ≡ replicate (length ws') 0
+            → AllTaken (Err w) table offsets numbers ws₀ ws'' work₀ work'
         unfolding left_store
         taking_refused {w} q {ws''} z =
             let x : (N : Netlist) → BlockTables N table offsets numbers → MemoryReady N ws₀ work₀ → test_all N cl (all_pairs N.inputs) ws₀ ≡ refused (refusal_number_of w) =
@@ -184,7 +184,7 @@ module _ (table offsets : List ℕ) (numbers : FileNumbers) (risingLists₀ fall
               past_work = d.kept.past_work ∙ g.past_work;
             }
 
-        module _ (q : r ≡ stage.Taken) where
+        module _ (q : r ≡ Ok tt) where
           pub taking_next : TakingPairs risingLists' fallingLists' ws' work' (first + 1)
           taking_next = record {
             within = omega (arith, more, ec.0);
@@ -193,7 +193,7 @@ module _ (table offsets : List ℕ) (numbers : FileNumbers) (risingLists₀ fall
             same_store = d.store_length ∙ sym s.memory.store_length;
             goes = λ N t m.
                 let before = g.goes N t m in
-                let taken : test_all N cl (pairs_with first 0 (2 ^ N.inputs)) ws ≡ value ws' = sym (d.of_circuit N t before.memory) ∙ ap (λ (a : StageAnswer). file_of a ws') q in
+                let taken : test_all N cl (pairs_with first 0 (2 ^ N.inputs)) ws ≡ value ws' = sym (d.of_circuit N t before.memory) ∙ ap (λ (a : Result (Unit {0}) Refusal). file_of a ws') q in
                 record {
                   memory = all-memory N cl ws work work' before.memory d.kept.same_length_of (pairs_with first 0 (2 ^ N.inputs)) ws' taken;
                   rest = sym (split N t m ∙ rw q refl);

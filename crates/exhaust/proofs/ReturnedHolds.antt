@@ -11,27 +11,27 @@ use Rattle.model.proofs.RefusalLaws.{refused-inj}
 use Rattle.exhaust_pairs.specs.Exhaust.{exhaust_call, exhaust_answer, exhaust_after, exhaust_store, Exhausted}
 use Rattle.exhaust_pairs.proofs.OnTheWayLaws.{found-other, emptied-work}
 use Rattle.exhaust_pairs.proofs.ExhaustHolds.{exhaustive}
-use Rattle.exhaust.specs.Answers.{exhaust_of, ExhaustTrue}
+use Rattle.exhaust.specs.Answers.{totals_among, ExhaustTrue}
 use Rattle.exhaust.specs.Returned.{ReturnedShows, ExhaustShows}
-use Rattle.exhaust.specs.declared.ExhaustAnswer.{ExhaustAnswer}
-use Rattle.exhaust.specs.declared.ExhaustAnswer.TheVariants as exhaust
+use Rattle.std.specs.Prelude.{Result, Ok, Err}
+use Rattle.store_words.specs.declared.inner.StoreTotals.{StoreTotals}
 
 -- a value at the end refuses nothing
 bound_refused : {A B : Type 0} (n : ℕ) (x : Answer A) (f : A → B) → (x into λ a. value (f a)) ≡ refused n → x ≡ refused n
 bound_refused n (refused k) f q = ap refused (refused-inj q)
 bound_refused n (value a) f q = absurd (not_refused (sym q))
 
-module _ (r : ExhaustAnswer) (netlist : List ℕ) (class : ℕ) (ws ws' found left : List ℕ) (t : ExhaustTrue r netlist class ws ws' found left) where
-  whole : (N : Netlist) → read_netlist netlist ≡ value N → (a b : ℕ) → r ≡ exhaust.Totals a b
+module _ (r : Result StoreTotals Refusal) (netlist : List ℕ) (class : ℕ) (ws ws' found left : List ℕ) (t : ExhaustTrue r netlist class ws ws' found left) where
+  whole : (N : Netlist) → read_netlist netlist ≡ value N → (a b : ℕ) → r ≡ Ok (record { rising = a; falling = b })
       → Exhausted netlist N class ws' (record { on_rising = a; on_falling = b })
   whole N read a b p =
       let totals : ByEdge ℕ = record { on_rising = a; on_falling = b } in
       subst (λ s. Exhausted netlist N class s totals) (sym t.store)
-      (exhaustive.whole netlist class ws found N read totals (sym t.answer ∙ ap exhaust_of p))
+      (exhaustive.whole netlist class ws found N read totals (sym t.answer ∙ ap totals_among p))
 
-  module _ (w : Refusal) (p : r ≡ exhaust.Refused w) where
+  module _ (w : Refusal) (p : r ≡ Err w) where
     answered : exhaust_answer netlist class ws found ≡ refused (refusal_number_of w)
-    answered = sym t.answer ∙ ap exhaust_of p
+    answered = sym t.answer ∙ ap totals_among p
 
     store_is : ws' ≡ exhaust_after (refused (refusal_number_of w)) ws
     unfolding exhaust_answer exhaust_store

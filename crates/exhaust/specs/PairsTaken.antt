@@ -7,14 +7,15 @@ use Rattle.model.specs.Store.{store_words_count}
 use Rattle.model.specs.Calls.{work_words_count}
 use Rattle.model.specs.Report.{test_all}
 use Rattle.store_coverage.specs.Stage.{MemoryReady}
-use Rattle.store_coverage.specs.declared.inner.StageAnswer.{StageAnswer}
 use Rattle.audit_block.specs.RecordsTaken.{file_of, left_store}
 use Rattle.audit_block.specs.FileBlocks.{BlockTables, RoomKept}
 use Rattle.audit_block.specs.declared.inner.FileNumbers.{FileNumbers}
 use Rattle.exhaust_pairs.specs.AllPairs.{pairs_with, all_pairs}
+use Rattle.std.specs.Prelude.{Result}
+use Rattle.model.specs.declared.Refusal.{Refusal}
 
 -- the pairs of one V1
-pub record WithTaken (r : StageAnswer) (table offsets : List ℕ) (numbers : FileNumbers) (first : ℕ)
+pub record WithTaken (r : Result (Unit {0}) Refusal) (table offsets : List ℕ) (numbers : FileNumbers) (first : ℕ)
     (risingLists risingLists' fallingLists fallingLists' ws ws' work work' : List ℕ) : Type 0 where
   pub store_length : length ws' ≡ store_words_count
   pub kept : RoomKept risingLists risingLists' fallingLists fallingLists' work work'
@@ -22,11 +23,11 @@ pub record WithTaken (r : StageAnswer) (table offsets : List ℕ) (numbers : Fil
       → file_of r ws' ≡ test_all N (class_of numbers.class) (pairs_with first 0 (2 ^ N.inputs)) ws
 
 -- all pairs: their answer, and the store afterwards, empty after a refusal
-pub record PairsTrue (r : StageAnswer) (N : Netlist) (c : Class) (ws ws' : List ℕ) : Type 0 where
+pub record PairsTrue (r : Result (Unit {0}) Refusal) (N : Netlist) (c : Class) (ws ws' : List ℕ) : Type 0 where
   pub answer : file_of r ws' ≡ test_all N c (all_pairs N.inputs) ws
   pub store : ws' ≡ left_store (test_all N c (all_pairs N.inputs) ws)
 
-pub record AllTaken (r : StageAnswer) (table offsets : List ℕ) (numbers : FileNumbers) (ws ws' work work' : List ℕ) : Type 0 where
+pub record AllTaken (r : Result (Unit {0}) Refusal) (table offsets : List ℕ) (numbers : FileNumbers) (ws ws' work work' : List ℕ) : Type 0 where
   pub of_circuit : (N : Netlist) → BlockTables N table offsets numbers → MemoryReady N ws work → PairsTrue r N (class_of numbers.class) ws ws'
   pub same_length_of : length work' ≡ length work
   pub past_work : drop work_words_count work' ≡ drop work_words_count work

@@ -14,19 +14,11 @@ use block_activity::inner::layout::OFFSET_TABLE_SIZE;
 use block_words::inner::layout::{GATE_TABLE_SIZE, LISTS_SIZE};
 use exhaust_pairs::inner::MOST_INPUTS;
 use model::{Refusal, STORE_WORDS, WORK_WORDS, known_class};
-use netlist::SurveyAnswer;
 use netlist::inner::{Loaded, load_by_value};
 use pairs::apply_all_pairs;
-use store_coverage::inner::StageAnswer;
+pub use store_words::inner::StoreTotals;
 use store_words::inner::totals_of;
 use store_writing::inner::clear;
-
-// The number of faults of each edge that legal tests of a class detect.
-#[derive(Drop)]
-pub enum ExhaustAnswer {
-    Totals { rising: u64, falling: u64 },
-    Refused(Refusal),
-}
 
 // Applies every legal pair of vectors of a netlist of up to 6 inputs to a store, which is emptied unread. The store then holds every fault that a legal
 // test of the class detects, and no other. Refused on the way with 50 or 51 the store is left empty; another refusal leaves it as found.
@@ -35,31 +27,25 @@ pub fn exhaust(
     test_class: u32,
     store: &mut [u64],
     work: &mut [u64],
-) -> ExhaustAnswer
+) -> Result<StoreTotals, Refusal>
     ensures { ExhaustTrue result netlist.now test_class store.old store.new work.old work.new }
 {
     if store.len() != STORE_WORDS {
-        return ExhaustAnswer::Refused(Refusal::StoreLength);
+        return Err(Refusal::StoreLength);
     }
     if work.len() < WORK_WORDS {
-        return ExhaustAnswer::Refused(Refusal::WorkLength);
+        return Err(Refusal::WorkLength);
     }
-    let loaded = load_by_value(netlist);
-    let answer = loaded.answer;
-    match answer {
-        SurveyAnswer::Refused(why) => ExhaustAnswer::Refused(why),
-        SurveyAnswer::Legal => {
-            let known = known_class(test_class);
-            if !known {
-                return ExhaustAnswer::Refused(Refusal::UnknownClass);
-            }
-            if MOST_INPUTS < loaded.shape.inputs {
-                return ExhaustAnswer::Refused(Refusal::TooManyInputs);
-            }
-            clear(store);
-            apply_pairs(netlist, loaded, test_class, store, work)
-        }
+    let loaded = load_by_value(netlist)?;
+    let known = known_class(test_class);
+    if !known {
+        return Err(Refusal::UnknownClass);
     }
+    if MOST_INPUTS < loaded.shape.inputs {
+        return Err(Refusal::TooManyInputs);
+    }
+    clear(store);
+    apply_pairs(netlist, loaded, test_class, store, work)
 }
 
 // All pairs on a legal netlist of up to 6 inputs, from an empty store: its tables are made once for all of them.
@@ -69,7 +55,7 @@ fn apply_pairs(
     class: u32,
     store: &mut [u64],
     work: &mut [u64],
-) -> ExhaustAnswer
+) -> Result<StoreTotals, Refusal>
     requires ready { Ready netlist.now loaded store.old work.old }
     requires store_value { (store.old ≡ empty_store) × (loaded.shape.inputs ≤ most_inputs) }
     ensures { PairsApplied result netlist.now class store.new work.old work.new }
@@ -90,7 +76,7 @@ fn apply_pairs(
     );
     let mut rising_lists = [0u32; LISTS_SIZE];
     let mut falling_lists = [0u32; LISTS_SIZE];
-    let answer = apply_all_pairs(
+    apply_all_pairs(
         &table,
         &offsets,
         numbers,
@@ -98,15 +84,10 @@ fn apply_pairs(
         &mut falling_lists,
         store,
         work,
-    );
-    match answer {
-        StageAnswer::Refused(why) => ExhaustAnswer::Refused(why),
-        StageAnswer::Taken => {
-            let held = totals_of(store);
-            ExhaustAnswer::Totals {
-                rising: held.rising,
-                falling: held.falling,
-            }
-        }
-    }
+    )?;
+    let held = totals_of(store);
+    Ok(StoreTotals {
+        rising: held.rising,
+        falling: held.falling,
+    })
 }

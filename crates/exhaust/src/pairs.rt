@@ -9,7 +9,7 @@ use block_activity::inner::Batch;
 use block_activity::inner::layout::OFFSET_TABLE_SIZE;
 use block_words::inner::layout::GATE_TABLE_SIZE;
 use exhaust_pairs::inner::{put_pairs, vectors_of};
-use store_coverage::inner::StageAnswer;
+use model::Refusal;
 use store_writing::inner::clear;
 
 // The pairs of one V1. They are legal, so that none is written as a record and checked.
@@ -22,7 +22,7 @@ fn apply_pairs_with(
     falling_lists: &mut [u32],
     store: &mut [u64],
     work: &mut [u64],
-) -> StageAnswer
+) -> Result<(), Refusal>
     requires blocks_ready { BlocksReady table.now offsets.now numbers rising_lists.old falling_lists.old store.old work.old }
     requires inputs_le_most_inputs { (numbers.inputs ≤ most_inputs) × (first < 2 ^ numbers.inputs) }
     ensures { WithTaken result table.now offsets.now numbers first rising_lists.old rising_lists.new
@@ -59,14 +59,13 @@ pub(crate) fn apply_all_pairs(
     falling_lists: &mut [u32],
     store: &mut [u64],
     work: &mut [u64],
-) -> StageAnswer
+) -> Result<(), Refusal>
     requires blocks_ready { BlocksReady table.now offsets.now numbers rising_lists.old falling_lists.old store.old work.old }
     requires inputs_le_most_inputs { numbers.inputs ≤ most_inputs }
     ensures { AllTaken result table.now offsets.now numbers store.old store.new work.old work.new }
 {
     let count = vectors_of(numbers.inputs);
-    let mut first = 0;
-    while first < count {
+    for first in 0..count {
         let said = apply_pairs_with(
             table,
             offsets,
@@ -78,14 +77,12 @@ pub(crate) fn apply_all_pairs(
             work,
         );
         match said {
-            StageAnswer::Refused(why) => {
+            Err(why) => {
                 clear(store);
-                return StageAnswer::Refused(why);
+                return Err(why);
             }
-            StageAnswer::Taken => {
-                first += 1;
-            }
+            Ok(()) => {}
         }
     }
-    StageAnswer::Taken
+    Ok(())
 }

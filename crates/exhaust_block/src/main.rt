@@ -4,7 +4,6 @@
 // standard error. Where a file can't be read whole it prints nothing.
 #![tactic(auto)]
 
-use exhaust::ExhaustAnswer;
 use exhaust_text::put_block;
 use exhaust_undetected_text::fault_line;
 use listing_text::inner::OUT_BYTES;
@@ -36,10 +35,8 @@ fn print_fault(netlist: &[u8], number: u64) {
 
 // The faults of a list.
 fn print_faults(netlist: &[u8], list: &[u64]) {
-    let mut i = 0;
-    while i < list.len() {
+    for i in 0..list.len() {
         print_fault(netlist, list[i]);
-        i += 1;
     }
 }
 
@@ -54,11 +51,8 @@ fn print_block(netlist: &[u8], class: u32) {
     let numbers = faults.numbers;
     let count = faults.count;
     match answer {
-        ExhaustAnswer::Refused(why) => print_condition(STDERR_FILENO, why),
-        ExhaustAnswer::Totals {
-            rising: _,
-            falling: _,
-        } => print_faults(netlist, &numbers[..count]),
+        Err(why) => print_condition(STDERR_FILENO, why),
+        Ok(_) => print_faults(netlist, &numbers[..count]),
     }
 }
 

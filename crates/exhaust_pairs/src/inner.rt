@@ -22,14 +22,12 @@ pub fn put_pairs(first: usize, inputs: usize, vectors: &mut [u64; 128]) -> usize
 {
     let count = vectors_of(inputs);
     let mut pairs = 0;
-    let mut second = 0;
-    while second < count {
+    for second in 0..count {
         if second != first {
             vectors[pairs] = first as u64;
             vectors[64 + pairs] = second as u64;
             pairs += 1;
         }
-        second += 1;
     }
     pairs
 }

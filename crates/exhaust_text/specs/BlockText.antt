@@ -7,7 +7,7 @@ use Rattle.model.specs.Read.{read_netlist}
 use Rattle.model.specs.Store.{empty_store}
 use Rattle.model.specs.Calls.{work_words_count}
 use Rattle.exhaust_pairs.specs.Exhaust.{exhaust_call, exhaust_answer}
-use Rattle.exhaust.specs.Answers.{exhaust_of}
+use Rattle.exhaust.specs.Answers.{totals_among}
 use Rattle.exhaust_undetected.specs.Undetected.{undetected, listed}
 use Rattle.text_buffer.specs.Written.{Written, plain_line}
 use Rattle.listing_lines.specs.ListingLines.{refused_line_of}
@@ -59,4 +59,4 @@ pub record BlockTrue (r : BlockShown) (netlist : List ℕ) (class : ℕ) (out ou
   pub put : Written out out' 0 (block_text netlist class) r.length
   pub text : take r.length out' ≡ block_text netlist class
   pub list : list_of r.faults ≡ block_faults netlist class
-  pub answer : exhaust_of r.answer ≡ exhaust_answer netlist class empty_store zero_work
+  pub answer : totals_among r.answer ≡ exhaust_answer netlist class empty_store zero_work

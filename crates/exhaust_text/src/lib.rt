@@ -4,14 +4,17 @@
 
 mod lines;
 
+ghost use Rattle.std.specs.Prelude.{◌≡◌};
 ghost use Rattle.io.specs.Counts.{IsPrefixLen};
-ghost use Rattle.exhaust_text.specs.BlockText.{BlockTrue};
+ghost use Rattle.model.specs.Read.{read_netlist};
+ghost use Rattle.exhaust_text.specs.BlockText.{BlockTrue, paths_of};
 
 use crate::lines::{list_faults, no_faults, no_store, no_work, put_lines};
-use exhaust::{ExhaustAnswer, exhaust};
+use exhaust::{StoreTotals, exhaust};
 use exhaust_undetected::inner::LISTED;
 use listing_lines::inner::put_refusal;
 use listing_text::inner::OUT_BYTES;
+use model::Refusal;
 use netlist::survey;
 
 // Numbers of faults, and how many they are.
@@ -24,7 +27,7 @@ pub struct FaultList {
 // Whether the pairs are refused, the length of the text, and the faults that are listed after it.
 #[derive(Drop)]
 pub struct BlockShown {
-    pub answer: ExhaustAnswer,
+    pub answer: Result<StoreTotals, Refusal>,
     pub length: usize,
     pub faults: FaultList,
 }
@@ -38,10 +41,9 @@ pub fn put_block(netlist: &[u8], class: u32, out: &mut [u8; OUT_BYTES]) -> Block
     let mut store = no_store();
     let mut work = no_work();
     let answer = exhaust(netlist, class, &mut store, &mut work);
-    let surveyed = survey(netlist);
-    let paths = surveyed.survey.total;
+    let paths = paths_in(netlist);
     match answer {
-        ExhaustAnswer::Refused(why) => {
+        Err(why) => {
             let length = put_refusal(out, 0, why);
             BlockShown {
                 answer,
@@ -49,10 +51,7 @@ pub fn put_block(netlist: &[u8], class: u32, out: &mut [u8; OUT_BYTES]) -> Block
                 faults: no_faults(),
             }
         }
-        ExhaustAnswer::Totals {
-            rising: _,
-            falling: _,
-        } => {
+        Ok(_) => {
             let length = put_lines(&store, paths, out);
             BlockShown {
                 answer,
@@ -60,5 +59,16 @@ pub fn put_block(netlist: &[u8], class: u32, out: &mut [u8; OUT_BYTES]) -> Block
                 faults: list_faults(&store, paths),
             }
         }
+    }
+}
+
+// The number of a netlist's paths; a refused netlist has none.
+fn paths_in(netlist: &[u8]) -> u64
+    ensures { result ≡ paths_of (read_netlist netlist.now) }
+{
+    let surveyed = survey(netlist);
+    match surveyed {
+        Err(_) => 0,
+        Ok(legal) => legal.total,
     }
 }

@@ -11,10 +11,11 @@ use Rattle.model.proofs.FaultCallLaws.{edge-of_fault, path-of_fault}
 use Rattle.path_faults.specs.Answers.{model_edge, fault_call_of, fault_answer}
 use Rattle.path_faults.specs.declared.Edge as Code
 use Rattle.path_faults.specs.declared.Edge.TheVariants as at
-use Rattle.path_faults.specs.declared.FaultAnswer.{FaultAnswer}
-use Rattle.path_faults.specs.declared.FaultAnswer.TheVariants as fault
 use Rattle.exhaust_undetected.specs.Undetected.{held_number}
 use Rattle.exhaust_undetected.specs.Searches.{FirstFree, FirstNotHeld, FirstFault}
+use Rattle.std.specs.Prelude.{Result, Ok, Err}
+use Rattle.model.specs.declared.Refusal.{Refusal}
+use Rattle.path_faults.specs.declared.FaultNo.{FaultNo}
 
 -- the edges are two
 not_falling : Edge → Type 0
@@ -67,10 +68,10 @@ unfolding fault_call_of
 number-over e i a b = simp (le-leb 1 i a, lt-leb i (2 ^ 62) b)
 
 -- from the first path of an edge whose fault is not held, where every fault from `from` on that is lower is held
-found-fault : (r : FaultAnswer) (ws : List ℕ) (from : ℕ) (e : Edge) (p : ℕ) → 1 ≤ p → fault_answer r ≡ fault_call_of e p → from ≤ fault_number e p
+found-fault : (r : Result FaultNo Refusal) (ws : List ℕ) (from : ℕ) (e : Edge) (p : ℕ) → 1 ≤ p → fault_answer r ≡ fault_call_of e p → from ≤ fault_number e p
     → ((k : ℕ) → from ≤ k → k < fault_number e p → held_number ws k ≡ true) → in_runs (store_runs ws e) p ≡ false
     → (2 ^ 62 < p → 2 ^ 63 < fault_number e p) → FirstFault r ws from
-found-fault (fault.Fault f) ws from e p l a h b n o =
+found-fault (Ok f) ws from e p l a h b n o =
     cases p (2 ^ 62)
     (λ (m : p ≤ 2 ^ 62).
     let is : f.0 ≡ fault_number e p = value_inj (a ∙ number_is e p l m) in
@@ -78,14 +79,14 @@ found-fault (fault.Fault f) ws from e p l a h b n o =
     ap₂ (λ (d : Edge) (k : ℕ). in_runs (store_runs ws d) k) (edge-of_fault e p l) (path-of_fault e p l) ∙ n in
     subst (λ (k : ℕ). FirstNotHeld k ws from) (sym is) (record { not_before = h; passed = b; is_free = free }))
     (λ (m : 2 ^ 62 < p). absurd (not_refused (sym (a ∙ number-over e p l m))))
-found-fault (fault.Refused w) ws from e p l a h b n o =
+found-fault (Err w) ws from e p l a h b n o =
     cases p (2 ^ 62)
     (λ (m : p ≤ 2 ^ 62). absurd (not_refused (a ∙ number_is e p l m)))
     (λ (m : 2 ^ 62 < p). λ k i j. b k i (omega (arith, o m)))
 
 module _ (ws : List ℕ) (from r s i j : ℕ) (low : 1 ≤ from) (up : FirstFree r (store_runs ws rising) i) (down : FirstFree s (store_runs ws falling) j)
     (p : i ≡ from / 2 + 1) (q : j ≡ path_of_fault from) where
-  pub rising-first : (a : FaultAnswer) → fault_answer a ≡ fault_call_of rising r → r ≤ s → FirstFault a ws from
+  pub rising-first : (a : Result FaultNo Refusal) → fault_answer a ≡ fault_call_of rising r → r ≤ s → FirstFault a ws from
   unfolding fault_number
   rising-first a t l =
       found-fault a ws from rising r (omega (arith, up.not_before)) t (omega (arith, up.not_before))
@@ -95,7 +96,7 @@ module _ (ws : List ℕ) (from r s i j : ℕ) (low : 1 ≤ from) (up : FirstFree
       (λ o. down.passed (path_of_fault k) (omega arith) (omega arith)))
       up.free (λ m. omega arith)
 
-  pub falling-first : (a : FaultAnswer) → fault_answer a ≡ fault_call_of falling s → s < r → FirstFault a ws from
+  pub falling-first : (a : Result FaultNo Refusal) → fault_answer a ≡ fault_call_of falling s → s < r → FirstFault a ws from
   unfolding fault_number
   falling-first a t l =
       found-fault a ws from falling s (omega (arith, down.not_before)) t (omega (arith, down.not_before))

@@ -15,27 +15,27 @@ use Rattle.store_words.specs.Sound.{SoundWords}
 use Rattle.store_words.specs.WordAnswers.{totals_in, totals_both}
 use Rattle.store_words.specs.declared.inner.StoreTotals.{StoreTotals}
 use Rattle.store_words.proofs.SoundLaws.{sound_more}
-use Rattle.path_faults.specs.declared.FaultAnswer.{FaultAnswer}
-use Rattle.path_faults.specs.declared.FaultAnswer.TheVariants as fault
 use Rattle.path_faults.specs.declared.FaultNo.{FaultNo}
 use Rattle.exhaust_undetected.specs.Undetected.{held_number, not_held_from, undetected, listed, ListWritten}
 use Rattle.exhaust_undetected.specs.Searches.{FirstNotHeld, FirstFault, rest_from}
 use Rattle.exhaust_undetected.proofs.FirstLaws.{held_by}
 use Rattle.exhaust_undetected.proofs.NotHeldLaws.{skip_held, take-free, none_free, first-free, begins}
+use Rattle.std.specs.Prelude.{Result, Ok, Err}
+use Rattle.model.specs.declared.Refusal.{Refusal}
 
 -- The next one
-module _ (ws : List ℕ) (paths from : ℕ) (a : FaultAnswer) (x : FirstFault a ws from) (few : paths ≤ 2 ^ 62) where
+module _ (ws : List ℕ) (paths from : ℕ) (a : Result FaultNo Refusal) (x : FirstFault a ws from) (few : paths ≤ 2 ^ 62) where
   none_in : ((k : ℕ) → from ≤ k → k ≤ 2 * paths → held_number ws k ≡ true) → 0 ≡ get_or (rest_from ws paths from) 0 0
   none_in h = sym (ap (λ (l : List ℕ). get_or l 0 0) (none_free ws (2 * paths + 1 - from) from (λ k i j. h k i (omega arith))))
 
-  pub next-none : (w : _) → a ≡ fault.Refused w → 0 ≡ get_or (rest_from ws paths from) 0 0
+  pub next-none : (w : _) → a ≡ Err w → 0 ≡ get_or (rest_from ws paths from) 0 0
   next-none w e =
-      let y : FirstFault (fault.Refused w) ws from = subst (λ (b : FaultAnswer). FirstFault b ws from) e x in
+      let y : FirstFault (Err w) ws from = subst (λ (b : Result FaultNo Refusal). FirstFault b ws from) e x in
       none_in (λ k i j. y k i (omega arith))
 
-  module _ (f : FaultNo) (e : a ≡ fault.Fault f) where
+  module _ (f : FaultNo) (e : a ≡ Ok f) where
     first : FirstNotHeld f.0 ws from
-    first = subst (λ (b : FaultAnswer). FirstFault b ws from) e x
+    first = subst (λ (b : Result FaultNo Refusal). FirstFault b ws from) e x
 
     pub next_past : (p : ℕ) → p ≡ path_of_fault f.0 → paths < p → 0 ≡ get_or (rest_from ws paths from) 0 0
     next_past p is l = none_in (λ k i j. first.passed k i (omega arith))
@@ -86,8 +86,11 @@ module _ (ws : List ℕ) (paths : ℕ) (found : List ℕ) where
         let n : length (take left (rest_from ws paths from)) ≡ 0 = ap length e in
         record { many = omega (arith, x.counted); words = ap (sets now count) (sym e) ∙ x.written }
 
-    pub list_full : left ≤ 0 → ListWritten count found now ws paths
-    list_full h = let z : left ≡ 0 = omega arith in list-ends (ap (λ (k : ℕ). take k (rest_from ws paths from)) z)
+    pub list_full : left ≤ 0 → ListWritten 20 found now ws paths
+    list_full h =
+        let z : left ≡ 0 = omega arith in
+        let all : count ≡ 20 = omega (arith, x.places) in
+        subst (λ (k : ℕ). ListWritten k found now ws paths) all (list-ends (ap (λ (k : ℕ). take k (rest_from ws paths from)) z))
 
     module _ (number : ℕ) (is : number ≡ get_or (rest_from ws paths from) 0 0) where
       pub list-none : number ≡ 0 → ListWritten count found now ws paths

@@ -2,8 +2,6 @@
 use Rattle.model.proofs.Prelude.{ℕ, ◌≤◌, ◌<◌, ◌+◌, ◌-◌, suc, zero, ◌≡◌, ◌∙◌, ap, refl, sym, subst, ap₂, ⊎_elim, true, false, List, [], ◌∷◌, get_or}
 use Rattle.model.proofs.Prelude.{arith}
 use Rattle.model.proofs.BoolLaws.{bool_cases, cases}
-use Rattle.path_faults.specs.declared.FaultAnswer.{FaultAnswer}
-use Rattle.path_faults.specs.declared.FaultAnswer.TheVariants as fault
 use Rattle.exhaust_undetected.specs.Undetected.{held_number, not_held_from}
 use Rattle.exhaust_undetected.specs.Searches.{FirstNotHeld}
 

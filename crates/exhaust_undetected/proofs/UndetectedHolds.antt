@@ -1,5 +1,5 @@
 -- What the store of all pairs does not hold no legal test of the class detects: a fault is in that store exactly when some legal test detects it.
-use Rattle.model.proofs.Prelude.{ℕ, ◌≤◌, ◌<◌, ◌+◌, ◌*◌, suc, zero, ◌≡◌, ◌∙◌, ap, sym, subst, ⊎_elim, ◌↔◌, true, Bool, false, List, [], ◌∷◌}
+use Rattle.model.proofs.Prelude.{ℕ, ◌≤◌, ◌<◌, ◌+◌, ◌*◌, suc, zero, ◌≡◌, ◌∙◌, ap, sym, subst, ⊎_elim, ◌↔◌, true, false, List, [], ◌∷◌}
 use Rattle.model.proofs.Prelude.{List·Memᴰ·not-nil, List-as-Memᴰ, List·Memᴰ·cases-cons, List·Memᴰ·head, List·Memᴰ·tail, length, T, eqb→eq, arith}
 use Rattle.model.specs.Base.{value, checks, ◌then◌}
 use Rattle.model.specs.Netlist.{Netlist, path_total}

@@ -7,8 +7,8 @@ ghost use Rattle.store_words.specs.Sound.{SoundWords};
 ghost use Rattle.exhaust_undetected.specs.Undetected.{most_listed, undetected, ListWritten};
 ghost use Rattle.exhaust_undetected.specs.Searches.{FirstFree, FirstFault, rest_from};
 
-use model::{HEAD_WORDS, MAX_RUNS};
-use path_faults::{Edge, FaultAnswer, FaultNo, PathNo, edge_of, fault_of, path_of};
+use model::{HEAD_WORDS, MAX_RUNS, Refusal};
+use path_faults::{Edge, FaultNo, PathNo, edge_of, fault_of, path_of};
 use store_words::inner::{FALLING_COUNT, RISING_COUNT, totals_of};
 
 // The most faults that are listed.
@@ -20,15 +20,13 @@ fn next_free(words: &[u64], from: usize, to: usize, x: u64) -> u64
     requires sound { Sound (2 ^ 62) (runs_in_words words.now from (to - from)) }
     ensures { FirstFree result (runs_in_words words.now from (to - from)) x }
 {
-    let mut i = from;
-    while i < to {
+    for i in from..to {
         if x <= words[2 * i + 1] {
             if words[2 * i] <= x {
                 return words[2 * i + 1] + 1;
             }
             return x;
         }
-        i += 1;
     }
     x
 }
@@ -64,7 +62,7 @@ fn rising_from(from: FaultNo) -> u64
 }
 
 // The first fault from one on that is not held: the lower one of the first of each edge.
-fn next_fault(words: &[u64], from: FaultNo) -> FaultAnswer
+fn next_fault(words: &[u64], from: FaultNo) -> Result<FaultNo, Refusal>
     requires { SoundWords (2 ^ 62) words.now × (1 ≤ from.0) }
     ensures { FirstFault result words.now from.0 }
 {
@@ -84,8 +82,8 @@ fn next_number(words: &[u64], paths: u64, from: FaultNo) -> u64
 {
     let found = next_fault(words, from);
     match found {
-        FaultAnswer::Refused(_) => 0,
-        FaultAnswer::Fault(fault) => {
+        Err(_) => 0,
+        Ok(fault) => {
             let path = path_of(fault);
             if paths < path.0 {
                 return 0;
@@ -101,19 +99,15 @@ pub fn first_undetected(words: &[u64], paths: u64, list: &mut [u64]) -> usize
     ensures { ListWritten result list.old list.new words.now paths }
 {
     let mut from: u64 = 1;
-    let mut count = 0;
-    let mut left = LISTED;
-    while 0 < left {
+    for count in 0..LISTED {
         let number = next_number(words, paths, FaultNo(from));
         if number == 0 {
             return count;
         }
         list[count] = number;
         from = number + 1;
-        count += 1;
-        left -= 1;
     }
-    count
+    LISTED
 }
 
 // How many faults are not held.

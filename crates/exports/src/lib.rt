@@ -18,7 +18,7 @@ ghost use Rattle.viewer_places.specs.Viewer.{viewer_totals_call, viewer_runs_ans
 ghost use Rattle.c_answer_words.specs.Codes.{code_answer, Answered, survey_words, edge_words, count_words, number_word, bool_word};
 ghost use Rattle.c_calls.specs.Answers.{all_taken, load_words};
 
-use audit_judging::EndAnswer;
+use c_answer_words::inner::{code_of, count_code};
 use path_faults::{FaultNo, PathNo};
 
 // The survey of a netlist: I, G, U, T, then a count for each of 512 nets.
@@ -37,7 +37,7 @@ pub extern "C" fn genduwal_empty(store: &mut [u64]) -> u32
     ensures store_after { store.new ≡ emptied_store store.old }
 {
     let emptied = store::empty(store);
-    c_store::empty_code(emptied)
+    code_of(emptied)
 }
 
 // The test call, judged in class 1 (non-robust) or 2 (robust): for each edge the number of faults new to the store, then for each edge the number then held.
@@ -75,7 +75,7 @@ pub extern "C" fn genduwal_exhaust(
     ensures pairs_work { PairsWork netlist.now test_class store.old work.old work.new }
 {
     let shown = exhaust::exhaust(netlist, test_class, store, work);
-    c_store::exhaust_code(shown, answer)
+    c_store::totals_code(shown, answer)
 }
 
 // The number of rising, then of falling faults that a store holds.
@@ -92,8 +92,8 @@ pub extern "C" fn genduwal_totals(netlist: &[u8], store: &[u64], answer: &mut [u
 pub extern "C" fn genduwal_lengths(netlist: &[u8], store: &[u64], answer: &mut [u64; 256]) -> u32
     ensures { Answered (lengths_call netlist.now store.now) length_words result answer.old answer.new }
 {
-    let rows = length_coverage::coverage_by_length(netlist, store);
-    c_store::lengths_code(rows, answer)
+    let lengths = length_coverage::coverage_by_length(netlist, store);
+    c_store::lengths_code(lengths, answer)
 }
 
 // Whether a store holds a fault: 1 if it does, else 0.
@@ -151,7 +151,7 @@ pub extern "C" fn genduwal_viewer_runs(
     ensures view_after { view.new ≡ viewer_runs_store netlist.now store.now view.old places.now }
 {
     let written = viewer::viewer_runs(netlist, store, places, view);
-    c_store::view_code(written)
+    code_of(written)
 }
 
 // The number of the path in the words.
@@ -174,7 +174,7 @@ pub extern "C" fn genduwal_number_to_path(netlist: &[u8], number: u64, path: &mu
     ensures path_after { path.new ≡ number_to_path_buffer netlist.now number path.old }
 {
     let written = path_of_number::number_to_path(netlist, PathNo(number), path);
-    c_calls::path_code(written)
+    code_of(written)
 }
 
 // Writes the report of a store, with the number of tests that it counts: the length of its record.
@@ -189,7 +189,7 @@ pub extern "C" fn genduwal_write_report(
     ensures report_after { report.new ≡ writer_buffer netlist.now store.now report.old }
 {
     let written = report::write_report(netlist, store, report);
-    c_calls::report_code(written, answer)
+    count_code(written, answer)
 }
 
 // Accepts a report if it is the one that the writer gives after the test calls with the records of a file, all in one class, from an empty store.
@@ -207,7 +207,7 @@ pub extern "C" fn genduwal_audit(
     ensures work_after { WorkAfter netlist.now test_class store.old work.old work.new }
 {
     let audited = audit::audit(netlist, tests, report, test_class, store, work);
-    c_calls::audit_code(audited)
+    code_of(audited)
 }
 
 // The beginning of an audit whose test file comes in pieces: lent memory, netlist and class. The store is emptied unread.
@@ -222,7 +222,7 @@ pub extern "C" fn genduwal_audit_begin(
     ensures store_after { store.new ≡ begin_store store.old work.now }
 {
     let begun = audit_pieces::audit_begin(netlist, test_class, store, work);
-    c_calls::begin_code(begun)
+    code_of(begun)
 }
 
 // A piece of the test file, judged in the class of the beginning: the number of its records, if all were taken.
@@ -258,8 +258,8 @@ pub extern "C" fn genduwal_audit_end(
 {
     let ended = audit_pieces::audit_end(netlist, bytes, first, report, store);
     match ended {
-        EndAnswer::Refused(number) => number,
-        EndAnswer::Accepted => 0,
+        Err(number) => number,
+        Ok(()) => 0,
     }
 }
 

@@ -7,6 +7,7 @@ ghost use Rattle.tree.specs.Each.{held_words, each_call};
 ghost use Rattle.c_answer_words.specs.Codes.{code_answer, Answered, number_word};
 ghost use Rattle.c_tree.specs.AnswerWords.{found_words, asked_words};
 
+use c_answer_words::inner::{code_of, count_code};
 use path_faults::PathNo;
 
 // Empties a tree, of any words.
@@ -16,7 +17,7 @@ pub extern "C" fn genduwal_tree_empty(tree: &mut [u64]) -> u32
     ensures tree_after { tree.new ≡ emptied_tree tree.old }
 {
     let emptied = tree::tree_empty(tree);
-    c_tree::emptied_code(emptied)
+    code_of(emptied)
 }
 
 // Inserts the run low..high, merged with the runs that overlap it or are adjacent.
@@ -26,7 +27,7 @@ pub extern "C" fn genduwal_tree_insert(tree: &mut [u64], low: u64, high: u64) ->
     ensures holding { Holding (insert_call tree.old (run_of low high)) tree.old tree.new }
 {
     let changed = tree::tree_insert(tree, low, high);
-    c_tree::changed_code(changed)
+    code_of(changed)
 }
 
 // Deletes the stored run low..high.
@@ -36,7 +37,7 @@ pub extern "C" fn genduwal_tree_delete(tree: &mut [u64], low: u64, high: u64) ->
     ensures holding { Holding (delete_call tree.old (run_of low high)) tree.old tree.new }
 {
     let changed = tree::tree_delete(tree, low, high);
-    c_tree::changed_code(changed)
+    code_of(changed)
 }
 
 // The least run that overlaps low..high, else the adjacent one with the least low: 1, its low and its high; zeros where there is none.
@@ -84,5 +85,5 @@ pub extern "C" fn genduwal_tree_holds_each(
         after (each_call tree.now) answers.old (λ n. held_words (tree_runs tree.now) numbers.now answers.old) }
 {
     let asked = tree::tree_holds_each(tree, numbers, answers);
-    c_tree::each_code(asked, answer)
+    count_code(asked, answer)
 }

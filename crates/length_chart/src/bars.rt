@@ -88,10 +88,8 @@ pub(crate) fn put_lengths(
         × (result ≤ start + 32000) }
 {
     let mut at = start;
-    let mut i = 0;
-    while i < 64 {
+    for i in 0..64 {
         at = put_length(out, at, i as u64, paths[i], rising[i], falling[i]);
-        i += 1;
     }
     at
 }

@@ -8,9 +8,7 @@ use text_percent::inner::thousandths;
 fn longest(paths: &[u64; 64]) -> u64
     ensures { (result ≡ longest_below paths.now 64) × (result < 64) }
 {
-    let mut left = 64;
-    while 0 < left {
-        left -= 1;
+    for left in (0..64).rev() {
         if 0 < paths[left] {
             return left as u64;
         }

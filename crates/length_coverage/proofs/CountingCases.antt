@@ -7,7 +7,6 @@ use Rattle.model.specs.Path.{Edge, rising, falling}
 use Rattle.model.specs.Runs.{Run, in_runs}
 use Rattle.model.specs.Read.{read_netlist}
 use Rattle.model.specs.Store.{ByEdge, by_edge, run_count, store_runs}
-use Rattle.model.specs.declared.Refusal.TheVariants as why
 use Rattle.model.proofs.AnswerLaws.{value_inj}
 use Rattle.model.proofs.ReadLaws.{limits}
 use Rattle.netlist.specs.Tables.{SomeCircuit}
@@ -20,18 +19,8 @@ use Rattle.length_rows.specs.Lengths.{lengths, row, paths_up_to, held_up_to, Row
 use Rattle.length_rows.proofs.RowLaws.{row-length}
 use Rattle.length_rows.proofs.LengthsHold.{paths-add, too_long}
 use Rattle.length_ranks.specs.NetRows.{NetRows, Ranked}
-use Rattle.length_coverage.specs.LengthAnswers.{answer_of, with_rows, nothing, edge_rows, RowsAre, lengths_on, Countable, CountableRows, in_words, RunsRanked}
-use Rattle.length_coverage.specs.declared.LengthsAnswer.{LengthsAnswer}
-use Rattle.length_coverage.specs.declared.LengthsAnswer.TheVariants as lengthsAnswer
-use Rattle.length_coverage.specs.declared.LengthRows.{LengthRows}
-
--- A refusal, and rows, as the code hands them over
-pub rows-refused : (x : LengthsAnswer) (n : ℕ) (a : Answer (ByEdge Rows)) → a ≡ refused n → answer_of x ≡ refused n → RowsAre (nothing x) a
-rows-refused x n a e f = record { answer = f ∙ rw e refl; rising = rw e refl; falling = rw e refl }
-
-pub rows-counted : (r : ByEdge Rows) (a : Answer (ByEdge Rows)) → a ≡ value r
-    → RowsAre (with_rows lengthsAnswer.Counted (edge_rows r.on_rising) (edge_rows r.on_falling)) a
-rows-counted r a e = record { answer = rw e refl; rising = rw e refl; falling = rw e refl }
+use Rattle.length_coverage.specs.LengthAnswers.{rows_in, lengths_of, lengths_on, Countable, CountableRows, in_words, RunsRanked}
+use Rattle.std.specs.Prelude.{Ok}
 
 -- The words of an edge's runs
 module _ (ws : List ℕ) (f : FewRuns ws) (e : Edge) where
@@ -74,40 +63,39 @@ module _ {file ps cs : List ℕ} {shape : Shape} {total : ℕ} {ws : List ℕ} {
       rule_is : (length_rule C).1 ≡ eqb sum total
       rule_is = too_long C ws rising ∙ ap₂ eqb (sym (es ∙ ap sum_of (paths-are rising))) (sym k.total_is)
 
-      every : {r : LengthRows} → RowsAre r (lengths_on C ws) → (M : Netlist) → read_netlist file ≡ value M → RowsAre r (lengths_on M ws)
-      every {r} a M e = subst (λ (K : Netlist). RowsAre r (lengths_on K ws)) (value_inj (sym read ∙ e)) a
+      every : {a : Answer (ByEdge Rows)} → a ≡ lengths_on C ws → (M : Netlist) → read_netlist file ≡ value M → a ≡ lengths_on M ws
+      every {a} p M e = subst (λ (K : Netlist). a ≡ lengths_on K ws) (value_inj (sym read ∙ e)) p
 
-      pub one-too_long : (sum ≡ total → ⊥) → (r : LengthRows) → r ≡ nothing (lengthsAnswer.Refused why.PathTooLong) → (M : Netlist) → read_netlist file ≡ value M
-          → RowsAre r (lengths_on M ws)
+      pub one-too_long : (sum ≡ total → ⊥) → (M : Netlist) → read_netlist file ≡ value M → refused 84 ≡ lengths_on M ws
       unfolding lengths_on
-      one-too_long ne r er =
+      one-too_long ne =
           let no : (length_rule C).1 ≡ false = rule_is ∙ ne_eqb sum total ne in
           let refusal : lengths_on C ws ≡ refused 84 = rw no refl in
-          every (subst (λ (x : LengthRows). RowsAre x (lengths_on C ws)) (sym er) (rows-refused (lengthsAnswer.Refused why.PathTooLong) 84 (lengths_on C ws) refusal refl))
+          every (sym refusal)
 
       module _ (eq : sum ≡ total) {up down : List ℕ} (eu : up ≡ edge_words ws rising) (ed : down ≡ edge_words ws falling) {rise fall : List ℕ}
           (er : (M : Netlist) → read_netlist file ≡ value M → rise ≡ row (λ l. held_up_to M (in_words up) l (path_total M)))
           (ef : (M : Netlist) → read_netlist file ≡ value M → fall ≡ row (λ l. held_up_to M (in_words down) l (path_total M))) where
         rows_are : (e : Edge) (part held : List ℕ) → part ≡ edge_words ws e → held ≡ row (λ l. held_up_to C (in_words part) l (path_total C))
-            → paths ∷ held ∷ [] ≡ edge_rows (rows_of C ws e)
+            → rows_in (paths ∷ held ∷ []) ≡ rows_of C ws e
         unfolding rows_of
         rows_are e part held q p =
             let runs : runs_in_words part 0 (length part / 2) ≡ store_runs ws e =
             ap (λ (x : List ℕ). runs_in_words x 0 (length x / 2)) q ∙ runs-are ws k.sound.few e in
             let held-is : held ≡ (rows_of C ws e).held = p ∙ ap (λ (x : List Run). row (λ l. held_up_to C (in_runs x) l (path_total C))) runs in
-            λ i. paths-are e i ∷ held-is i ∷ []
+            λ i. record { paths = paths-are e i; held = held-is i }
 
         pub all-counted : (M : Netlist) → read_netlist file ≡ value M
-            → RowsAre (with_rows lengthsAnswer.Counted (paths ∷ rise ∷ []) (paths ∷ fall ∷ [])) (lengths_on M ws)
+            → lengths_of (Ok (record { rising = paths ∷ rise ∷ []; falling = paths ∷ fall ∷ [] })) ≡ lengths_on M ws
         unfolding lengths_on
         all-counted =
             let yes : (length_rule C).1 ≡ true = rule_is ∙ eq-eqb sum total eq in
             let taken : lengths_on C ws ≡ value (by_edge (rows_of C ws)) = rw yes refl in
             let r = rows_are rising up rise eu (er C read) in
             let f = rows_are falling down fall ed (ef C read) in
-            every (subst (λ (x : List (List ℕ)). RowsAre (with_rows lengthsAnswer.Counted x (paths ∷ fall ∷ [])) (lengths_on C ws)) (sym r)
-            (subst (λ (x : List (List ℕ)). RowsAre (with_rows lengthsAnswer.Counted (edge_rows (rows_of C ws rising)) x) (lengths_on C ws)) (sym f)
-            (rows-counted (by_edge (rows_of C ws)) (lengths_on C ws) taken)))
+            let both : lengths_of (Ok (record { rising = paths ∷ rise ∷ []; falling = paths ∷ fall ∷ [] })) ≡ value (by_edge (rows_of C ws)) =
+            λ i. value (record { on_rising = r i; on_falling = f i }) in
+            every (both ∙ sym taken)
 
 -- The rows of the nets first
 module _ {file ps cs : List ℕ} {shape : Shape} {total : ℕ} {ws : List ℕ} (k : Countable file ps cs shape total ws) where

@@ -1,57 +1,29 @@
 -- What coverage by length answers, by document 02's numbers and rows, and what the functions below it are handed.
-use Rattle.std.specs.Prelude.{◌≡◌, Bool, List, [], ◌∷◌, ℕ, ◌/◌, length, replicate}
-use Rattle.model.specs.Base.{Answer, refused, value, ◌then◌, checks, passes}
+use Rattle.std.specs.Prelude.{◌≡◌, Bool, List, [], ◌∷◌, ℕ, ◌/◌, length, get_or, Result}
+use Rattle.model.specs.Base.{Answer, value, ◌then◌, checks}
 use Rattle.model.specs.Netlist.{Netlist, path_total}
+use Rattle.model.specs.Returned.{answer_by}
 use Rattle.model.specs.Runs.{in_runs}
 use Rattle.model.specs.Store.{ByEdge, by_edge}
-use Rattle.model.specs.Refusals.{refusal_number_of}
+use Rattle.model.specs.declared.Refusal.{Refusal}
 use Rattle.netlist.specs.Tables.{CircuitTables}
 use Rattle.netlist.specs.declared.inner.Shape.{Shape}
 use Rattle.run_lists.specs.RunLists.{Sound, runs_in_words}
 use Rattle.store_words.specs.Sound.{SoundWords}
-use Rattle.length_rows.specs.Lengths.{lengths, Rows, rows_of, length_rule, lengths_call}
+use Rattle.length_rows.specs.Lengths.{Rows, rows_of, length_rule}
 use Rattle.length_ranks.specs.NetRows.{RowTables}
-use Rattle.length_coverage.specs.declared.LengthsAnswer.{LengthsAnswer}
-use Rattle.length_coverage.specs.declared.LengthsAnswer.TheVariants as lengthsAnswer
 use Rattle.length_coverage.specs.declared.LengthRows.{LengthRows}
 
--- the number of a refusal, or that there is none
-abbrev pub answer_of : LengthsAnswer → Answer (Unit {0})
-answer_of lengthsAnswer.Counted = value tt
-answer_of (lengthsAnswer.Refused w) = refused (refusal_number_of w)
+-- the rows of an edge as the code hands them over: the paths by length, then the faults held
+abbrev pub rows_in : List (List ℕ) → Rows
+rows_in rows = record { paths = get_or rows 0 []; held = get_or rows 1 [] }
 
--- an answer with two rows for each edge: the paths by length, then the faults held
-abbrev pub with_rows : LengthsAnswer → List (List ℕ) → List (List ℕ) → LengthRows
-with_rows a up down = record { answer = a; rising = up; falling = down }
+abbrev pub rows_in_both : LengthRows → ByEdge Rows
+rows_in_both r = record { on_rising = rows_in r.rising; on_falling = rows_in r.falling }
 
--- the rows of a refused call are zeros
-abbrev pub no_rows : List (List ℕ)
-no_rows = replicate lengths 0 ∷ replicate lengths 0 ∷ []
-
-abbrev pub nothing : LengthsAnswer → LengthRows
-nothing a = with_rows a no_rows no_rows
-
--- the rows of both edges as the code hands them over
-abbrev pub edge_rows : Rows → List (List ℕ)
-edge_rows r = r.paths ∷ r.held ∷ []
-
-abbrev pub rising_rows : Answer (ByEdge Rows) → List (List ℕ)
-rising_rows (refused n) = no_rows
-rising_rows (value r) = edge_rows r.on_rising
-
-abbrev pub falling_rows : Answer (ByEdge Rows) → List (List ℕ)
-falling_rows (refused n) = no_rows
-falling_rows (value r) = edge_rows r.on_falling
-
--- what the code hands over is an answer of the definition
-pub record RowsAre (r : LengthRows) (a : Answer (ByEdge Rows)) : Type 0 where
-  pub answer : answer_of r.answer ≡ passes a
-  pub rising : r.rising ≡ rising_rows a
-  pub falling : r.falling ≡ falling_rows a
-
--- Coverage by length: its answer and its rows are those of the definition
-abbrev pub LengthsTrue : LengthRows → List ℕ → List ℕ → Type 0
-LengthsTrue r netlist ws = RowsAre r (lengths_call netlist ws)
+-- coverage by length: the number of a refusal, or the rows of both edges
+abbrev pub lengths_of : Result LengthRows Refusal → Answer (ByEdge Rows)
+lengths_of = answer_by rows_in_both
 
 -- the call once store length, netlist and the store's words are passed
 unfoldable pub lengths_on : Netlist → List ℕ → Answer (ByEdge Rows)

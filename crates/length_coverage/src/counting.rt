@@ -3,10 +3,10 @@ ghost use Rattle.std.specs.Prelude.{◌≡◌};
 ghost use Rattle.model.specs.Base.{value};
 ghost use Rattle.model.specs.Netlist.{Netlist};
 ghost use Rattle.model.specs.Read.{read_netlist};
-ghost use Rattle.length_coverage.specs.LengthAnswers.{Countable, CountableRows, RowsAre, lengths_on, nothing, with_rows};
+ghost use Rattle.length_coverage.specs.LengthAnswers.{Countable, CountableRows, lengths_of, lengths_on};
 
+use crate::LengthRows;
 use crate::inner::held::held_row;
-use crate::{LengthRows, LengthsAnswer};
 use length_ranks::inner::net_rows::fill_rows;
 use length_ranks::inner::ranks::rank_row;
 use length_rows::inner::row_sum;
@@ -14,25 +14,6 @@ use model::Refusal;
 use netlist::inner::Shape;
 use path_faults::Edge;
 use store_words::inner::parts::edge_runs;
-
-// The answer with its rows.
-fn rows_with(answer: LengthsAnswer, rising: [[u64; 64]; 2], falling: [[u64; 64]; 2]) -> LengthRows
-    ensures { result ≡ with_rows answer rising falling }
-{
-    LengthRows {
-        answer,
-        rising,
-        falling,
-    }
-}
-
-// An answer without rows.
-pub(crate) fn no_rows(answer: LengthsAnswer) -> LengthRows
-    ensures { result ≡ nothing answer }
-{
-    let zeros = [[0u64; 64]; 2];
-    rows_with(answer, zeros, zeros)
-}
 
 // The rows, once the netlist's tables are made and the store is known to be sound.
 pub(crate) fn count_rows(
@@ -42,9 +23,9 @@ pub(crate) fn count_rows(
     shape: Shape,
     total: u64,
     store: &[u64],
-) -> LengthRows
+) -> Result<LengthRows, Refusal>
     requires { Countable netlist.now positions.now counts.now shape total store.now }
-    ensures { (N : Netlist) → read_netlist netlist.now ≡ value N → RowsAre result (lengths_on N store.now) }
+    ensures { (N : Netlist) → read_netlist netlist.now ≡ value N → lengths_of result ≡ lengths_on N store.now }
 {
     let mut rows = [[0u64; 64]; 512];
     fill_rows(netlist, positions, shape, &mut rows);
@@ -60,18 +41,21 @@ fn rows_by_net(
     shape: Shape,
     total: u64,
     store: &[u64],
-) -> LengthRows
+) -> Result<LengthRows, Refusal>
     requires { CountableRows netlist.now positions.now counts.now shape total store.now rows.now }
-    ensures { (N : Netlist) → read_netlist netlist.now ≡ value N → RowsAre result (lengths_on N store.now) }
+    ensures { (N : Netlist) → read_netlist netlist.now ≡ value N → lengths_of result ≡ lengths_on N store.now }
 {
     let paths = rank_row(netlist, positions, counts, rows, shape, total);
     let short = row_sum(&paths);
     if short != total {
-        return no_rows(LengthsAnswer::Refused(Refusal::PathTooLong));
+        return Err(Refusal::PathTooLong);
     }
     let up = edge_runs(store, Edge::Rising);
     let rising = held_row(netlist, positions, counts, rows, shape, up);
     let down = edge_runs(store, Edge::Falling);
     let falling = held_row(netlist, positions, counts, rows, shape, down);
-    rows_with(LengthsAnswer::Counted, [paths, rising], [paths, falling])
+    Ok(LengthRows {
+        rising: [paths, rising],
+        falling: [paths, falling],
+    })
 }

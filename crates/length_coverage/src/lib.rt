@@ -5,24 +5,17 @@ mod counting;
 pub mod inner;
 
 ghost use Rattle.std.specs.Prelude.{◌≡◌};
-ghost use Rattle.length_coverage.specs.LengthAnswers.{LengthsTrue};
+ghost use Rattle.length_coverage.specs.LengthAnswers.{lengths_of};
+ghost use Rattle.length_rows.specs.Lengths.{lengths_call};
 
-use crate::counting::{count_rows, no_rows};
+use crate::counting::count_rows;
 use model::{Refusal, STORE_WORDS};
-use netlist::inner::{LoadAnswer, load};
-use store_words::inner::{StoreCheck, check_words};
+use netlist::inner::load;
+use store_words::inner::check_words;
 
-// Whether the rows are there, or a path to an output has more than 63 gates.
-#[derive(Clone, Copy)]
-pub enum LengthsAnswer {
-    Counted,
-    Refused(Refusal),
-}
-
-// For each edge two rows: for each number of gates the paths, then the faults held. Those of a refused call are zeros.
+// For each edge two rows: for each number of gates the paths, then the faults held.
 #[derive(Clone, Copy)]
 pub struct LengthRows {
-    pub answer: LengthsAnswer,
     pub rising: [[u64; 64]; 2],
     pub falling: [[u64; 64]; 2],
 }
@@ -40,24 +33,23 @@ pub fn falling_rows(rows: LengthRows) -> [[u64; 64]; 2]
     rows.falling
 }
 
-// Coverage by length.
-pub fn coverage_by_length(netlist: &[u8], store: &[u64]) -> LengthRows
-    ensures { LengthsTrue result netlist.now store.now }
+// Coverage by length, or the reason for refusing it.
+pub fn coverage_by_length(netlist: &[u8], store: &[u64]) -> Result<LengthRows, Refusal>
+    ensures { lengths_of result ≡ lengths_call netlist.now store.now }
 {
     if store.len() != STORE_WORDS {
-        return no_rows(LengthsAnswer::Refused(Refusal::StoreLength));
+        return Err(Refusal::StoreLength);
     }
     let mut counts = [0u64; 512];
     let mut positions = [0u16; 512];
-    let answer = load(netlist, &mut counts, &mut positions);
-    match answer {
-        LoadAnswer::Refused(why) => no_rows(LengthsAnswer::Refused(why)),
-        LoadAnswer::Legal { shape, total } => {
-            let checked = check_words(store, total);
-            match checked {
-                StoreCheck::Refused(why) => no_rows(LengthsAnswer::Refused(why)),
-                StoreCheck::Sound => count_rows(netlist, &positions, &counts, shape, total, store),
-            }
-        }
-    }
+    let legal = load(netlist, &mut counts, &mut positions)?;
+    check_words(store, legal.total)?;
+    count_rows(
+        netlist,
+        &positions,
+        &counts,
+        legal.shape,
+        legal.total,
+        store,
+    )
 }

@@ -12,10 +12,8 @@ pub fn add_longer(sums: &mut [u64; 64], row: &[u64; 64], by: usize)
     requires { Room sums.old (longer by (λ l. get_or row.now l 0)) }
     ensures { sums.new ≡ added sums.old (longer by (λ l. get_or row.now l 0)) }
 {
-    let mut at = by;
-    while at < LENGTHS {
+    for at in by..LENGTHS {
         sums[at] = sums[at] + row[at - by];
-        at += 1;
     }
 }
 
@@ -24,10 +22,8 @@ pub fn add_difference(sums: &mut [u64; 64], high: &[u64; 64], low: &[u64; 64])
     requires { Room sums.old (λ l. get_or high.now l 0 - get_or low.now l 0) × Under low.now high.now }
     ensures { sums.new ≡ added sums.old (λ l. get_or high.now l 0 - get_or low.now l 0) }
 {
-    let mut at = 0;
-    while at < LENGTHS {
+    for at in 0..LENGTHS {
         sums[at] = sums[at] + (high[at] - low[at]);
-        at += 1;
     }
 }
 
@@ -37,10 +33,8 @@ pub fn row_sum(row: &[u64; 64]) -> u64
     ensures { result ≡ sum_of row.now }
 {
     let mut sum: u64 = 0;
-    let mut at = 0;
-    while at < LENGTHS {
-        sum += row[at];
-        at += 1;
+    for number in row {
+        sum += *number;
     }
     sum
 }

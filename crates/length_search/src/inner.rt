@@ -118,11 +118,9 @@ pub fn next_untested(
     let gates = wanted.gates;
     let runs = words.len() / 2;
     let mut at = wanted.from;
-    let mut i = 0;
-    while i < runs {
+    for i in 0..runs {
         let low = words[2 * i];
         let high = words[2 * i + 1];
-        i += 1;
         if high < at {
             continue;
         }

@@ -54,10 +54,8 @@ pub(crate) fn put_rows(
         × (result ≤ start + 8256) }
 {
     let mut at = start;
-    let mut i = 0;
-    while i < 64 {
+    for i in 0..64 {
         at = put_length(out, at, i, paths[i], rising[i], falling[i]);
-        i += 1;
     }
     at
 }

@@ -17,10 +17,8 @@ pub(crate) fn total_of(row: &[u64; 64]) -> u64
     ensures { result ≡ total row.now }
 {
     let mut sum: u64 = 0;
-    let mut i = 0;
-    while i < 64 {
-        sum = capped_sum(sum, row[i]);
-        i += 1;
+    for number in row {
+        sum = capped_sum(sum, *number);
     }
     sum
 }

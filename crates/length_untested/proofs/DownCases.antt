@@ -20,9 +20,9 @@ use Rattle.length_coverage.specs.LengthAnswers.{in_words, RunsRanked}
 use Rattle.length_search.specs.Untested.{Untested, next_untested_of, longest_from}
 use Rattle.length_search.specs.Tasks.{Looked, all_runs}
 use Rattle.length_search.specs.declared.inner.Search.{Search}
-use Rattle.length_untested.specs.LongestPaths.{longest_in, longest_of, Ready}
-use Rattle.length_untested.specs.declared.LongestAnswer.{LongestAnswer}
-use Rattle.length_untested.specs.declared.LongestAnswer.TheVariants as longest
+use Rattle.length_untested.specs.LongestPaths.{untested_of, longest_in, longest_of, Ready}
+use Rattle.length_untested.specs.declared.UntestedPath.{UntestedPath}
+use Rattle.std.specs.Prelude.{Option, Some, None, Ok, Err}
 use Rattle.length_untested.proofs.FullLengthLaws.{full-length, longest_none, longest_found}
 
 pub record Down (file ps cs : List ℕ) (shape : Shape) (rows : List (List ℕ)) (ws : List ℕ) (paths held : List ℕ) (total first begin gates from : ℕ)
@@ -68,9 +68,9 @@ module _ {file ps cs : List ℕ} {shape : Shape} {rows : List (List ℕ)} {ws : 
     legal : read_netlist file ≡ value C
     legal = d.runs.known.tables.legal
 
-    every : (x : Answer Untested) → x ≡ value (longest_from C (all_runs ws) first begin)
-        → (M : Netlist) → read_netlist file ≡ value M → x ≡ value (longest_from M (all_runs ws) first begin)
-    every x e M k = e ∙ ap (λ (K : Netlist). value (longest_from K (all_runs ws) first begin)) (value_inj (sym legal ∙ k))
+    every : (x : Untested) → x ≡ longest_from C (all_runs ws) first begin
+        → (M : Netlist) → read_netlist file ≡ value M → x ≡ longest_from M (all_runs ws) first begin
+    every x e M k = e ∙ ap (λ (K : Netlist). longest_from K (all_runs ws) first begin) (value_inj (sym legal ∙ k))
 
     pub down-short : gates < 64
     down-short = d.short
@@ -86,9 +86,9 @@ module _ {file ps cs : List ℕ} {shape : Shape} {rows : List (List ℕ)} {ws : 
 
     -- no length is left
     pub down-end : gates ≤ 0 → (M : Netlist) → read_netlist file ≡ value M
-        → longest_of longest.AllTested ≡ value (longest_from M (all_runs ws) first begin)
+        → untested_of None ≡ longest_from M (all_runs ws) first begin
     unfolding longest_from
-    down-end h = let z : 0 ≡ gates = omega arith in every (longest_of longest.AllTested) (ap (λ k. value (longest_from C (all_runs ws) k from)) z ∙ ap value d.whole)
+    down-end h = let z : 0 ≡ gates = omega arith in every (untested_of None) (ap (λ k. longest_from C (all_runs ws) k from) z ∙ d.whole)
 
     module _ (some : 0 < gates) where
       on : next_untested_of C (all_runs ws) gates from ≡ 0 → Down file ps cs shape rows ws paths held total first begin (gates - 1) 1
@@ -110,11 +110,11 @@ module _ {file ps cs : List ℕ} {shape : Shape} {rows : List (List ℕ)} {ws : 
         down-on h = on (sym (f C legal) ∙ h)
 
         pub down-found : (path ≡ 0 → ⊥) → (M : Netlist) → read_netlist file ≡ value M
-            → longest_of (longest.Found gates path) ≡ value (longest_from M (all_runs ws) first begin)
+            → untested_of (Some (record { gates = gates; path = path })) ≡ longest_from M (all_runs ws) first begin
         down-found n =
             let e : path ≡ next_untested_of C (all_runs ws) gates from = f C legal in
             let found = longest_found C (all_runs ws) gates from some (λ z. n (e ∙ z)) in
-            every (longest_of (longest.Found gates path)) (ap (λ (k : ℕ). value (record { gates = gates; path = k })) e ∙ ap value (sym found ∙ d.whole))
+            every (untested_of (Some (record { gates = gates; path = path }))) (ap (λ (k : ℕ). record { gates = gates; path = k }) e ∙ sym found ∙ d.whole)
 
 pub ruleset down-cases = (down-runs, down-start, down-short, down-end, down-full, down-on, down-found, rules)
 
@@ -146,20 +146,20 @@ module _ {file ps cs : List ℕ} {shape : Shape} {rows : List (List ℕ)} {ws : 
       rule_is = too_long K empty_store rising ∙ ap₂ eqb (sym (es ∙ ap sum_of paths-are)) (sym t.total_is)
 
       pub all-too_long : (sum ≡ wanted.total → ⊥) → (M : Netlist) → read_netlist file ≡ value M
-          → longest_of (longest.Refused why.PathTooLong) ≡ longest_in M (all_runs ws) wanted.gates wanted.from
+          → longest_of (Err why.PathTooLong) ≡ longest_in M (all_runs ws) wanted.gates wanted.from
       unfolding longest_in
       all-too_long ne M e =
           let no : (length_rule K).1 ≡ false = rule_is ∙ ne_eqb sum wanted.total ne in
           let here : refused 84 ≡ longest_in K (all_runs ws) wanted.gates wanted.from = rw no refl in
           here ∙ ap (λ (L : Netlist). longest_in L (all_runs ws) wanted.gates wanted.from) (value_inj (sym read ∙ e))
 
-      pub all_found : sum ≡ wanted.total → (r : LongestAnswer)
-          → ((M : Netlist) → read_netlist file ≡ value M → longest_of r ≡ value (longest_from M (all_runs ws) wanted.gates wanted.from))
-          → (M : Netlist) → read_netlist file ≡ value M → longest_of r ≡ longest_in M (all_runs ws) wanted.gates wanted.from
+      pub all_found : sum ≡ wanted.total → (r : Option UntestedPath)
+          → ((M : Netlist) → read_netlist file ≡ value M → untested_of r ≡ longest_from M (all_runs ws) wanted.gates wanted.from)
+          → (M : Netlist) → read_netlist file ≡ value M → longest_of (Ok r) ≡ longest_in M (all_runs ws) wanted.gates wanted.from
       unfolding longest_in
       all_found eq r f M e =
           let yes : (length_rule K).1 ≡ true = rule_is ∙ eq-eqb sum wanted.total eq in
           let here : value (longest_from K (all_runs ws) wanted.gates wanted.from) ≡ longest_in K (all_runs ws) wanted.gates wanted.from = rw yes refl in
-          f K read ∙ here ∙ ap (λ (L : Netlist). longest_in L (all_runs ws) wanted.gates wanted.from) (value_inj (sym read ∙ e))
+          ap value (f K read) ∙ here ∙ ap (λ (L : Netlist). longest_in L (all_runs ws) wanted.gates wanted.from) (value_inj (sym read ∙ e))
 
 pub ruleset all-cases = (all-ranked, all-long, all_fit, all-too_long, all_found, rules)

@@ -16,14 +16,9 @@ use Rattle.model.proofs.ReadLaws.{limits}
 use Rattle.netlist.specs.Answers.{LegalLoad, LoadTrue}
 use Rattle.netlist.specs.Tables.{SomeCircuit}
 use Rattle.netlist.specs.declared.inner.Shape.{Shape}
-use Rattle.netlist.specs.declared.inner.LoadAnswer.{LoadAnswer}
-use Rattle.netlist.specs.declared.inner.LoadAnswer.TheVariants as load
 use Rattle.netlist.proofs.LoadCases.{zeros-are}
-use Rattle.run_lists.specs.RunLists.{Sound, runs_in_words}
+use Rattle.run_lists.specs.RunLists.{runs_in_words}
 use Rattle.store_words.specs.Sound.{FewRuns, edge_words}
-use Rattle.store_words.specs.WordAnswers.{check_of}
-use Rattle.store_words.specs.declared.inner.StoreCheck.{StoreCheck}
-use Rattle.store_words.specs.declared.inner.StoreCheck.TheVariants as check
 use Rattle.store_words.proofs.SoundLaws.{sound-words}
 use Rattle.length_rows.specs.Lengths.{length_rule}
 use Rattle.length_ranks.specs.NetRows.{NetRows}
@@ -33,8 +28,10 @@ use Rattle.length_search.specs.Untested.{Untested, longest_from}
 use Rattle.length_search.specs.Tasks.{all_runs}
 use Rattle.length_search.specs.declared.inner.Search.{Search}
 use Rattle.length_untested.specs.LongestPaths.{begin_gates, begin_from, longest_in, longest_call, longest_of, Begins, Ready, Prepared}
-use Rattle.length_untested.specs.declared.LongestAnswer.{LongestAnswer}
-use Rattle.length_untested.specs.declared.LongestAnswer.TheVariants as longest
+use Rattle.length_untested.specs.declared.UntestedPath.{UntestedPath}
+use Rattle.std.specs.Prelude.{Option, Result, Ok, Err}
+use Rattle.netlist.specs.declared.inner.LegalNetlist.{LegalNetlist}
+use Rattle.model.specs.Returned.{answer_of}
 
 -- ---- where a search begins
 
@@ -100,75 +97,75 @@ module _ {file ps cs : List ℕ} {shape : Shape} {ws : List ℕ} {wanted : Searc
         let many : length (edge_words ws e) / 2 ≡ Rattle.model.specs.Store.run_count ws e = omega (arith, edge-words-fit ws e on-few) in
         ap all_runs ep ∙ ap (λ k. runs_in_words (edge_words ws e) 0 k) many ∙ edge-words-runs ws e
 
-    pub on-found : (r : LongestAnswer) → ((M : Netlist) → read_netlist file ≡ value M → longest_of r ≡ longest_in M (all_runs part) wanted.gates wanted.from)
+    pub on-found : (r : Result (Option UntestedPath) Refusal) → ((M : Netlist) → read_netlist file ≡ value M → longest_of r ≡ longest_in M (all_runs part) wanted.gates wanted.from)
         → (M : Netlist) → read_netlist file ≡ value M → longest_of r ≡ longest_in M (store_runs ws e) wanted.gates wanted.from
     on-found r f M k = f M k ∙ ap (λ (rs : List Run). longest_in M rs wanted.gates wanted.from) runs-are
 
 -- ---- the call
 
-module _ (file ws : List ℕ) (l : length ws ≡ store_words_count) (cs ps : List ℕ) (a : LoadAnswer) (la : LoadTrue a file cs ps) (shape : Shape) (total : ℕ)
-    (q : a ≡ load.Legal shape total) where
-  legal-load : LegalLoad file cs ps shape total
+module _ (file ws : List ℕ) (l : length ws ≡ store_words_count) (cs ps : List ℕ) (a : Result LegalNetlist Refusal) (la : LoadTrue a file cs ps) (l0 : LegalNetlist)
+    (q : a ≡ Ok l0) where
+  legal-load : LegalLoad file cs ps l0.shape l0.total
   legal-load = rw q at la
 
-  pub call-fit : total ≤ 2 ^ 62
+  pub call-fit : l0.total ≤ 2 ^ 62
   call-fit = omega (arith, legal-load.total_is, (limits file legal-load.circuit legal-load.tables.legal).total_fits)
 
-  pub call-prepared : (c : StoreCheck) → check_of c ≡ checks (store_rules total ws) → c ≡ check.Sound
-      → (gates from : ℕ) (wanted : Search) → wanted ≡ begun gates from total → Prepared file ps cs shape ws wanted
-  call-prepared c checked k gates from wanted ew = subst (λ (x : Search). Prepared file ps cs shape ws x) (sym ew)
+  pub call-prepared : (c : Result (Unit {0}) Refusal) → answer_of c ≡ checks (store_rules l0.total ws) → c ≡ Ok tt
+      → (gates from : ℕ) (wanted : Search) → wanted ≡ begun gates from l0.total → Prepared file ps cs l0.shape ws wanted
+  call-prepared c checked k gates from wanted ew = subst (λ (x : Search). Prepared file ps cs l0.shape ws x) (sym ew)
       (record {
         countable = record {
           circuit = legal-load.circuit;
           tables = legal-load.tables;
           total_is = legal-load.total_is;
-          sound = sound-words total ws l (sym (ap check_of k) ∙ checked);
+          sound = sound-words l0.total ws l (sym (ap answer_of k) ∙ checked);
         };
-        begins = begins gates from total;
+        begins = begins gates from l0.total;
       })
 
 module _ (file ws : List ℕ) (e : Edge) (gates from : ℕ) where
-  pub call-short : (length ws ≡ store_words_count → ⊥) → longest_of (longest.Refused why.StoreLength) ≡ longest_call file ws e gates from
+  pub call-short : (length ws ≡ store_words_count → ⊥) → longest_of (Err why.StoreLength) ≡ longest_call file ws e gates from
   unfolding longest_call
   call-short d = rw (ne_eqb (length ws) store_words_count d) refl
 
-  module _ (l : length ws ≡ store_words_count) (cs ps : List ℕ) (a : LoadAnswer) (la : LoadTrue a file cs ps) where
-    pub call-netlist : (w : Refusal) → a ≡ load.Refused w → longest_of (longest.Refused w) ≡ longest_call file ws e gates from
+  module _ (l : length ws ≡ store_words_count) (cs ps : List ℕ) (a : Result LegalNetlist Refusal) (la : LoadTrue a file cs ps) where
+    pub call-netlist : (w : Refusal) → a ≡ Err w → longest_of (Err w) ≡ longest_call file ws e gates from
     unfolding longest_call
     call-netlist w q =
         let n : read_netlist file ≡ refused (refusal_number_of w) = rw q at la in
         rw (eq-eqb (length ws) store_words_count l, n) refl
 
-    module _ (shape : Shape) (total : ℕ) (q : a ≡ load.Legal shape total) where
-      is : LegalLoad file cs ps shape total
+    module _ (l0 : LegalNetlist) (q : a ≡ Ok l0) where
+      is : LegalLoad file cs ps l0.shape l0.total
       is = rw q at la
 
       abbrev N : Netlist
       N = is.circuit
 
-      module _ (c : StoreCheck) (checked : check_of c ≡ checks (store_rules total ws)) where
-        on-words : longest_call file ws e gates from ≡ (check_of c then checks (length_rule N ∷ []) then value (longest_from N (store_runs ws e) (begin_gates gates) (begin_from gates from)))
+      module _ (c : Result (Unit {0}) Refusal) (checked : answer_of c ≡ checks (store_rules l0.total ws)) where
+        on-words : longest_call file ws e gates from ≡ (answer_of c then checks (length_rule N ∷ []) then value (longest_from N (store_runs ws e) (begin_gates gates) (begin_from gates from)))
         unfolding longest_call
         on-words =
             let found : Answer Untested = value (longest_from N (store_runs ws e) (begin_gates gates) (begin_from gates from)) in
-            let words : check_of c ≡ checks (store_rules (path_total N) ws) = checked ∙ ap (λ n. checks (store_rules n ws)) is.total_is in
+            let words : answer_of c ≡ checks (store_rules (path_total N) ws) = checked ∙ ap (λ n. checks (store_rules n ws)) is.total_is in
             let first : longest_call file ws e gates from ≡ (checks (store_rules (path_total N) ws ++ (length_rule N ∷ [])) then found) =
             rw (eq-eqb (length ws) store_words_count l, is.tables.legal) refl in
             first
             ∙ ap (λ (x : Answer (Unit {0})). x then found) (checks-both (store_rules (path_total N) ws) (length_rule N ∷ []))
             ∙ ap (λ (x : Answer (Unit {0})). x then checks (length_rule N ∷ []) then found) (sym words)
 
-        pub call-store : (w : Refusal) → c ≡ check.Refused w → longest_of (longest.Refused w) ≡ longest_call file ws e gates from
+        pub call-store : (w : Refusal) → c ≡ Err w → longest_of (Err w) ≡ longest_call file ws e gates from
         call-store w k =
-            sym (on-words ∙ ap (λ (x : StoreCheck). check_of x then checks (length_rule N ∷ []) then value (longest_from N (store_runs ws e) (begin_gates gates) (begin_from gates from))) k)
+            sym (on-words ∙ ap (λ (x : Result (Unit {0}) Refusal). answer_of x then checks (length_rule N ∷ []) then value (longest_from N (store_runs ws e) (begin_gates gates) (begin_from gates from))) k)
 
-        module _ (k : c ≡ check.Sound) (wanted : Search) (ew : wanted ≡ begun gates from total) where
-          pub call-found : (r : LongestAnswer) → ((M : Netlist) → read_netlist file ≡ value M → longest_of r ≡ longest_in M (store_runs ws e) wanted.gates wanted.from)
+        module _ (k : c ≡ Ok tt) (wanted : Search) (ew : wanted ≡ begun gates from l0.total) where
+          pub call-found : (r : Result (Option UntestedPath) Refusal) → ((M : Netlist) → read_netlist file ≡ value M → longest_of r ≡ longest_in M (store_runs ws e) wanted.gates wanted.from)
               → longest_of r ≡ longest_call file ws e gates from
           unfolding longest_in
           call-found r f =
               f N is.tables.legal
               ∙ ap (λ (x : Search). longest_in N (store_runs ws e) x.gates x.from) ew
-              ∙ sym (on-words ∙ ap (λ (x : StoreCheck). check_of x then checks (length_rule N ∷ []) then value (longest_from N (store_runs ws e) (begin_gates gates) (begin_from gates from))) k)
+              ∙ sym (on-words ∙ ap (λ (x : Result (Unit {0}) Refusal). answer_of x then checks (length_rule N ∷ []) then value (longest_from N (store_runs ws e) (begin_gates gates) (begin_from gates from))) k)
 
 pub ruleset call-cases = (zeros-are, call-short, call-netlist, call-fit, call-store, call-prepared, call-found, rules)

@@ -1,21 +1,21 @@
 -- The longest paths whose fault of an edge a store does not hold, one after the other: those of the greatest length first, those of one length by
 -- their numbers.
-use Rattle.std.specs.Prelude.{◌≡◌, true, false, List, [], ◌∷◌, ◌++◌, ℕ, ◌≤◌, ◌<◌, leb}
-use Rattle.model.specs.Base.{Answer, refused, value, ◌into◌, ◌then◌, checks}
+use Rattle.std.specs.Prelude.{Option, Some, None, Result, ◌≡◌, true, false, List, [], ◌∷◌, ◌++◌, ℕ, ◌≤◌, ◌<◌, leb}
+use Rattle.model.specs.Base.{Answer, value, ◌into◌, ◌then◌, checks}
 use Rattle.model.specs.Netlist.{Netlist, path_total}
 use Rattle.model.specs.Path.{Edge}
 use Rattle.model.specs.Runs.{Run}
 use Rattle.model.specs.Read.{read_netlist}
 use Rattle.model.specs.Store.{store_runs, store_rules}
 use Rattle.model.specs.Calls.{store_rule}
-use Rattle.model.specs.Refusals.{refusal_number_of}
+use Rattle.model.specs.Returned.{answer_by}
+use Rattle.model.specs.declared.Refusal.{Refusal}
 use Rattle.netlist.specs.declared.inner.Shape.{Shape}
 use Rattle.length_rows.specs.Lengths.{lengths, length_rule}
 use Rattle.length_coverage.specs.LengthAnswers.{RunsRanked, Countable}
 use Rattle.length_search.specs.Untested.{Untested, no_untested, longest_from}
 use Rattle.length_search.specs.declared.inner.Search.{Search}
-use Rattle.length_untested.specs.declared.LongestAnswer.{LongestAnswer}
-use Rattle.length_untested.specs.declared.LongestAnswer.TheVariants as longest
+use Rattle.length_untested.specs.declared.UntestedPath.{UntestedPath}
 
 -- where the search begins: no path has more than 63 gates, and none has number 0
 abbrev pub begin_gates : ℕ → ℕ
@@ -39,11 +39,14 @@ longest_call netlist ws e gates from =
     into λ N. checks (store_rules (path_total N) ws ++ (length_rule N ∷ []))
     then value (longest_from N (store_runs ws e) (begin_gates gates) (begin_from gates from))
 
+-- the path that the code found, or that there is none
+abbrev pub untested_of : Option UntestedPath → Untested
+untested_of (Some p) = record { gates = p.gates; path = p.path }
+untested_of None = no_untested
+
 -- the papers' number of a refusal, or the path
-abbrev pub longest_of : LongestAnswer → Answer Untested
-longest_of (longest.Found g p) = value (record { gates = g; path = p })
-longest_of longest.AllTested = value no_untested
-longest_of (longest.Refused w) = refused (refusal_number_of w)
+abbrev pub longest_of : Result (Option UntestedPath) Refusal → Answer Untested
+longest_of = answer_by untested_of
 
 -- a place at which a search can begin
 pub record Begins (wanted : Search) : Type 0 where

@@ -6,9 +6,9 @@ ghost use Rattle.model.specs.Read.{read_netlist};
 ghost use Rattle.length_rows.specs.Lengths.{length_rule, row, paths_up_to};
 ghost use Rattle.length_search.specs.Untested.{longest_from};
 ghost use Rattle.length_search.specs.Tasks.{all_runs};
-ghost use Rattle.length_untested.specs.LongestPaths.{longest_of, longest_in, Ready};
+ghost use Rattle.length_untested.specs.LongestPaths.{untested_of, longest_of, longest_in, Ready};
 
-use crate::LongestAnswer;
+use crate::UntestedPath;
 use length_coverage::inner::held::held_row;
 use length_ranks::inner::ranks::rank_row;
 use length_rows::inner::row_sum;
@@ -26,31 +26,28 @@ fn search_down(
     words: &[u64],
     wanted: Search,
     paths: &[u64; 64],
-) -> LongestAnswer
+) -> Option<UntestedPath>
     requires { Ready netlist.now positions.now counts.now shape rows.now words.now wanted
         × ((N : Netlist) → read_netlist netlist.now ≡ value N → paths.now ≡ row (λ l. paths_up_to N l wanted.total)) }
     ensures { (N : Netlist) → read_netlist netlist.now ≡ value N
-        → longest_of result ≡ value (longest_from N (all_runs words.now) wanted.gates wanted.from) }
+        → untested_of result ≡ longest_from N (all_runs words.now) wanted.gates wanted.from }
 {
     let held = held_row(netlist, positions, counts, rows, shape, words);
     let total = wanted.total;
-    let mut gates = wanted.gates;
     let mut from = wanted.from;
-    while 0 < gates {
+    for gates in (1..=wanted.gates).rev() {
         if paths[gates] == held[gates] {
-            gates -= 1;
             from = 1;
             continue;
         }
         let here = Search { gates, from, total };
         let path = next_untested(netlist, positions, counts, rows, shape, words, here);
         if path != 0 {
-            return LongestAnswer::Found { gates, path };
+            return Some(UntestedPath { gates, path });
         }
-        gates -= 1;
         from = 1;
     }
-    LongestAnswer::AllTested
+    None
 }
 
 // The path, from the rows of the nets. The paths of at most 63 gates are all paths, or one is too long.
@@ -62,7 +59,7 @@ pub(crate) fn longest_rows(
     shape: Shape,
     words: &[u64],
     wanted: Search,
-) -> LongestAnswer
+) -> Result<Option<UntestedPath>, Refusal>
     requires { Ready netlist.now positions.now counts.now shape rows.now words.now wanted }
     ensures { (N : Netlist) → read_netlist netlist.now ≡ value N
         → longest_of result ≡ longest_in N (all_runs words.now) wanted.gates wanted.from }
@@ -70,9 +67,9 @@ pub(crate) fn longest_rows(
     let paths = rank_row(netlist, positions, counts, rows, shape, wanted.total);
     let short = row_sum(&paths);
     if short != wanted.total {
-        return LongestAnswer::Refused(Refusal::PathTooLong);
+        return Err(Refusal::PathTooLong);
     }
-    search_down(
+    Ok(search_down(
         netlist, positions, counts, rows, shape, words, wanted, &paths,
-    )
+    ))
 }

@@ -14,17 +14,16 @@ use crate::downward::longest_rows;
 use length_ranks::inner::net_rows::fill_rows;
 use length_search::inner::Search;
 use model::{Refusal, STORE_WORDS};
-use netlist::inner::{LoadAnswer, Shape, load};
+use netlist::inner::{Shape, load};
 use path_faults::{Edge, PathNo};
+use store_words::inner::check_words;
 use store_words::inner::parts::edge_runs;
-use store_words::inner::{StoreCheck, check_words};
 
-// An untested path by its length and number, or that all from there on are tested.
-#[derive(Drop)]
-pub enum LongestAnswer {
-    Found { gates: usize, path: u64 },
-    AllTested,
-    Refused(Refusal),
+// An untested path: its length and its number.
+#[derive(Clone, Copy)]
+pub struct UntestedPath {
+    pub gates: usize,
+    pub path: u64,
 }
 
 // Where a search begins.
@@ -48,7 +47,7 @@ fn begin_at(gates: usize, from: u64, total: u64) -> Search
     Search { gates, from, total }
 }
 
-// The path, once the netlist's tables are made and the store is known to be sound.
+// The path, or that all from there on are tested, once the netlist's tables are made and the store is known to be sound.
 fn longest_on(
     netlist: &[u8],
     positions: &[u16; 512],
@@ -57,7 +56,7 @@ fn longest_on(
     store: &[u64],
     edge: Edge,
     wanted: Search,
-) -> LongestAnswer
+) -> Result<Option<UntestedPath>, Refusal>
     requires { Prepared netlist.now positions.now counts.now shape store.now wanted }
     ensures { (N : Netlist) → read_netlist netlist.now ≡ value N
         → longest_of result ≡ longest_on_of N store.now (model_edge edge) wanted.gates wanted.from }
@@ -68,7 +67,7 @@ fn longest_on(
     longest_rows(netlist, positions, counts, &rows, shape, words, wanted)
 }
 
-// The first path of `gates` gates from number `from` on whose fault of an edge a store does not hold, else the first one of the greatest length below.
+// The first path of `gates` gates from number `from` on whose fault of an edge a store does not hold, else the first one of the greatest length below; none where all of those are held.
 // From 63 gates and number 1 on it is the first of the longest untested paths; from its own length and the number after its own on, the next one.
 pub fn longest_untested(
     netlist: &[u8],
@@ -76,26 +75,24 @@ pub fn longest_untested(
     edge: Edge,
     gates: usize,
     from: PathNo,
-) -> LongestAnswer
+) -> Result<Option<UntestedPath>, Refusal>
     ensures { longest_of result ≡ longest_call netlist.now store.now (model_edge edge) gates from.0 }
 {
     if store.len() != STORE_WORDS {
-        return LongestAnswer::Refused(Refusal::StoreLength);
+        return Err(Refusal::StoreLength);
     }
     let mut counts = [0u64; 512];
     let mut positions = [0u16; 512];
-    let answer = load(netlist, &mut counts, &mut positions);
-    match answer {
-        LoadAnswer::Refused(why) => LongestAnswer::Refused(why),
-        LoadAnswer::Legal { shape, total } => {
-            let checked = check_words(store, total);
-            match checked {
-                StoreCheck::Refused(why) => LongestAnswer::Refused(why),
-                StoreCheck::Sound => {
-                    let wanted = begin_at(gates, from.0, total);
-                    longest_on(netlist, &positions, &counts, shape, store, edge, wanted)
-                }
-            }
-        }
-    }
+    let legal = load(netlist, &mut counts, &mut positions)?;
+    check_words(store, legal.total)?;
+    let wanted = begin_at(gates, from.0, legal.total);
+    longest_on(
+        netlist,
+        &positions,
+        &counts,
+        legal.shape,
+        store,
+        edge,
+        wanted,
+    )
 }

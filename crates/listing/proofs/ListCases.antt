@@ -1,13 +1,14 @@
 -- What the listing program's functions need of each other: the first line with a legal netlist's tables, and an empty store.
-use Rattle.model.proofs.Prelude.{ℕ, ◌≤◌, ◌≡◌, sym, subst, true, List, length, take, replicate, rules}
+use Rattle.model.proofs.Prelude.{ℕ, ◌≤◌, ◌≡◌, sym, subst, List, length, take, replicate, rules}
 use Rattle.model.specs.Store.{store_words_count, empty_store}
 use Rattle.model.specs.Calls.{work_words_count}
 use Rattle.netlist.specs.Tables.{SomeTables}
 use Rattle.netlist.specs.declared.inner.Loaded.{Loaded}
 use Rattle.store_coverage.specs.Stage.{MemoryReady}
 use Rattle.audit_block.proofs.MemoryLaws.{emptied, empty-memory}
-use Rattle.listing_head.specs.ListingHead.{HeadTrue}
+use Rattle.listing_head.specs.ListingHead.{HeadTables, HeadTrue}
 use Rattle.listing_head.specs.declared.inner.Head.{Head}
+use Rattle.std.specs.Prelude.{Option, Some}
 use Rattle.listing_text.specs.StoreText.{out_bytes}
 use Rattle.listing_blocks.specs.Answers.{ListReady}
 use Rattle.testfile_reading.proofs.ReadPieceLaws.{part_length}
@@ -17,8 +18,8 @@ module _ {r : Head} {netlist : List ℕ} {class : ℕ} {out out' : List ℕ} (t 
   pub head-length : r.end ≡ length (take r.end out')
   head-length = part_length r.end out' t.line.inside
 
-  pub head-tables : r.passed ≡ true → SomeTables netlist r.tables.positions r.tables.counts r.tables.shape
-  head-tables p = t.tables_are p
+  pub head-tables : (d : Loaded) → r.tables ≡ Some d → SomeTables netlist d.positions d.counts d.shape
+  head-tables d p = (subst (λ (x : Option Loaded). HeadTables x netlist class) p t.tables_are).1
 
 -- a store that was emptied
 pub store-empty : (ws₀ ws : List ℕ) → length ws₀ ≡ store_words_count → ws ≡ replicate (length ws₀) 0 → ws ≡ empty_store

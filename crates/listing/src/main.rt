@@ -118,9 +118,10 @@ fn list_circuit<R: Env + Files<File = File>>(
     let head = put_head(netlist, class, &mut out);
     let end = head.end;
     print(STDOUT_FILENO, &out[..end]);
-    if head.passed {
-        let tables = head.tables;
-        list(rt, stdout, stderr, netlist, tables, class, &mut out);
+    let passed = head.tables;
+    match passed {
+        Some(tables) => list(rt, stdout, stderr, netlist, tables, class, &mut out),
+        None => {}
     }
 }
 

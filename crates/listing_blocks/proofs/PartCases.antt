@@ -11,8 +11,6 @@ use Rattle.model.specs.Calls.{FaultCounts}
 use Rattle.model.specs.Refusals.{refusal_number_of}
 use Rattle.model.specs.declared.Refusal.{Refusal}
 use Rattle.model.specs.declared.Refusal.TheVariants as why
-use Rattle.record_test.specs.declared.inner.RecordAnswer.{RecordAnswer}
-use Rattle.record_test.specs.declared.inner.RecordAnswer.TheVariants as record-answer
 use Rattle.store_coverage.specs.Stage.{MemoryReady, work_stage}
 use Rattle.store_coverage.specs.TestCall.{returned_by}
 use Rattle.block_words.specs.Block.{BlockOf}
@@ -27,6 +25,7 @@ use Rattle.audit_block.proofs.VectorCases.{marked-at, still_ready}
 use Rattle.audit_block.proofs.BlockTakeCases.{block-some, batch, read_of, block-records, read-tests, read-ready}
 use Rattle.listing_blocks.specs.BlockLines.{NextIs, PartListed, PartDone}
 use Rattle.listing_blocks.proofs.BlockLineLaws.{part-legal, part-refused, memory-at}
+use Rattle.std.specs.Prelude.{Result, Ok, Err}
 
 -- a word put after the answers of n records leaves them
 says-kept : (answers : List ℕ) (n k t : ℕ) (x : Answer FaultCounts) → n ≤ 64 → t < n → SaysAt answers t x → SaysAt (set answers (128 + n) k) t x
@@ -44,25 +43,25 @@ short-refused : (N : Netlist) (rec : List ℕ) → length rec < record_length N 
 short-refused N rec h = rw (ne_eqb (length rec) (record_length N) (λ e. omega (arith, e))) refl
 
 -- what is said of the record after those of a block
-clash : {w : Refusal} → ◌≡◌ {A = RecordAnswer} record-answer.Legal (record-answer.Refused w) → ⊥
+clash : {w : Refusal} → ◌≡◌ {A = (Result (Unit {0}) Refusal)} (Ok tt) (Err w) → ⊥
 clash e = let z : ◌≡◌ {A = ℕ} 0 1 = cc in omega arith
 
-same-refusal : {v w : Refusal} → ◌≡◌ {A = RecordAnswer} (record-answer.Refused v) (record-answer.Refused w) → v ≡ w
+same-refusal : {v w : Refusal} → ◌≡◌ {A = (Result (Unit {0}) Refusal)} (Err v) (Err w) → v ≡ w
 same-refusal e = cc
 
-module _ {after : RecordAnswer} {n used len : ℕ} where
-  pub next-none : (64 ≤ n) ⊎ (len ≤ used) → NextIs after n used len record-answer.Legal
+module _ {after : (Result (Unit {0}) Refusal)} {n used len : ℕ} where
+  pub next-none : (64 ≤ n) ⊎ (len ≤ used) → NextIs after n used len (Ok tt)
   next-none h = record { none = λ e. h; some = λ w e. absurd (clash e) }
 
-  pub next-some : {w : Refusal} → n < 64 → (after ≡ record-answer.Refused w) ⊎ ((after ≡ record-answer.Legal) × (used < len) × (w ≡ why.RecordLength))
-      → NextIs after n used len (record-answer.Refused w)
+  pub next-some : {w : Refusal} → n < 64 → (after ≡ Err w) ⊎ ((after ≡ Ok tt) × (used < len) × (w ≡ why.RecordLength))
+      → NextIs after n used len (Err w)
   next-some f h = record {
     none = λ e. absurd (clash (sym e));
-    some = λ v e. (f, subst (λ (x : Refusal). (after ≡ record-answer.Refused x) ⊎ ((after ≡ record-answer.Legal) × (used < len) × (x ≡ why.RecordLength))) (same-refusal e) h);
+    some = λ v e. (f, subst (λ (x : Refusal). (after ≡ Err x) ⊎ ((after ≡ Ok tt) × (used < len) × (x ≡ why.RecordLength))) (same-refusal e) h);
   }
 
 module _ {table offsets : List ℕ} {numbers : FileNumbers} {risingLists fallingLists ws work : List ℕ} (s : BlocksReady table offsets numbers risingLists fallingLists ws work) where
-  module _ {part vectors : List ℕ} {n : ℕ} {after : RecordAnswer} (read : (N : Netlist) → N.inputs ≡ numbers.inputs → BlockRead N part vectors n after) where
+  module _ {part vectors : List ℕ} {n : ℕ} {after : (Result (Unit {0}) Refusal)} (read : (N : Netlist) → N.inputs ≡ numbers.inputs → BlockRead N part vectors n after) where
     abbrev c : Class
     c = class_of numbers.class
 
@@ -127,9 +126,9 @@ module _ {table offsets : List ℕ} {numbers : FileNumbers} {risingLists falling
               (subst (λ (l : ℕ). PartListed N c part ws (store_at N (test_at N c part) n ws) answers' n (l * n)) (sym (length-is eb N t))
               (part-legal N c part ws m n b.whole b.legal answers' each n (omega arith)))
 
-        module _ {next : RecordAnswer} (nx : NextIs after n (bytes * n) (length part) next) where
+        module _ {next : (Result (Unit {0}) Refusal)} (nx : NextIs after n (bytes * n) (length part) next) where
           -- none after them
-          pub part-ended : next ≡ record-answer.Legal
+          pub part-ended : next ≡ Ok tt
               → PartDone (record { lines = n; used = bytes * n; answers = answers }) table offsets numbers part risingLists risingLists' fallingLists fallingLists' ws ws' work work'
           unfolding k
           part-ended e = record {
@@ -143,18 +142,18 @@ module _ {table offsets : List ℕ} {numbers : FileNumbers} {risingLists falling
           }
 
           -- the one after them is refused
-          module _ {w : Refusal} (e : next ≡ record-answer.Refused w) where
+          module _ {w : Refusal} (e : next ≡ Err w) where
             next-few : n < 64
             next-few = (nx.some w e).0
 
             begins : bytes * n < length part
             begins =
-                ⊎_elim (λ (q : after ≡ record-answer.Refused w).
+                ⊎_elim (λ (q : after ≡ Err w).
                 let l : record_length s.netlist * (n + 1) ≤ length part = ((read_of s read s.netlist s.tables).refuses w q).0 in
                 let more : record_length s.netlist * (n + 1) ≡ record_length s.netlist * n + record_length s.netlist = mul_add_one (record_length s.netlist) n in
                 let same : bytes * n ≡ record_length s.netlist * n = ap (λ (x : ℕ). x * n) (length-is eb s.netlist s.tables) in
                 omega (arith, four eb, length-is eb s.netlist s.tables))
-                (λ (q : (after ≡ record-answer.Legal) × (bytes * n < length part) × (w ≡ why.RecordLength)). q.1) (nx.some w e).1
+                (λ (q : (after ≡ Ok tt) × (bytes * n < length part) × (w ≡ why.RecordLength)). q.1) (nx.some w e).1
 
             module _ {used : ℕ} (eu : used ≡ min (bytes * n + bytes) (length part)) where
               refuses : (N : Netlist) → BlockTables N table offsets numbers → checks (test_rules N (take (used - bytes * n) (drop (bytes * n) part))) ≡ refused (refusal_number_of w)
@@ -162,11 +161,11 @@ module _ {table offsets : List ℕ} {numbers : FileNumbers} {risingLists falling
                   let same : bytes * n ≡ record_length N * n = ap (λ (x : ℕ). x * n) (length-is eb N t) in
                   let more : record_length N * (n + 1) ≡ record_length N * n + record_length N = mul_add_one (record_length N) n in
                   let l : bytes ≡ record_length N = length-is eb N t in
-                  ⊎_elim (λ (q : after ≡ record-answer.Refused w).
+                  ⊎_elim (λ (q : after ≡ Err w).
                   let z = (read_of s read N t).refuses w q in
                   let whole : used - bytes * n ≡ record_length N = omega (arith, eu, z.0) in
                   ap₂ (λ (x y : ℕ). checks (test_rules N (take x (drop y part)))) whole same ∙ z.1)
-                  (λ (q : (after ≡ record-answer.Legal) × (bytes * n < length part) × (w ≡ why.RecordLength)).
+                  (λ (q : (after ≡ Ok tt) × (bytes * n < length part) × (w ≡ why.RecordLength)).
                   let short : length part < record_length N * (n + 1) =
                   ⊎_elim (λ (a : n ≡ 64). absurd (omega (arith, next-few, a))) (λ (a : length part < record_length N * (n + 1)). a) ((read_of s read N t).ended q.0) in
                   let few : length (take (used - bytes * n) (drop (bytes * n) part)) ≤ used - bytes * n =

@@ -5,8 +5,6 @@ use Rattle.model.specs.Detect.{Class}
 use Rattle.model.specs.Read.{class_of}
 use Rattle.model.specs.declared.Refusal.{Refusal}
 use Rattle.model.specs.declared.Refusal.TheVariants as why
-use Rattle.record_test.specs.declared.inner.RecordAnswer.{RecordAnswer}
-use Rattle.record_test.specs.declared.inner.RecordAnswer.TheVariants as record-answer
 use Rattle.store_coverage.specs.Stage.{MemoryReady}
 use Rattle.audit_block.specs.FileBlocks.{BlockTables, RoomKept}
 use Rattle.audit_block.specs.declared.inner.FileNumbers.{FileNumbers}
@@ -15,12 +13,13 @@ use Rattle.listing_text.specs.Listing.{record_lines, store_after_all, listed_rec
 use Rattle.listing_blocks.specs.Answers.{Begun, WentOn, ListedTo}
 use Rattle.listing_blocks.specs.declared.inner.Listed.{Listed}
 use Rattle.listing_blocks.specs.declared.blocks.PartAnswers.{PartAnswers}
+use Rattle.std.specs.Prelude.{Result, Ok, Err}
 
 -- what is said of the record after those of a block, from what reading it yielded
-pub record NextIs (after : RecordAnswer) (records used len : ℕ) (r : RecordAnswer) : Type 0 where
-  pub none : r ≡ record-answer.Legal → (64 ≤ records) ⊎ (len ≤ used)
-  pub some : (w : Refusal) → r ≡ record-answer.Refused w
-      → (records < 64) × ((after ≡ record-answer.Refused w) ⊎ ((after ≡ record-answer.Legal) × (used < len) × (w ≡ why.RecordLength)))
+pub record NextIs (after : Result (Unit {0}) Refusal) (records used len : ℕ) (r : Result (Unit {0}) Refusal) : Type 0 where
+  pub none : r ≡ Ok tt → (64 ≤ records) ⊎ (len ≤ used)
+  pub some : (w : Refusal) → r ≡ Err w
+      → (records < 64) × ((after ≡ Err w) ⊎ ((after ≡ Ok tt) × (used < len) × (w ≡ why.RecordLength)))
 
 -- the first n records of a part are in its bytes before byte `used`: their lines, then those of the others on the store so far, give the whole
 pub record PartListed (N : Netlist) (c : Class) (part ws ws' answers : List ℕ) (n used : ℕ) : Type 0 where

@@ -14,7 +14,7 @@ use block_words::inner::layout::{GATE_TABLE_SIZE, LISTS_SIZE};
 use listing_lines::inner::put_lines;
 use model::Refusal;
 use model_refusals::refusal_number;
-use record_test::inner::{RecordAnswer, record_length};
+use record_test::inner::record_length;
 
 // The records with which a part of a piece begins: their number, their bytes, and the words of their answers, as a block's answers have them.
 #[derive(Drop)]
@@ -25,21 +25,22 @@ pub struct PartAnswers {
 }
 
 // Why the record after those of a block is refused: by its checks, or for it is short. Legal where none begins or the block is full.
-fn next_answer(after: RecordAnswer, records: usize, used: usize, length: usize) -> RecordAnswer
+fn next_answer(
+    after: Result<(), Refusal>,
+    records: usize,
+    used: usize,
+    length: usize,
+) -> Result<(), Refusal>
     ensures { NextIs after records used length result }
 {
     if 64 <= records {
-        return RecordAnswer::Legal;
+        return Ok(());
     }
-    match after {
-        RecordAnswer::Refused(why) => RecordAnswer::Refused(why),
-        RecordAnswer::Legal => {
-            if used < length {
-                return RecordAnswer::Refused(Refusal::RecordLength);
-            }
-            RecordAnswer::Legal
-        }
+    after?;
+    if used < length {
+        return Err(Refusal::RecordLength);
     }
+    Ok(())
 }
 
 // The test stage with the records of a block, with which a part of a piece begins, and with the one after them where that is refused.
@@ -75,7 +76,7 @@ pub(crate) fn count_part(
     let after = read.after;
     let next = next_answer(after, records, bytes * records, part.len());
     match next {
-        RecordAnswer::Refused(why) => {
+        Err(why) => {
             answers[128 + records] = refusal_number(why) as u64;
             let used = record_end(bytes * records, bytes, part.len());
             let lines = records + 1;
@@ -85,7 +86,7 @@ pub(crate) fn count_part(
                 answers,
             }
         }
-        RecordAnswer::Legal => {
+        Ok(()) => {
             let used = bytes * records;
             let lines = records;
             PartAnswers {

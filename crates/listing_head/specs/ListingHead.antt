@@ -6,18 +6,16 @@ use Rattle.model.specs.Netlist.{Netlist, path_total}
 use Rattle.model.specs.Detect.{Class}
 use Rattle.model.specs.Read.{read_netlist, class_rule}
 use Rattle.model.specs.Store.{empty_store}
+use Rattle.model.specs.Refusals.{refusal_number_of}
+use Rattle.model.specs.declared.Refusal.{Refusal}
+use Rattle.netlist.specs.Answers.{LegalLoad}
 use Rattle.netlist.specs.Tables.{SomeTables}
+use Rattle.netlist.specs.declared.inner.Loaded.{Loaded}
 use Rattle.text_buffer.specs.Written.{Written}
 use Rattle.listing_lines.specs.ListingLines.{paths_line, refused_line_of}
 use Rattle.listing_text.specs.Listing.{record_lines, store_after_all, listed_records, store_lines}
 use Rattle.listing_head.specs.declared.inner.Head.{Head}
-
--- what the class's place answers, and two places in turn
-abbrev pub class_answer_of : ℕ → Answer (Unit {0})
-class_answer_of class = checks (class_rule class ∷ [])
-
-abbrev pub in_turn : Answer (Unit {0}) → Answer (Unit {0}) → Answer (Unit {0})
-in_turn first second = first then second
+use Rattle.std.specs.Prelude.{Result, Ok, Err, Option, Some, None}
 
 -- what the places before the test file answer: the netlist's checks, then the class
 abbrev pub listed_netlist : List ℕ → ℕ → Answer Netlist
@@ -39,8 +37,21 @@ abbrev pub is_passed : Answer Netlist → Bool
 is_passed (refused number) = false
 is_passed (value N) = true
 
--- The first line stands at the start of the buffer and nothing else is written; where lines follow, the tables are those of the netlist
+-- the tables of a netlist that passes, in a class that passes; else the first refusal of the two
+pub record PassedTables (netlist : List ℕ) (class : ℕ) (t : Loaded) : Type 0 where
+  pub load : LegalLoad netlist t.counts t.positions t.shape t.total
+  pub is : listed_netlist netlist class ≡ value load.circuit
+
+abbrev pub ListedTrue : Result Loaded Refusal → List ℕ → ℕ → Type 0
+ListedTrue (Ok t) netlist class = PassedTables netlist class t
+ListedTrue (Err w) netlist class = listed_netlist netlist class ≡ refused (refusal_number_of w)
+
+-- there are tables where lines follow, and they are those of the netlist
+abbrev pub HeadTables : Option Loaded → List ℕ → ℕ → Type 0
+HeadTables (Some t) netlist class = (is_passed (listed_netlist netlist class) ≡ true) × SomeTables netlist t.positions t.counts t.shape
+HeadTables None netlist class = is_passed (listed_netlist netlist class) ≡ false
+
+-- The first line stands at the start of the buffer and nothing else is written
 pub record HeadTrue (r : Head) (netlist : List ℕ) (class : ℕ) (out out' : List ℕ) : Type 0 where
   pub line : Written out out' 0 (head_line (listed_netlist netlist class)) r.end
-  pub passed_is : r.passed ≡ is_passed (listed_netlist netlist class)
-  pub tables_are : r.passed ≡ true → SomeTables netlist r.tables.positions r.tables.counts r.tables.shape
+  pub tables_are : HeadTables r.tables netlist class

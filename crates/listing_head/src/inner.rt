@@ -1,40 +1,28 @@
 // A caller proves what a function requires.
-ghost use Rattle.std.specs.Prelude.{◌≡◌, ◌≤◌, length};
-ghost use Rattle.netlist.specs.Answers.{answer_of};
-ghost use Rattle.listing_head.specs.ListingHead.{class_answer_of, in_turn, HeadTrue};
+ghost use Rattle.std.specs.Prelude.{◌≤◌, length};
+ghost use Rattle.listing_head.specs.ListingHead.{ListedTrue, HeadTrue};
 
 use listing_lines::inner::{put_paths, put_refusal};
 use model::{Refusal, known_class};
-use netlist::SurveyAnswer;
 use netlist::inner::{Loaded, load_by_value};
 
-// The first line of a listing: the netlist's tables, where the line ends in the buffer, and whether netlist and class passed, so that others follow it.
+// The first line of a listing: where it ends in the buffer, and the netlist's tables where netlist and class passed, so that others follow it.
 #[derive(Drop)]
 pub struct Head {
-    pub tables: Loaded,
     pub end: usize,
-    pub passed: bool,
+    pub tables: Option<Loaded>,
 }
 
-// Class 1 or 2, or the refusal of any other.
-fn class_answer(class: u32) -> SurveyAnswer
-    ensures { answer_of result ≡ class_answer_of class }
+// The tables of a netlist whose checks pass and then the class.
+fn listed_tables(netlist: &[u8], class: u32) -> Result<Loaded, Refusal>
+    ensures { ListedTrue result netlist.now class }
 {
+    let tables = load_by_value(netlist)?;
     let known = known_class(class);
-    if known {
-        return SurveyAnswer::Legal;
+    if !known {
+        return Err(Refusal::UnknownClass);
     }
-    SurveyAnswer::Refused(Refusal::UnknownClass)
-}
-
-// Two answers in turn: the first refusal of the two.
-fn in_turn(first: SurveyAnswer, second: SurveyAnswer) -> SurveyAnswer
-    ensures { answer_of result ≡ in_turn (answer_of first) (answer_of second) }
-{
-    match first {
-        SurveyAnswer::Refused(why) => SurveyAnswer::Refused(why),
-        SurveyAnswer::Legal => second,
-    }
+    Ok(tables)
 }
 
 // Puts the first line of the listing on a netlist in a class at the start of a buffer. The netlist's checks come before the class.
@@ -42,19 +30,15 @@ pub fn put_head(netlist: &[u8], class: u32, out: &mut [u8]) -> Head
     requires { 29 ≤ length out.old }
     ensures { HeadTrue result netlist.now class out.old out.new }
 {
-    let tables = load_by_value(netlist);
-    let read = tables.answer;
-    let answer = in_turn(read, class_answer(class));
-    match answer {
-        SurveyAnswer::Refused(why) => Head {
-            tables,
+    let listed = listed_tables(netlist, class);
+    match listed {
+        Err(why) => Head {
             end: put_refusal(out, 0, why),
-            passed: false,
+            tables: None,
         },
-        SurveyAnswer::Legal => Head {
-            tables,
+        Ok(tables) => Head {
             end: put_paths(out, tables.total),
-            passed: true,
+            tables: Some(tables),
         },
     }
 }

@@ -69,8 +69,7 @@ pub fn put_lines(
 {
     let mut at = start;
     let mut place = first;
-    let mut t = 0;
-    while t < lines {
+    for t in 0..lines {
         at = put_line(
             out,
             at,
@@ -80,7 +79,6 @@ pub fn put_lines(
             answers[128 + t],
         );
         place += 1;
-        t += 1;
     }
     at
 }

@@ -34,12 +34,8 @@ fn put_runs(out: &mut [u8], start: usize, letter: &[u8], runs: &[u64]) -> usize
         × (result ≤ start + 44 * (length runs.now / 2)) }
 {
     let mut at = start;
-    let mut place = 0;
-    let mut left = runs.len() / 2;
-    while 0 < left {
-        at = put_run(out, at, letter, runs[place], runs[place + 1]);
-        place += 2;
-        left -= 1;
+    for k in 0..runs.len() / 2 {
+        at = put_run(out, at, letter, runs[2 * k], runs[2 * k + 1]);
     }
     at
 }

@@ -10,8 +10,8 @@ use Rattle.load_vectors.proofs.DrawSteps.{no_steps}
 use Rattle.load.specs.Load.{load_records_of, vector_records}
 use Rattle.load.specs.Calls.{load_buffer_bytes, load_call, load_answer, load_buffer}
 use Rattle.load.specs.Answers.{LoadTrue, vector_size_of}
-use Rattle.load.specs.declared.LoadAnswer.TheVariants as load
 use Rattle.load.proofs.SizeLaws.{length-load, size-most, after-add, vectors-next, no-vectors}
+use Rattle.std.specs.Prelude.{Ok, Err}
 
 -- a number of inputs in range
 pub range-least : (n : ℕ) → within 1 64 n ≡ true → 1 ≤ n
@@ -30,7 +30,7 @@ pub ruleset range-cases = (range_none, range-rest, rules)
 
 module _ (state inputs : ℕ) (buffer : List ℕ) where
   pub load-short : length buffer < load_buffer_bytes
-      → LoadTrue (load.Refused why.ReportBufferLength) state inputs buffer buffer
+      → LoadTrue (Err why.ReportBufferLength) state inputs buffer buffer
   unfolding load_call load_answer load_buffer
   load-short h = record {
     answer = rw (lt-leb load_buffer_bytes (length buffer) h) refl;
@@ -38,7 +38,7 @@ module _ (state inputs : ℕ) (buffer : List ℕ) where
   }
 
   module _ (h : load_buffer_bytes ≤ length buffer) (fit : Bool) (is : fit ≡ within 1 64 inputs) where
-    pub load-range : not fit ≡ true → LoadTrue (load.Refused why.HeaderRange) state inputs buffer buffer
+    pub load-range : not fit ≡ true → LoadTrue (Err why.HeaderRange) state inputs buffer buffer
     unfolding load_call load_answer load_buffer
     load-range n =
         let r : within 1 64 inputs ≡ false = sym is ∙ not-true fit n in
@@ -59,7 +59,7 @@ module _ (state inputs : ℕ) (buffer : List ℕ) where
 
       pub load-written : (s k : ℕ) (left : List ℕ) → s ≡ state_after inputs state
           → left ≡ sets buffer 0 (load_records_of inputs state) → k ≡ vector_size_of inputs
-          → LoadTrue (load.Written s k) state inputs buffer left
+          → LoadTrue (Ok (record { state = s; length = k })) state inputs buffer left
       unfolding load_call load_answer load_buffer
       load-written s k left p q e =
           let R : List ℕ = load_records_of inputs state in
@@ -107,7 +107,7 @@ module _ (inputs state vectors size : ℕ) (sized : size ≡ vector_size_of inpu
     pub gather_room : place + vector_size_of inputs ≤ length records
     gather_room = omega (arith, room, g.long)
 
-    pub gather_fits : length found < 2 ^ 64 → place + size < 2 ^ 64
+    pub gather_fits : length found < 2 ^ 64 → place < 2 ^ 64
     gather_fits l = omega (arith, room)
 
   pub gather_next : 0 < left → (after : ℕ) (b : List ℕ) → after ≡ state_after inputs last

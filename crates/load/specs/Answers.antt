@@ -1,19 +1,19 @@
 -- What the load's functions promise: document 01's number and values for each case of their answers, and the lent bytes afterwards.
 use Rattle.std.specs.Prelude.{◌≡◌, List, ℕ, ◌+◌, ◌*◌}
-use Rattle.model.specs.Base.{Answer, refused, value}
+use Rattle.model.specs.Base.{Answer}
 use Rattle.model.specs.Read.{vector_bytes_of}
-use Rattle.model.specs.Refusals.{refusal_number_of}
+use Rattle.model.specs.Returned.{answer_by}
 use Rattle.load.specs.Calls.{Handed, load_answer, load_buffer}
-use Rattle.load.specs.declared.LoadAnswer.{LoadAnswer}
-use Rattle.load.specs.declared.LoadAnswer.TheVariants as load
+use Rattle.std.specs.Prelude.{Result}
+use Rattle.load.specs.declared.LoadWritten.{LoadWritten}
+use Rattle.model.specs.declared.Refusal.{Refusal}
 
 -- the load call: the state afterwards, and the length of the records
-abbrev pub loaded_of : LoadAnswer → Answer Handed
-loaded_of (load.Written s n) = value (record { state = s; written = n })
-loaded_of (load.Refused w) = refused (refusal_number_of w)
+abbrev pub loaded_of : Result LoadWritten Refusal → Answer Handed
+loaded_of = answer_by (λ w. record { state = w.state; written = w.length })
 
 -- The load call: its answer, and every byte of the buffer afterwards
-pub record LoadTrue (r : LoadAnswer) (state inputs : ℕ) (found left : List ℕ) : Type 0 where
+pub record LoadTrue (r : Result LoadWritten Refusal) (state inputs : ℕ) (found left : List ℕ) : Type 0 where
   pub answer : loaded_of r ≡ load_answer state inputs found
   pub buffer : left ≡ load_buffer state inputs found
 

@@ -1,7 +1,6 @@
 -- The load call, and what the program make_load writes, each as a function of what it is handed.
 -- Names: state is the state handed over, inputs the number of inputs, buffer the lent bytes, bs the bytes of load.bin.
-use Rattle.std.specs.Prelude.{true, false, List, [], ◌∷◌, ◌++◌, ℕ, leb, length, drop}
-use Rattle.std.proofs.Math.Option.{Option, none, some}
+use Rattle.std.specs.Prelude.{true, false, List, [], ◌∷◌, ◌++◌, ℕ, leb, length, drop, Option, Some, None}
 use Rattle.model.specs.Base.{Answer, value, ◌into◌, ◌then◌, Rule, checks, after}
 use Rattle.model.specs.Read.{within}
 use Rattle.load_request.specs.Requests.{Request}
@@ -35,5 +34,5 @@ load_buffer state inputs buffer = after (load_call state inputs buffer) buffer (
 
 -- What the program writes: the records of all vectors, the first from the seed; another length or a refusal writes nothing
 unfoldable pub program_bytes : Option Request → List ℕ
-program_bytes none = []
-program_bytes (some r) = elim (within 1 64 r.inputs) [ true ↦ vector_records r.inputs r.vectors r.seed | false ↦ [] ]
+program_bytes None = []
+program_bytes (Some r) = elim (within 1 64 r.inputs) [ true ↦ vector_records r.inputs r.vectors r.seed | false ↦ [] ]

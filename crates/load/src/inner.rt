@@ -46,15 +46,13 @@ pub fn put_vector(state: u32, inputs: usize, records: &mut [u8], at: usize) -> u
     let bytes = vector_bytes(inputs);
     let size = 2 + 2 * bytes;
     let mut place = at;
-    let mut input = 0;
-    while input < inputs {
+    for input in 0..inputs {
         let bit = weight(input);
         let low = lowered(vector, bit, input);
         let high = low + bit;
         put_test(records, place, bytes, low, high);
         put_test(records, place + size, bytes, high, low);
         place += 2 * size;
-        input += 1;
     }
     drawn.state
 }
@@ -67,12 +65,8 @@ pub fn put_vectors(state: u32, inputs: usize, vectors: usize, records: &mut [u8]
 {
     let size = vector_size(inputs);
     let mut last = state;
-    let mut place = 0;
-    let mut left = vectors;
-    while 0 < left {
-        last = put_vector(last, inputs, records, place);
-        place += size;
-        left -= 1;
+    for k in 0..vectors {
+        last = put_vector(last, inputs, records, k * size);
     }
     last
 }

@@ -15,9 +15,9 @@ pub const LOAD_BYTES: usize = 2304;
 
 // The state afterwards, and the bytes of the records that were written.
 #[derive(Drop)]
-pub enum LoadAnswer {
-    Written { state: u32, length: usize },
-    Refused(Refusal),
+pub struct LoadWritten {
+    pub state: u32,
+    pub length: usize,
 }
 
 // Whether a load can have so many inputs.
@@ -32,20 +32,20 @@ pub fn inputs_fit(inputs: u32) -> bool
 
 // Writes the records of one vector, drawn from a state: for input 0 upward a rising test and a falling one. A refused call leaves the bytes as they
 // were; no call writes past the records.
-pub fn write_load(state: u32, inputs: u32, records: &mut [u8]) -> LoadAnswer
+pub fn write_load(state: u32, inputs: u32, records: &mut [u8]) -> Result<LoadWritten, Refusal>
     ensures { LoadTrue result state inputs records.old records.new }
 {
     if records.len() < LOAD_BYTES {
-        return LoadAnswer::Refused(Refusal::ReportBufferLength);
+        return Err(Refusal::ReportBufferLength);
     }
     let fit = inputs_fit(inputs);
     if !fit {
-        return LoadAnswer::Refused(Refusal::HeaderRange);
+        return Err(Refusal::HeaderRange);
     }
     let count = inputs as usize;
     let after = put_vector(state, count, records, 0);
-    LoadAnswer::Written {
+    Ok(LoadWritten {
         state: after,
         length: vector_size(count),
-    }
+    })
 }

@@ -4,7 +4,7 @@ use Rattle.model.proofs.Prelude.{eq-eqb}
 use Rattle.model.specs.Base.{field, from_little_endian}
 use Rattle.load_request.specs.Requests.{request_bytes, request_of}
 use Rattle.load_request.specs.AskedLoads.{asked_of}
-use Rattle.load_request.specs.declared.Asked.TheVariants as asked
+use Rattle.std.specs.Prelude.{Some, None}
 
 -- a field of four bytes, by its halves
 four_bytes : (l : List ℕ) → 3 < length l
@@ -24,12 +24,12 @@ field-four bs at low high h p q =
     ap (λ (z : List ℕ). from_little_endian (take 2 z)) (drop-drop 2 at bs) in
     omega arith
 
-pub request_none : (bs : List ℕ) → (length bs ≡ request_bytes → ⊥) → asked_of asked.Nothing ≡ request_of bs
+pub request_none : (bs : List ℕ) → (length bs ≡ request_bytes → ⊥) → asked_of None ≡ request_of bs
 unfolding request_of
 request_none bs d = rw (ne_eqb (length bs) request_bytes d, request_of) refl
 
 pub request_some : (bs : List ℕ) → length bs ≡ request_bytes → (s n i : ℕ) → s ≡ field 0 4 bs → n ≡ field 4 4 bs
-    → i ≡ field 8 2 bs → asked_of (asked.Load s n i) ≡ request_of bs
+    → i ≡ field 8 2 bs → asked_of (Some (record { seed = s; vectors = n; inputs = i })) ≡ request_of bs
 unfolding request_of
 request_some bs l s n i p q r = rw (p, q, r) (rw (eq-eqb (length bs) request_bytes l, request_of) refl)
 

@@ -1,10 +1,9 @@
 -- What reading load.bin promises.
-use Rattle.std.proofs.Math.Option.{Option, none, some}
 use Rattle.load_request.specs.Requests.{Request}
-use Rattle.load_request.specs.declared.Asked.{Asked}
-use Rattle.load_request.specs.declared.Asked.TheVariants as asked
+use Rattle.std.specs.Prelude.{Some, None, Option}
+use Rattle.load_request.specs.declared.LoadAsked.{LoadAsked}
 
 -- what load.bin asks for
-abbrev pub asked_of : Asked → Option Request
-asked_of (asked.Load s n i) = some (record { seed = s; vectors = n; inputs = i })
-asked_of asked.Nothing = none
+abbrev pub asked_of : Option LoadAsked → Option Request
+asked_of (Some a) = Some (record { seed = a.seed; vectors = a.vectors; inputs = a.inputs })
+asked_of None = None

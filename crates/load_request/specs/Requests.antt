@@ -1,6 +1,5 @@
 -- What load.bin asks for, low byte first.
-use Rattle.std.specs.Prelude.{true, false, List, ℕ, eqb, length}
-use Rattle.std.proofs.Math.Option.{Option, none, some}
+use Rattle.std.specs.Prelude.{true, false, List, ℕ, eqb, length, Option, Some, None}
 use Rattle.model.specs.Base.{field}
 
 -- load.bin, low byte first: seed and vectors of 4 bytes each, inputs of 2
@@ -16,6 +15,6 @@ request_bytes = 10
 unfoldable pub request_of : List ℕ → Option Request
 request_of bs =
     elim (eqb (length bs) request_bytes) [
-      | true ↦ some (record { seed = field 0 4 bs; vectors = field 4 4 bs; inputs = field 8 2 bs })
-      | false ↦ none
+      | true ↦ Some (record { seed = field 0 4 bs; vectors = field 4 4 bs; inputs = field 8 2 bs })
+      | false ↦ None
     ]

@@ -13,30 +13,27 @@ pub const REQUEST_BYTES: usize = 10;
 
 // What load.bin asks for: nothing where it has another length.
 #[derive(Drop)]
-pub enum Asked {
-    Load {
-        seed: u32,
-        vectors: u32,
-        inputs: u32,
-    },
-    Nothing,
+pub struct LoadAsked {
+    pub seed: u32,
+    pub vectors: u32,
+    pub inputs: u32,
 }
 
 // What the bytes of load.bin ask for.
-pub fn read_request(bytes: &[u8]) -> Asked
+pub fn read_request(bytes: &[u8]) -> Option<LoadAsked>
     ensures { asked_of result ≡ request_of bytes.now }
 {
     if bytes.len() != REQUEST_BYTES {
-        return Asked::Nothing;
+        return None;
     }
     let seed = u32_at(bytes, 0);
     let vectors = u32_at(bytes, 4);
     let inputs = u16_at(bytes, 8) as u32;
-    Asked::Load {
+    Some(LoadAsked {
         seed,
         vectors,
         inputs,
-    }
+    })
 }
 
 // The field of four bytes at a place.

@@ -28,12 +28,10 @@ pub fn draw_vector(state: u32, inputs: usize) -> Drawn
 {
     let mut vector: u64 = 0;
     let mut last = state;
-    let mut input = 0;
-    while input < inputs {
+    for input in 0..inputs {
         let next = next_state(last);
         vector += top_bit_at(next, input);
         last = next;
-        input += 1;
     }
     Drawn {
         vector,

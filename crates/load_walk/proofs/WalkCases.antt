@@ -1,38 +1,37 @@
 -- The cases of what load.bin starts, of a piece, and of the walk from piece to piece.
 use Rattle.model.proofs.Prelude.{ℕ, ◌≤◌, ◌<◌, ◌-◌, ◌*◌, suc, ◌^◌, ◌/◌, ◌≡◌, ◌∙◌, ap, refl, sym, true, Bool, false, not, List, length, sets, ltb}
 use Rattle.model.proofs.Prelude.{mul-le-mul_right, arith, rules, not-true, not-false, lt-ltb, le-ltb, ltb-true}
-use mathlib.Core.Option.{Option, none, some}
 use native.Mathlib.Nat.{div-mul-le_self, le-div_iff_mul-le}
 use Rattle.model.specs.Read.{within}
 use Rattle.load_vectors.specs.Drawing.{state_after}
 use Rattle.load_request.specs.Requests.{Request, request_of}
 use Rattle.load_request.specs.AskedLoads.{asked_of}
-use Rattle.load_request.specs.declared.Asked.{Asked}
-use Rattle.load_request.specs.declared.Asked.TheVariants as asked
 use Rattle.load.specs.Load.{vector_records}
 use Rattle.load.specs.Answers.{vector_size_of}
 use Rattle.load.proofs.SizeLaws.{size-most, size-positive}
 use Rattle.load.proofs.LoadCallCases.{range-least, range-most}
 use Rattle.load_walk.specs.LoadWalk.{start_of, lesser, vectors_next, piece_of, next_walk, walk_after, Walked}
 use Rattle.load_walk.specs.declared.inner.Walk.{Walk}
-use Rattle.load_walk.specs.declared.Start.{Start}
-use Rattle.load_walk.specs.declared.Start.TheVariants as start
+use Rattle.load_walk.specs.declared.StartRefusal.{StartRefusal}
+use Rattle.load_walk.specs.declared.StartRefusal.TheVariants as start
 use Rattle.load_walk.proofs.WalkHolds.{lesser-left, length-vectors}
+use Rattle.std.specs.Prelude.{Option, Some, None, Result, Ok, Err}
+use Rattle.load_request.specs.declared.LoadAsked.{LoadAsked}
 
 -- What load.bin starts
-module _ (bs : List ℕ) (a : Asked) (e : asked_of a ≡ request_of bs) where
-  pub begin_none : a ≡ asked.Nothing → start.OtherLength ≡ start_of (request_of bs)
+module _ (bs : List ℕ) (a : Option LoadAsked) (e : asked_of a ≡ request_of bs) where
+  pub begin_none : a ≡ None → Err start.OtherLength ≡ start_of (request_of bs)
   unfolding start_of
   begin_none n = rw (sym e, n, start_of) refl
 
-  module _ (s n i : ℕ) (l : a ≡ asked.Load s n i) (fit : Bool) (is : fit ≡ within 1 64 i) where
-    pub begin_refused : not fit ≡ true → start.InputsRefused ≡ start_of (request_of bs)
+  module _ (l0 : LoadAsked) (l : a ≡ Some l0) (fit : Bool) (is : fit ≡ within 1 64 l0.inputs) where
+    pub begin_refused : not fit ≡ true → Err start.InputsRefused ≡ start_of (request_of bs)
     unfolding start_of
-    begin_refused f = let r : within 1 64 i ≡ false = sym is ∙ not-true fit f in rw (sym e, l, start_of) (rw r refl)
+    begin_refused f = let r : within 1 64 l0.inputs ≡ false = sym is ∙ not-true fit f in rw (sym e, l, start_of) (rw r refl)
 
-    pub begin_load : not fit ≡ false → start.Load (record { state = s; left = n; inputs = i; size = 0 }) ≡ start_of (request_of bs)
+    pub begin_load : not fit ≡ false → Ok (record { state = l0.seed; left = l0.vectors; inputs = l0.inputs; size = 0 }) ≡ start_of (request_of bs)
     unfolding start_of
-    begin_load f = let r : within 1 64 i ≡ true = sym is ∙ not-false fit f in rw (sym e, l, start_of) (rw r refl)
+    begin_load f = let r : within 1 64 l0.inputs ≡ true = sym is ∙ not-false fit f in rw (sym e, l, start_of) (rw r refl)
 
 pub ruleset begin-cases = (begin_none, begin_refused, begin_load, rules)
 
@@ -101,22 +100,23 @@ module _ (w : Walk) (each vectors : ℕ) (found : List ℕ) (sized : each ≡ ve
 pub ruleset piece-cases = (next-room, next-size, next-few, next-walk, next-bytes, rules)
 
 -- A load that was started has 1 to 64 inputs
-started : (x : Option Request) (w : Walk) → start_of x ≡ start.Load w → within 1 64 w.inputs ≡ true
+started : (x : Option Request) (w : Walk) → start_of x ≡ Ok w → within 1 64 w.inputs ≡ true
 unfolding start_of
-started none w e = absurd (no-load e)
+started None w e = absurd (no-load e)
   where
-    no-load : start.OtherLength ≡ start.Load w → ⊥
+    no-load : ◌≡◌ {A = Result Walk StartRefusal} (Err start.OtherLength) (Ok w) → ⊥
     no-load e = let z : ◌≡◌ {A = ℕ} 0 1 = cc in omega arith
-started (some r) w e = go (within 1 64 r.inputs) refl e
+started (Some r) w e = go (within 1 64 r.inputs) refl e
   where
     go : (t : Bool) → within 1 64 r.inputs ≡ t
-        → elim t [ true ↦ start.Load (record { state = r.seed; left = r.vectors; inputs = r.inputs; size = 0 }) | false ↦ start.InputsRefused ] ≡ start.Load w
+        → ◌≡◌ {A = Result Walk StartRefusal}
+        (elim t [ true ↦ Ok (record { state = r.seed; left = r.vectors; inputs = r.inputs; size = 0 }) | false ↦ Err start.InputsRefused ]) (Ok w)
         → within 1 64 w.inputs ≡ true
     go true k e = let z : record { state = r.seed; left = r.vectors; inputs = r.inputs; size = 0 } ≡ w = cc in
         ap (λ (v : Walk). within 1 64 v.inputs) (sym z) ∙ k
     go false k e = absurd (let z : ◌≡◌ {A = ℕ} 0 1 = cc in omega arith)
 
-module _ (x : Option Request) (r : Start) (is : r ≡ start_of x) (w : Walk) (l : r ≡ start.Load w) where
+module _ (x : Option Request) (r : Result Walk StartRefusal) (is : r ≡ start_of x) (w : Walk) (l : r ≡ Ok w) where
   pub started-least : 1 ≤ w.inputs
   started-least = range-least w.inputs (started x w (sym is ∙ l))
 

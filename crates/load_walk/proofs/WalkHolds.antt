@@ -2,7 +2,7 @@
 -- program writes.
 use Rattle.model.proofs.Prelude.{ℕ, ◌≤◌, ◌+◌, ◌-◌, ◌*◌, suc, zero, ◌/◌, ◌≡◌, ◌∙◌, ap, refl, sym, true, Bool, false, List, [], ◌++◌, append_assoc}
 use Rattle.model.proofs.Prelude.{append-nil, length, take, length-append, sets, take_at, sets-eq, ltb, suc-mul, arith}
-use mathlib.Core.Option.{Option, none, some}
+use Rattle.std.specs.Prelude.{Option, Some, None, Ok, Err}
 use borrow.Author.Tests.{ltb-false}
 use Rattle.model.specs.Read.{within}
 use Rattle.load_vectors.specs.Drawing.{state_after}
@@ -14,7 +14,7 @@ use Rattle.load.proofs.SizeLaws.{length-load, no-vectors}
 use Rattle.load.proofs.LoadsHold.{vectors-add}
 use Rattle.load_walk.specs.LoadWalk.{start_of, to_write, started_bytes, lesser, vectors_next, piece_of, next_walk, walk_after, pieces_of}
 use Rattle.load_walk.specs.declared.inner.Walk.{Walk}
-use Rattle.load_walk.specs.declared.Start.TheVariants as start
+use Rattle.load_walk.specs.declared.StartRefusal.TheVariants as start
 
 pub lesser-left : (a b : ℕ) → lesser a b ≤ a
 lesser-left a b = go (ltb a b) (λ e. ltb-false a b e)
@@ -43,17 +43,17 @@ pieces-first room (suc n) w =
 -- what load.bin starts is what the program writes: nothing for another length, and for a number of inputs that is refused
 pub start-holds : (asked : Option Request) → started_bytes (start_of asked) ≡ program_bytes asked
 unfolding start_of program_bytes
-start-holds none = refl
-start-holds (some r) = go (within 1 64 r.inputs)
+start-holds None = refl
+start-holds (Some r) = go (within 1 64 r.inputs)
   where
     go : (t : Bool)
-        → started_bytes (elim t [ true ↦ start.Load (record { state = r.seed; left = r.vectors; inputs = r.inputs; size = 0 }) | false ↦ start.InputsRefused ])
+        → started_bytes (elim t [ true ↦ Ok (record { state = r.seed; left = r.vectors; inputs = r.inputs; size = 0 }) | false ↦ Err start.InputsRefused ])
         ≡ elim t [ true ↦ vector_records r.inputs r.vectors r.seed | false ↦ [] ]
     go true = refl
     go false = refl
 
 -- the pieces after which no vector is left are what the program writes
-pub walk-holds : (asked : Option Request) (w : Walk) (room n : ℕ) → start_of asked ≡ start.Load w → (walk_after room n w).left ≡ 0
+pub walk-holds : (asked : Option Request) (w : Walk) (room n : ℕ) → start_of asked ≡ Ok w → (walk_after room n w).left ≡ 0
     → pieces_of room n w ≡ program_bytes asked
 walk-holds asked w room n s e =
     let v : Walk = walk_after room n w in

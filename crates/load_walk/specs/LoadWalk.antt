@@ -1,23 +1,22 @@
 -- A load that is written in pieces, each as long as a buffer takes: end to end they are what the program writes (proofs/WalkHolds).
 -- Names: w is a walk, room the number of the buffer's bytes, n a number of pieces.
-use Rattle.std.specs.Prelude.{◌≡◌, true, false, List, [], ◌++◌, ℕ, zero, suc, ◌-◌, ◌*◌, ◌/◌, ltb, length}
-use Rattle.std.proofs.Math.Option.{Option, none, some}
+use Rattle.std.specs.Prelude.{Option, Some, None, Result, Ok, Err, ◌≡◌, true, false, List, [], ◌++◌, ℕ, zero, suc, ◌-◌, ◌*◌, ◌/◌, ltb, length}
 use Rattle.model.specs.Read.{within}
 use Rattle.load_vectors.specs.Drawing.{state_after}
 use Rattle.load_request.specs.Requests.{Request}
 use Rattle.load.specs.Load.{vector_records}
 use Rattle.load.specs.Answers.{vector_size_of}
 use Rattle.load_walk.specs.declared.inner.Walk.{Walk}
-use Rattle.load_walk.specs.declared.Start.{Start}
-use Rattle.load_walk.specs.declared.Start.TheVariants as start
+use Rattle.load_walk.specs.declared.StartRefusal.{StartRefusal}
+use Rattle.load_walk.specs.declared.StartRefusal.TheVariants as start
 
 -- what load.bin starts: another length than ten bytes nothing, and a number of inputs outside 1 to 64 nothing; else the load begins with the seed
-unfoldable pub start_of : Option Request → Start
-start_of none = start.OtherLength
-start_of (some r) =
+unfoldable pub start_of : Option Request → Result Walk StartRefusal
+start_of None = Err start.OtherLength
+start_of (Some r) =
     elim (within 1 64 r.inputs) [
-      | true ↦ start.Load (record { state = r.seed; left = r.vectors; inputs = r.inputs; size = 0 })
-      | false ↦ start.InputsRefused
+      | true ↦ Ok (record { state = r.seed; left = r.vectors; inputs = r.inputs; size = 0 })
+      | false ↦ Err start.InputsRefused
     ]
 
 -- the records that a walk has still to write
@@ -25,10 +24,9 @@ abbrev pub to_write : Walk → List ℕ
 to_write w = vector_records w.inputs w.left w.state
 
 -- the bytes of what load.bin starts
-abbrev pub started_bytes : Start → List ℕ
-started_bytes (start.Load w) = to_write w
-started_bytes start.OtherLength = []
-started_bytes start.InputsRefused = []
+abbrev pub started_bytes : Result Walk StartRefusal → List ℕ
+started_bytes (Ok w) = to_write w
+started_bytes (Err why) = []
 
 abbrev pub lesser : ℕ → ℕ → ℕ
 lesser a b = elim (ltb a b) [ true ↦ a | false ↦ b ]

@@ -9,39 +9,39 @@ ghost use Rattle.load_walk.specs.LoadWalk.{start_of};
 
 use crate::inner::Walk;
 use load::inputs_fit;
-use load_request::{Asked, read_request};
+use load_request::{LoadAsked, read_request};
 
-// What load.bin starts: a load, or nothing, as it has not ten bytes or a number of inputs that is refused.
-#[derive(Drop)]
-pub enum Start {
-    Load(Walk),
+// Why load.bin starts nothing: it has not ten bytes, or a number of inputs that is refused.
+#[derive(Clone, Copy)]
+pub enum StartRefusal {
     OtherLength,
     InputsRefused,
 }
 
-// What the bytes of load.bin start.
-pub fn begin(bytes: &[u8]) -> Start
+// The load that the bytes of load.bin start.
+pub fn begin(bytes: &[u8]) -> Result<Walk, StartRefusal>
     ensures { result ≡ start_of (request_of bytes.now) }
 {
     let asked = read_request(bytes);
     match asked {
-        Asked::Nothing => Start::OtherLength,
-        Asked::Load {
-            seed,
-            vectors,
-            inputs,
-        } => {
+        None => Err(StartRefusal::OtherLength),
+        Some(
+            LoadAsked {
+                seed,
+                vectors,
+                inputs,
+            },
+        ) => {
             let fit = inputs_fit(inputs);
             if !fit {
-                return Start::InputsRefused;
+                return Err(StartRefusal::InputsRefused);
             }
-            let walk = Walk {
+            Ok(Walk {
                 state: seed,
                 left: vectors as usize,
                 inputs: inputs as usize,
                 size: 0,
-            };
-            Start::Load(walk)
+            })
         }
     }
 }

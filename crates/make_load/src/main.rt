@@ -7,7 +7,7 @@ ghost use Rattle.load_walk.specs.LoadWalk.{Walked};
 
 use load_request::REQUEST_BYTES;
 use load_walk::inner::{Walk, next_piece};
-use load_walk::{Start, begin};
+use load_walk::{StartRefusal, begin};
 use model::Refusal;
 use program_files::{end_progress, file_name, has_argument, is_argument, load_file, print_error};
 use program_sentences::{
@@ -94,9 +94,9 @@ fn refuse_inputs() {
 fn make(rt: &impl Clock, stderr: Stderr, request: &[u8]) {
     let started = begin(request);
     match started {
-        Start::OtherLength => print_error(b"the request has not 10 bytes\n"),
-        Start::InputsRefused => refuse_inputs(),
-        Start::Load(walk) => write_load(rt, stderr, walk),
+        Ok(walk) => write_load(rt, stderr, walk),
+        Err(StartRefusal::OtherLength) => print_error(b"the request has not 10 bytes\n"),
+        Err(StartRefusal::InputsRefused) => refuse_inputs(),
     }
 }
 

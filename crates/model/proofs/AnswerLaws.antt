@@ -1,4 +1,7 @@
 -- An answer that is a value: each step before it passed.
+use Rattle.std.specs.Prelude.{Result, Err, IsErrAnd}
+use Rattle.std.proofs.lemmas.Result.{err_from_is_err_and}
+use Rattle.model.specs.declared.Refusal.{Refusal}
 use Rattle.model.proofs.Prelude.{ℕ, ◌≡◌, ◌∙◌, ap, refl, ap₂, true, Bool, false, List, [], ◌∷◌, ◌++◌, T, eqb, eqb→eq, eqb_refl, arith}
 use Rattle.model.specs.Base.{Answer, refused, value, ◌into◌, ◌then◌, check, Rule, checks}
 use Rattle.model.specs.Report.{same_bytes}
@@ -88,3 +91,7 @@ same→ [] (y ∷ ys) t = absurd t
 same→ (x ∷ xs) [] t = absurd t
 same→ (x ∷ xs) (y ∷ ys) t =
     ap₂ (λ a r. a ∷ r) (eqb→eq x y (and_left (eqb x y) (same_bytes xs ys) t)) (same→ xs ys (and_right (eqb x y) (same_bytes xs ys) t))
+
+-- what a `?` returns where it ends the function: the refusal that it met
+pub exit : {A : Type 0} (w : Refusal) (r : Result A Refusal) → IsErrAnd r (λ v. v ≡ w) → r ≡ Err w
+exit w r q = let p = err_from_is_err_and r q in p.1 ∙ ap Err p.2

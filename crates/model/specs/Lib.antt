@@ -18,3 +18,4 @@ pub mod Unchanged
 pub mod Encode
 pub mod Examples
 pub mod Refusals
+pub mod Returned

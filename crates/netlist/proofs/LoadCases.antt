@@ -11,26 +11,19 @@ use Rattle.model.proofs.AnswerLaws.{then-first, then-second, checks→, value_in
 use Rattle.model.proofs.BoolLaws.{and_left, and4}
 use Rattle.model.proofs.NetLaws.{length-net_by_net}
 use Rattle.model.proofs.ReadLaws.{gates-length, outputs-ok, outputs-fit}
-use Rattle.netlist.specs.Answers.{SurveyTrue, LegalLoad, LoadTrue, LoadedTrue}
+use Rattle.netlist.specs.Answers.{survey_in, LegalLoad, LoadTrue}
 use Rattle.netlist_gates.specs.GateReading.{starts, zeros, GatesAre, GatesEnd}
 use Rattle.netlist_outputs.specs.OutputReading.{OutputsAre, OutputsEnd}
 use Rattle.netlist.specs.Places.{positions}
-use Rattle.netlist.specs.Reading.{header_step, HeaderRead, header_in, header_of, refused_by}
-use Rattle.netlist_gates.specs.declared.inner.GatesAnswer.{GatesAnswer}
-use Rattle.netlist_gates.specs.declared.inner.GatesAnswer.TheVariants as gates
-use Rattle.netlist_outputs.specs.declared.inner.OutputsAnswer.{OutputsAnswer}
-use Rattle.netlist_outputs.specs.declared.inner.OutputsAnswer.TheVariants as outputs
-use Rattle.netlist.specs.declared.SurveyAnswer.TheVariants as survey
-use Rattle.netlist.specs.declared.Surveyed.{Surveyed}
-use Rattle.netlist.specs.declared.inner.Shape.{Shape}
-use Rattle.netlist.specs.declared.inner.LoadAnswer.{LoadAnswer}
-use Rattle.netlist.specs.declared.inner.LoadAnswer.TheVariants as load
-use Rattle.netlist.specs.declared.header.HeaderAnswer.{HeaderAnswer}
-use Rattle.netlist.specs.declared.header.HeaderAnswer.TheVariants as header
+use Rattle.netlist.specs.Reading.{header_step, HeaderRead, header_in}
 use Rattle.netlist.specs.declared.header.Header.{Header}
 use Rattle.netlist.proofs.OutputLaws.{below}
 use Rattle.netlist.proofs.PaddedOutputs.{pad_counts, outputs-pad}
 use Rattle.netlist.proofs.TableLaws.{inputs-below}
+use Rattle.std.specs.Prelude.{Result, Ok, Err}
+use Rattle.netlist.specs.declared.inner.LegalNetlist.{LegalNetlist}
+use Rattle.netlist_outputs.specs.declared.inner.OutputsRead.{OutputsRead}
+use Rattle.model.specs.Returned.{answer_of}
 
 -- what follows a header
 unfoldable pub body : List ℕ → ℕ → ℕ → ℕ → Answer Netlist
@@ -49,18 +42,18 @@ total-from : (u i n : ℕ) (array cs bs us rest : List ℕ) → array ≡ padded
 total-from u i n array cs bs us rest p e r =
     rw p (ap sum_of (pad_counts i cs us (below (length cs) 0 us (rw (← e) at (outputs-ok u i n cs 0 0 bs (us, rest) r)))))
 
-module _ (s array places : List ℕ) (i g u : ℕ) (h : HeaderRead s i g u) (a : GatesAnswer) (ga : GatesAre a array places s i g) where
+module _ (s array places : List ℕ) (i g u : ℕ) (h : HeaderRead s i g u) (a : Result ℕ Refusal) (ga : GatesAre a array places s i g) where
   opened : read_netlist s ≡ body s i g u
   unfolding read_netlist body
   opened = rw (h.passed, h.inputs_are, h.gates_are, h.outputs_are) refl
 
-  pub body-gates : (w : Refusal) → a ≡ gates.Refused w → read_netlist s ≡ refused (refusal_number_of w)
+  pub body-gates : (w : Refusal) → a ≡ Err w → read_netlist s ≡ refused (refusal_number_of w)
   unfolding body
   body-gates w h =
       let x : read_gates g (replicate i 1) (drop 8 s) ≡ refused (refusal_number_of w) = rw h at ga in
       opened ∙ rw x refl
 
-  module _ (at : ℕ) (d : a ≡ gates.Done at) where
+  module _ (at : ℕ) (d : a ≡ Ok at) where
     done : GatesEnd at array places s i g
     done = rw d at ga
 
@@ -82,31 +75,31 @@ module _ (s array places : List ℕ) (i g u : ℕ) (h : HeaderRead s i g u) (a :
     unfolding cs
     same = from-array u i (i + g) array cs (drop at s) done.counts-are count-many
 
-    module _ (o : OutputsAnswer) (oa : OutputsAre o s i array (read_outputs_of u i (i + g) array 0 0 (drop at s))) where
-      pub body-outputs : (w : Refusal) → o ≡ outputs.Refused w → read_netlist s ≡ refused (refusal_number_of w)
+    module _ (o : Result OutputsRead Refusal) (oa : OutputsAre o s i array (read_outputs_of u i (i + g) array 0 0 (drop at s))) where
+      pub body-outputs : (w : Refusal) → o ≡ Err w → read_netlist s ≡ refused (refusal_number_of w)
       unfolding body cs
       body-outputs w h =
           let x : read_outputs_of u i (i + g) array 0 0 (drop at s) ≡ refused (refusal_number_of w) = rw h at oa in
           opened ∙ rw (done.read, sym same ∙ x) refl
 
-      module _ (end total : ℕ) (f : o ≡ outputs.Done end total) where
-        last : OutputsEnd end total s i array (read_outputs_of u i (i + g) array 0 0 (drop at s))
+      module _ (r : OutputsRead) (f : o ≡ Ok r) where
+        last : OutputsEnd r.at r.total s i array (read_outputs_of u i (i + g) array 0 0 (drop at s))
         last = rw f at oa
 
-        pub body-left : end < length s → read_netlist s ≡ refused 20
+        pub body-left : r.at < length s → read_netlist s ≡ refused 20
         unfolding body cs
         body-left h =
-            let z : length (drop end s) ≡ 0 → ⊥ = λ k. omega (arith, length-drop end s) in
-            opened ∙ rw (done.read, sym same ∙ last.read, ne_eqb (length (drop end s)) 0 z) refl
+            let z : length (drop r.at s) ≡ 0 → ⊥ = λ k. omega (arith, length-drop r.at s) in
+            opened ∙ rw (done.read, sym same ∙ last.read, ne_eqb (length (drop r.at s)) 0 z) refl
 
-        pub body-legal : length s ≤ end → LegalLoad s array places (record { inputs = i; nets = i + g; outputs = u }) total
+        pub body-legal : length s ≤ r.at → LegalLoad s array places (record { inputs = i; nets = i + g; outputs = u }) r.total
         unfolding body cs positions counts path_total
         body-legal h =
-            let z : length (drop end s) ≡ 0 = omega (arith, length-drop end s) in
+            let z : length (drop r.at s) ≡ 0 = omega (arith, length-drop r.at s) in
             let read : read_netlist s ≡ value (record { inputs = i; gates = done.gates; outputs = last.outputs }) =
-            opened ∙ rw (done.read, sym same ∙ last.read, eq-eqb (length (drop end s)) 0 z) refl in
+            opened ∙ rw (done.read, sym same ∙ last.read, eq-eqb (length (drop r.at s)) 0 z) refl in
             let total-is = last.total-is
-            ∙ total-from u i (i + g) array cs (drop at s) last.outputs (drop end s) done.counts-are count-many (sym same ∙ last.read) in
+            ∙ total-from u i (i + g) array cs (drop at s) last.outputs (drop r.at s) done.counts-are count-many (sym same ∙ last.read) in
             record {
               circuit = record { inputs = i; gates = done.gates; outputs = last.outputs };
               tables = record {
@@ -115,7 +108,7 @@ module _ (s array places : List ℕ) (i g u : ℕ) (h : HeaderRead s i g u) (a :
                 counts_are = done.counts-are;
                 inputs_are = refl;
                 nets_are = ap (λ n. i + n) (sym many);
-                outputs_are = sym (outputs-fit u i (i + g) array 0 0 (drop at s) (last.outputs, drop end s) last.read (omega arith)).0;
+                outputs_are = sym (outputs-fit u i (i + g) array 0 0 (drop at s) (last.outputs, drop r.at s) last.read (omega arith)).0;
               };
               total_is = total-is;
             }
@@ -151,11 +144,11 @@ header-legal s h e =
       few_nets = omega (arith, i, g, leb→le (inputs_in s + gates_in s) 512 q.2);
     }
 
-module _ (s : List ℕ) (a : HeaderAnswer) (ha : header_of a ≡ header_step s) where
-  pub load-header : (w : Refusal) → a ≡ header.Refused w → read_netlist s ≡ refused (refusal_number_of w)
+module _ (s : List ℕ) (a : Result Header Refusal) (ha : answer_of a ≡ header_step s) where
+  pub load-header : (w : Refusal) → a ≡ Err w → read_netlist s ≡ refused (refusal_number_of w)
   load-header w h = refused-first s (refusal_number_of w) (header_refused s (refusal_number_of w) (rw h at ha))
 
-  pub load_found : (h : Header) → a ≡ header.Found h → HeaderRead s h.inputs h.gates h.outputs
+  pub load_found : (h : Header) → a ≡ Ok h → HeaderRead s h.inputs h.gates h.outputs
   load_found h f = header-legal s h (rw f at ha)
 
 pub ruleset body-cases = (done-within, body-gates, body-outputs, body-left, body-legal, rules)
@@ -167,41 +160,33 @@ pub zeros-are : replicate 512 0 ≡ zeros
 unfolding zeros
 zeros-are = refl
 
-module _ (s counts positions : List ℕ) (a : LoadAnswer) (la : LoadTrue a s counts positions) where
-  pub survey-refused : (r : Surveyed) (w : Refusal) → a ≡ load.Refused w → r ≡ refused_by w → SurveyTrue r s
+module _ (s counts positions : List ℕ) (a : Result LegalNetlist Refusal) (la : LoadTrue a s counts positions) where
+  pub load-refused : (w : Refusal) → a ≡ Err w → read_netlist s ≡ refused (refusal_number_of w)
+  load-refused w h = rw h at la
+
+  pub survey-refused : (w : Refusal) → a ≡ Err w → refused (refusal_number_of w) ≡ survey_call s
   unfolding survey_call
-  survey-refused r w h e =
-      let n : read_netlist s ≡ refused (refusal_number_of w) = rw h at la in
-      record { answer = rw (e, n) refl; survey = rw (e, n) refl }
+  survey-refused w h = rw (load-refused w h) refl
 
-  pub by-value-refused : (w : Refusal) (shape : Shape) (total : ℕ) → a ≡ load.Refused w
-      → LoadedTrue (record { answer = survey.Refused w; shape = shape; total = total; counts = counts; positions = positions }) s
-  by-value-refused w shape total h = record { is = rw h at la }
+  module _ (l : LegalNetlist) (h : a ≡ Ok l) where
+    pub load-legal : LegalLoad s counts positions l.shape l.total
+    load-legal = rw h at la
 
-  module _ (shape : Shape) (total : ℕ) (h : a ≡ load.Legal shape total) where
-    legal : LegalLoad s counts positions shape total
-    legal = rw h at la
+    pub survey-inputs : l.shape.inputs ≤ l.shape.nets
+    survey-inputs = inputs-below load-legal.tables
 
-    pub survey-inputs : shape.inputs ≤ shape.nets
-    survey-inputs = inputs-below legal.tables
-
-    pub survey-legal : SurveyTrue (record {
-      answer = survey.Legal;
-      survey = record { counts = counts; inputs = shape.inputs; gates = shape.nets - shape.inputs; outputs = shape.outputs; total = total };
-    }) s
+    pub survey-legal : value (survey_in (record {
+      counts = counts;
+      inputs = l.shape.inputs;
+      gates = l.shape.nets - l.shape.inputs;
+      outputs = l.shape.outputs;
+      total = l.total;
+    })) ≡ survey_call s
     unfolding survey_call survey_of
     survey-legal =
-        let t = legal.tables in
-        let g : shape.nets - shape.inputs ≡ length legal.circuit.gates = omega (arith, t.nets_are, t.inputs_are) in
-        record {
-          answer = rw t.legal refl;
-          survey = rw t.legal
-              (λ k. record { counts = t.counts_are k; inputs = t.inputs_are k; gates = g k; outputs = t.outputs_are k; total = legal.total_is k });
-        }
+        let t = load-legal.tables in
+        let g : l.shape.nets - l.shape.inputs ≡ length load-legal.circuit.gates = omega (arith, t.nets_are, t.inputs_are) in
+        rw t.legal
+        (λ k. value (record { inputs = t.inputs_are k; gates = g k; outputs = t.outputs_are k; paths = load-legal.total_is k; net_counts = t.counts_are k }))
 
-    pub by-value-legal : LoadedTrue (record { answer = survey.Legal; shape = shape; total = total; counts = counts; positions = positions }) s
-    by-value-legal = record { is = legal }
-
-pub ruleset survey-cases = (zeros-are, survey-refused, survey-inputs, survey-legal, rules)
-
-pub ruleset by-value-cases = (zeros-are, by-value-refused, by-value-legal, rules)
+pub ruleset survey-cases = (zeros-are, survey-inputs, survey-legal, rules)

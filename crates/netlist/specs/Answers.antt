@@ -1,37 +1,26 @@
 -- What a survey and loading a netlist answer, by document 01's numbers and by the netlist that was read.
-use Rattle.std.specs.Prelude.{◌≡◌, List, ℕ, replicate}
-use Rattle.model.specs.Base.{Answer, refused, value, passes}
-use Rattle.model.specs.Netlist.{Netlist, max_nets, path_total}
+use Rattle.std.specs.Prelude.{◌≡◌, List, ℕ}
+use Rattle.model.specs.Base.{Answer, refused}
+use Rattle.model.specs.Netlist.{Netlist, path_total}
 use Rattle.model.specs.Read.{read_netlist}
 use Rattle.model.specs.Refusals.{refusal_number_of}
-use Rattle.model.specs.Calls.{Survey, survey_call}
+use Rattle.model.specs.Calls.{Survey}
 use Rattle.netlist.specs.Tables.{CircuitTables}
-use Rattle.netlist.specs.declared.SurveyAnswer.{SurveyAnswer}
-use Rattle.netlist.specs.declared.SurveyAnswer.TheVariants as survey
 use Rattle.netlist.specs.declared.NetlistSurvey.{NetlistSurvey}
-use Rattle.netlist.specs.declared.Surveyed.{Surveyed}
 use Rattle.netlist.specs.declared.inner.Shape.{Shape}
 use Rattle.netlist.specs.declared.inner.Loaded.{Loaded}
-use Rattle.netlist.specs.declared.inner.LoadAnswer.{LoadAnswer}
-use Rattle.netlist.specs.declared.inner.LoadAnswer.TheVariants as load
+use Rattle.std.specs.Prelude.{Result, Ok, Err}
+use Rattle.model.specs.declared.Refusal.{Refusal}
+use Rattle.netlist.specs.declared.inner.LegalNetlist.{LegalNetlist}
+use Rattle.model.specs.Returned.{answer_by}
 
--- the number of a refusal, or that there is none
-abbrev pub answer_of : SurveyAnswer → Answer (Unit {0})
-answer_of survey.Legal = value tt
-answer_of (survey.Refused w) = refused (refusal_number_of w)
+-- The survey: counts of 512 nets, I, G, U and T as one record
+abbrev pub survey_in : NetlistSurvey → Survey
+survey_in s = record { inputs = s.inputs; gates = s.gates; outputs = s.outputs; paths = s.total; net_counts = s.counts }
 
-abbrev pub no_survey : NetlistSurvey
-no_survey = record { counts = replicate max_nets 0; inputs = 0; gates = 0; outputs = 0; total = 0 }
-
--- The survey: counts of 512 nets, I, G, U and T as one record; all zero of a refused netlist
-abbrev pub survey_data : Answer Survey → NetlistSurvey
-survey_data (refused n) = no_survey
-survey_data (value x) = record { counts = x.net_counts; inputs = x.inputs; gates = x.gates; outputs = x.outputs; total = x.paths }
-
--- the survey call's answer and its survey are those of the definition
-pub record SurveyTrue (r : Surveyed) (netlist : List ℕ) : Type 0 where
-  pub answer : answer_of r.answer ≡ passes (survey_call netlist)
-  pub survey : r.survey ≡ survey_data (survey_call netlist)
+-- the survey call's answer: the number of a refusal, or what was counted
+abbrev pub surveyed_of : Result NetlistSurvey Refusal → Answer Survey
+surveyed_of = answer_by survey_in
 
 -- the tables of the netlist that was read, and its total
 pub record LegalLoad (file counts positions : List ℕ) (shape : Shape) (total : ℕ) : Type 0 where
@@ -40,14 +29,11 @@ pub record LegalLoad (file counts positions : List ℕ) (shape : Shape) (total :
   pub total_is : total ≡ path_total circuit
 
 -- loading a netlist: its tables are in the arrays, or the number is that of the refusal
-abbrev pub LoadTrue : LoadAnswer → List ℕ → List ℕ → List ℕ → Type 0
-LoadTrue (load.Legal shape total) file counts positions = LegalLoad file counts positions shape total
-LoadTrue (load.Refused w) file counts positions = read_netlist file ≡ refused (refusal_number_of w)
+abbrev pub LoadTrue : Result LegalNetlist Refusal → List ℕ → List ℕ → List ℕ → Type 0
+LoadTrue (Ok l) file counts positions = LegalLoad file counts positions l.shape l.total
+LoadTrue (Err w) file counts positions = read_netlist file ≡ refused (refusal_number_of w)
 
 -- the same of the tables by value
-abbrev pub LoadIs : SurveyAnswer → List ℕ → List ℕ → List ℕ → Shape → ℕ → Type 0
-LoadIs survey.Legal file counts positions shape total = LegalLoad file counts positions shape total
-LoadIs (survey.Refused w) file counts positions shape total = read_netlist file ≡ refused (refusal_number_of w)
-
-pub record LoadedTrue (r : Loaded) (file : List ℕ) : Type 0 where
-  pub is : LoadIs r.answer file r.counts r.positions r.shape r.total
+abbrev pub LoadedTrue : Result Loaded Refusal → List ℕ → Type 0
+LoadedTrue (Ok l) file = LegalLoad file l.counts l.positions l.shape l.total
+LoadedTrue (Err w) file = read_netlist file ≡ refused (refusal_number_of w)

@@ -1,24 +1,13 @@
 -- What reading the header of a netlist file answers, and the survey of a refused netlist.
 use Rattle.std.specs.Prelude.{ℕ, ◌+◌, ◌≤◌, ◌≡◌, List, length}
-use Rattle.model.specs.Base.{Answer, refused, value, checks, ◌then◌}
+use Rattle.model.specs.Base.{Answer, value, checks, ◌then◌}
 use Rattle.model.specs.Netlist.{max_nets}
 use Rattle.model.specs.Read.{header_rules, inputs_in, gates_in, outputs_in}
-use Rattle.model.specs.Refusals.{refusal_number_of}
-use Rattle.model.specs.declared.Refusal.{Refusal}
-use Rattle.netlist.specs.Answers.{no_survey}
 use Rattle.netlist.specs.declared.header.Header.{Header}
-use Rattle.netlist.specs.declared.header.HeaderAnswer.{HeaderAnswer}
-use Rattle.netlist.specs.declared.header.HeaderAnswer.TheVariants as header
-use Rattle.netlist.specs.declared.SurveyAnswer.TheVariants as survey
-use Rattle.netlist.specs.declared.Surveyed.{Surveyed}
 
 -- I, G and U as the header has them
 abbrev pub header_in : List ℕ → Header
 header_in bs = record { inputs = inputs_in bs; gates = gates_in bs; outputs = outputs_in bs }
-
-abbrev pub header_of : HeaderAnswer → Answer Header
-header_of (header.Found h) = value h
-header_of (header.Refused w) = refused (refusal_number_of w)
 
 -- Header: its rules, then what it has
 unfoldable pub header_step : List ℕ → Answer Header
@@ -32,7 +21,3 @@ pub record HeaderRead (file : List ℕ) (inputs gates outputs : ℕ) : Type 0 wh
   pub outputs_are : outputs ≡ outputs_in file
   pub long : 8 ≤ length file
   pub few_nets : inputs + gates ≤ max_nets
-
--- the answer to a refused netlist
-abbrev pub refused_by : Refusal → Surveyed
-refused_by w = record { answer = survey.Refused w; survey = no_survey }

@@ -1,7 +1,8 @@
 // The header record of a netlist file.
 ghost use Rattle.std.specs.Prelude.{◌≡◌};
 ghost use Rattle.model.specs.Read.{header_range};
-ghost use Rattle.netlist.specs.Reading.{header_of, header_step};
+ghost use Rattle.netlist.specs.Reading.{header_step};
+ghost use Rattle.model.specs.Returned.{answer_of};
 
 use model::Refusal;
 use record_bytes::inner::{begins_with, u16_at};
@@ -13,31 +14,25 @@ pub(crate) struct Header {
     pub(crate) outputs: usize,
 }
 
-#[derive(Drop)]
-pub(crate) enum HeaderAnswer {
-    Found(Header),
-    Refused(Refusal),
-}
-
-pub(crate) fn read_header(netlist: &[u8]) -> HeaderAnswer
-    ensures { header_of result ≡ header_step netlist.now }
+pub(crate) fn read_header(netlist: &[u8]) -> Result<Header, Refusal>
+    ensures { answer_of result ≡ header_step netlist.now }
 {
     let marked = begins_with(netlist, 8, 0x4E, 0x4C);
     if !marked {
-        return HeaderAnswer::Refused(Refusal::Header);
+        return Err(Refusal::Header);
     }
     let inputs = u16_at(netlist, 2);
     let gates = u16_at(netlist, 4);
     let outputs = u16_at(netlist, 6);
     let fits = in_range(inputs, gates, outputs);
     if fits {
-        HeaderAnswer::Found(Header {
+        Ok(Header {
             inputs,
             gates,
             outputs,
         })
     } else {
-        HeaderAnswer::Refused(Refusal::HeaderRange)
+        Err(Refusal::HeaderRange)
     }
 }
 

@@ -6,11 +6,10 @@ ghost use Rattle.netlist.specs.Answers.{LoadTrue, LoadedTrue};
 ghost use Rattle.netlist.specs.Reading.{HeaderRead};
 ghost use Rattle.netlist.specs.Tables.{pin_in, gate_part_of, output_in};
 
-use crate::SurveyAnswer;
-use crate::header::{HeaderAnswer, read_header};
+use crate::header::read_header;
 use model::Refusal;
-use netlist_gates::inner::{GatesAnswer, read_gates};
-use netlist_outputs::inner::{OutputsAnswer, read_outputs};
+use netlist_gates::inner::read_gates;
+use netlist_outputs::inner::{OutputsRead, read_outputs};
 use record_bytes::inner::{u16_at, wide_word};
 
 // How many inputs, nets and outputs a legal netlist has.
@@ -23,15 +22,14 @@ pub struct Shape {
 
 // The netlist is legal and its tables are in the arrays, or the reason for refusing it.
 #[derive(Drop)]
-pub enum LoadAnswer {
-    Legal { shape: Shape, total: u64 },
-    Refused(Refusal),
+pub struct LegalNetlist {
+    pub shape: Shape,
+    pub total: u64,
 }
 
-// The tables of a netlist by value. Those of a refused one say nothing.
+// The tables of a legal netlist by value.
 #[derive(Clone, Copy)]
 pub struct Loaded {
-    pub answer: SurveyAnswer,
     pub shape: Shape,
     pub total: u64,
     pub counts: [u64; 512],
@@ -39,22 +37,23 @@ pub struct Loaded {
 }
 
 // Reads a netlist and fills in the count of each net and the position of the record of the gate that drives it.
-pub fn load(netlist: &[u8], counts: &mut [u64; 512], positions: &mut [u16; 512]) -> LoadAnswer
+pub fn load(
+    netlist: &[u8],
+    counts: &mut [u64; 512],
+    positions: &mut [u16; 512],
+) -> Result<LegalNetlist, Refusal>
     requires { (counts.old ≡ zeros) × (positions.old ≡ zeros) }
     ensures { LoadTrue result netlist.now counts.new positions.new }
 {
-    let header = read_header(netlist);
-    match header {
-        HeaderAnswer::Refused(why) => LoadAnswer::Refused(why),
-        HeaderAnswer::Found(found) => load_body(
-            netlist,
-            found.inputs,
-            found.gates,
-            found.outputs,
-            counts,
-            positions,
-        ),
-    }
+    let header = read_header(netlist)?;
+    load_body(
+        netlist,
+        header.inputs,
+        header.gates,
+        header.outputs,
+        counts,
+        positions,
+    )
 }
 
 // Fills in the counts of the inputs.
@@ -62,10 +61,8 @@ fn set_inputs(counts: &mut [u64; 512], inputs: usize)
     requires { (inputs ≤ 512) × (counts.old ≡ zeros) }
     ensures { counts.new ≡ padded (replicate inputs 1) }
 {
-    let mut i = 0;
-    while i < inputs {
+    for i in 0..inputs {
         counts[i] = 1;
-        i += 1;
     }
 }
 
@@ -77,62 +74,41 @@ fn load_body(
     outputs: usize,
     counts: &mut [u64; 512],
     positions: &mut [u16; 512],
-) -> LoadAnswer
+) -> Result<LegalNetlist, Refusal>
     requires { HeaderRead netlist.now inputs gates outputs × (counts.old ≡ zeros) × (positions.old ≡ zeros) }
     ensures { LoadTrue result netlist.now counts.new positions.new }
 {
     set_inputs(counts, inputs);
-    let read = read_gates(netlist, inputs, gates, counts, positions);
-    match read {
-        GatesAnswer::Refused(why) => LoadAnswer::Refused(why),
-        GatesAnswer::Done(at) => {
-            let nets = inputs + gates;
-            let last = read_outputs(netlist, at, outputs, inputs, nets, counts);
-            match last {
-                OutputsAnswer::Refused(why) => LoadAnswer::Refused(why),
-                OutputsAnswer::Done { at: end, total } => {
-                    if end < netlist.len() {
-                        return LoadAnswer::Refused(Refusal::BytesLeftOver);
-                    }
-                    let shape = Shape {
-                        inputs,
-                        nets,
-                        outputs,
-                    };
-                    LoadAnswer::Legal { shape, total }
-                }
-            }
-        }
+    let at = read_gates(netlist, inputs, gates, counts, positions)?;
+    let nets = inputs + gates;
+    let last = read_outputs(netlist, at, outputs, inputs, nets, counts)?;
+    if last.at < netlist.len() {
+        return Err(Refusal::BytesLeftOver);
     }
+    let shape = Shape {
+        inputs,
+        nets,
+        outputs,
+    };
+    Ok(LegalNetlist {
+        shape,
+        total: last.total,
+    })
 }
 
 // The tables of a netlist by value, for those that keep them over several calls.
-pub fn load_by_value(netlist: &[u8]) -> Loaded
+pub fn load_by_value(netlist: &[u8]) -> Result<Loaded, Refusal>
     ensures { LoadedTrue result netlist.now }
 {
     let mut counts = [0u64; 512];
     let mut positions = [0u16; 512];
-    let answer = load(netlist, &mut counts, &mut positions);
-    match answer {
-        LoadAnswer::Legal { shape, total } => Loaded {
-            answer: SurveyAnswer::Legal,
-            shape,
-            total,
-            counts,
-            positions,
-        },
-        LoadAnswer::Refused(why) => Loaded {
-            answer: SurveyAnswer::Refused(why),
-            shape: Shape {
-                inputs: 0,
-                nets: 0,
-                outputs: 0,
-            },
-            total: 0,
-            counts,
-            positions,
-        },
-    }
+    let legal = load(netlist, &mut counts, &mut positions)?;
+    Ok(Loaded {
+        shape: legal.shape,
+        total: legal.total,
+        counts,
+        positions,
+    })
 }
 
 // The part of the file that begins at the record of the gate that drives `net`.

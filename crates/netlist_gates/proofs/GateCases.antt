@@ -6,9 +6,8 @@ use Rattle.model.specs.Read.{pins_fit, net_fields, marked}
 use Rattle.model.proofs.BoolLaws.{both, T→true, true→T}
 use Rattle.model.proofs.ListLaws.{all_of_head, all_of_tail}
 use Rattle.netlist_gates.specs.GateReading.{gate_step, SumIs, pins_lower_of, pin_sum_of}
-use Rattle.netlist_gates.specs.declared.inner.SumAnswer.{SumAnswer}
-use Rattle.netlist_gates.specs.declared.inner.SumAnswer.TheVariants as sum
 use Rattle.record_bytes.proofs.PartLaws.{begins-long}
+use Rattle.std.specs.Prelude.{Option, Some, None}
 
 lower_high : (net high : ℕ) (ps : List ℕ) → net ≤ high → T (all_of (λ p. ltb p net) ps) → T (all_of (λ p. ltb p high) ps)
 lower_high net high [] h w = tt
@@ -60,14 +59,14 @@ module _ (counts s : List ℕ) (net : ℕ) (m : Bool) (em : m ≡ leb 4 (length 
               unfolding gate_step pins_lower_of
               gate-pin h = simp (← em, t, ← ek, ← en, le-leb 1 kind k1, le-leb kind 8 k8, ← ef, f, le-leb (4 + 2 * n) (length s) room, ← el, h)
 
-              module _ (x : SumAnswer) (lw : lower ≡ true) (e : SumIs x (pin_sum_of counts n 4 s)) where
-                pub gate-over : x ≡ sum.Over → refused 17 ≡ gate_step net counts s
+              module _ (x : Option ℕ) (lw : lower ≡ true) (e : SumIs x (pin_sum_of counts n 4 s)) where
+                pub gate-over : x ≡ None → refused 17 ≡ gate_step net counts s
                 unfolding gate_step pins_lower_of pin_sum_of
                 gate-over h =
                     let o : 2 ^ 62 < pin_sum_of counts n 4 s = rw h at e in
                     simp (← em, t, ← ek, ← en, le-leb 1 kind k1, le-leb kind 8 k8, ← ef, f, le-leb (4 + 2 * n) (length s) room, ← el, lw, lt-leb _ _ o)
 
-                pub gate-taken : (count : ℕ) → x ≡ sum.Sum count → value (record { count = count; size = 4 + 2 * n }) ≡ gate_step net counts s
+                pub gate-taken : (count : ℕ) → x ≡ Some count → value (record { count = count; size = 4 + 2 * n }) ≡ gate_step net counts s
                 unfolding gate_step pins_lower_of pin_sum_of
                 gate-taken count h =
                     let o : (count ≡ pin_sum_of counts n 4 s) × (pin_sum_of counts n 4 s ≤ 2 ^ 62) = rw h at e in

@@ -10,16 +10,17 @@ use Rattle.model.specs.Read.{read_gates, gate_rules, gate_in, count_in, net_fiel
 use Rattle.model.proofs.AnswerLaws.{then-first, then-second, checks→, value_inj, not_refused}
 use Rattle.model.proofs.BoolLaws.{true→T, and_right}
 use Rattle.model.proofs.ReadLaws.{pins-fit}
-use Rattle.netlist_gates.specs.GateReading.{size_at, starts, gate_step, GateSize, gate_of, GatesEnd}
+use Rattle.netlist_gates.specs.GateReading.{size_at, starts, gate_step, GatesEnd}
+use Rattle.netlist_gates.specs.declared.inner.GateSize.{GateSize}
 use Rattle.model.specs.Calls.{padded}
 use Rattle.model.specs.Refusals.{refusal_number_of}
-use Rattle.netlist_gates.specs.declared.inner.GateAnswer.{GateAnswer}
-use Rattle.netlist_gates.specs.declared.inner.GateAnswer.TheVariants as gate
 use Rattle.model.specs.declared.Refusal.{Refusal}
 use Rattle.record_bytes.proofs.AheadLaws.{ahead, ahead-next, ahead_none}
 use Rattle.record_bytes.proofs.PartLaws.{part-rest}
 use Rattle.netlist_gates.proofs.PaddedLaws.{pad_set, pad_sum}
 use Rattle.netlist_gates.proofs.PositionSteps.{PositionsLeft, positions-start, positions-end, positions-again}
+use Rattle.std.specs.Prelude.{Result, Ok, Err}
+use Rattle.model.specs.Returned.{answer_of}
 
 -- the counts past the gate's net do not matter
 rules-pad : (cs s : List ℕ) → checks (gate_rules (length cs) (padded cs) s) ≡ checks (gate_rules (length cs) cs s)
@@ -111,47 +112,47 @@ gates-refused (suc left) cs s n h t =
     go (value u) v r f e = absurd (not_refused (sym e))
 
 module _ (left net at : ℕ) (array s : List ℕ) (inputs number : ℕ) (l : GatesLeft left net at array s inputs number) (more : 0 < left)
-    (a : GateAnswer) (part : gate_of a ≡ gate_step net array (take (length s - at) (drop at s))) where
-  e : gate_of a ≡ gate_step (length l.counts) (padded l.counts) (drop at s)
+    (a : Result GateSize Refusal) (part : answer_of a ≡ gate_step net array (take (length s - at) (drop at s))) where
+  e : answer_of a ≡ gate_step (length l.counts) (padded l.counts) (drop at s)
   e = rw (part-rest, l.array_is, ← l.nets) at part
 
-  pub gates-stop : (w : Refusal) → a ≡ gate.Refused w → read_gates number (replicate inputs 1) (drop 8 s) ≡ refused (refusal_number_of w)
+  pub gates-stop : (w : Refusal) → a ≡ Err w → read_gates number (replicate inputs 1) (drop 8 s) ≡ refused (refusal_number_of w)
   unfolding ahead
   gates-stop w h =
       sym l.rest-is ∙ ap (ahead l.gates) (gates-refused left l.counts (drop at s) (refusal_number_of w) more (sym (rw h at e)))
 
-  module _ (count size : ℕ) (h : a ≡ gate.Gate count size) where
-    is : GateTaken l.counts (drop at s) count size
-    is = gate-legal l.counts (drop at s) count size (sym (rw h at e))
+  module _ (g0 : GateSize) (h : a ≡ Ok g0) where
+    is : GateTaken l.counts (drop at s) g0.count g0.size
+    is = gate-legal l.counts (drop at s) g0.count g0.size (sym (rw h at e))
 
-    pub gates-size : at ≤ length s → at + size ≤ length s
+    pub gates-size : at ≤ length s → at + g0.size ≤ length s
     gates-size w = omega (arith, is.room, length-drop at s)
 
-    pub gates-fit : at ≤ length s → length s < 2 ^ 64 → Fits w64 (at + size)
+    pub gates-fit : at ≤ length s → length s < 2 ^ 64 → Fits w64 (at + g0.size)
     gates-fit w f = record { fits = omega (arith, gates-size w) }
 
     -- a record has at most 20 bytes
-    pub gates-bound : at + 20 * left ≤ 8 + 20 * number → at + size + 20 * (left - 1) ≤ 8 + 20 * number
+    pub gates-bound : at + 20 * left ≤ 8 + 20 * number → at + g0.size + 20 * (left - 1) ≤ 8 + 20 * number
     gates-bound b = omega (arith, is.few)
 
     pub gates-place : (places : List ℕ) → net + left ≤ 512 → PositionsLeft left net at places s (replicate inputs 0 ++ starts number 8 s)
-        → PositionsLeft (left - 1) (net + 1) (at + size) (set places net at) s (replicate inputs 0 ++ starts number 8 s)
+        → PositionsLeft (left - 1) (net + 1) (at + g0.size) (set places net at) s (replicate inputs 0 ++ starts number 8 s)
     gates-place places b p =
-        let long : size_at s at ≡ size = ap (λ k. 4 + 2 * k) (sym (get_or-drop at s 3 0)) ∙ is.size_is in
-        positions-again left net at size places s (replicate inputs 0 ++ starts number 8 s) more b long p
+        let long : size_at s at ≡ g0.size = ap (λ k. 4 + 2 * k) (sym (get_or-drop at s 3 0)) ∙ is.size_is in
+        positions-again left net at g0.size places s (replicate inputs 0 ++ starts number 8 s) more b long p
 
-    pub gates-again : net + left ≤ 512 → GatesLeft (left - 1) (net + 1) (at + size) (set array net count) s inputs number
+    pub gates-again : net + left ≤ 512 → GatesLeft (left - 1) (net + 1) (at + g0.size) (set array net g0.count) s inputs number
     gates-again b =
         let g = gate_in (drop at s) in
-        let next = l.counts ++ (count ∷ []) in
+        let next = l.counts ++ (g0.count ∷ []) in
         record {
           gates = l.gates ++ (g ∷ []);
           counts = next;
           counts-are = sym (counts-next (replicate inputs 1) l.gates g ∙ rw (← l.counts-are) (ap (λ c. l.counts ++ (c ∷ [])) is.count-is));
           nets = simp length-append (omega (arith, l.nets));
-          array_is = rw l.array_is (pad_set l.counts net count l.nets (omega arith));
-          rest-is = sym (ap (ahead l.gates) (gates-step left l.counts (drop at s) count size more is) ∙ ahead-next l.gates g _
-              ∙ ap (λ (b : List ℕ). ahead (l.gates ++ (g ∷ [])) (read_gates (left - 1) next b)) (drop-drop size at s)) ∙ l.rest-is;
+          array_is = rw l.array_is (pad_set l.counts net g0.count l.nets (omega arith));
+          rest-is = sym (ap (ahead l.gates) (gates-step left l.counts (drop at s) g0.count g0.size more is) ∙ ahead-next l.gates g _
+              ∙ ap (λ (b : List ℕ). ahead (l.gates ++ (g ∷ [])) (read_gates (left - 1) next b)) (drop-drop g0.size at s)) ∙ l.rest-is;
         }
 
 -- the position of a record fits a word

@@ -5,7 +5,7 @@ use Rattle.model.specs.Base.{field}
 use Rattle.model.specs.Read.{net_fields}
 use Rattle.model.proofs.BoolLaws.{and_left, and_right, T→true, true→T}
 use Rattle.netlist_gates.specs.GateReading.{pins_lower_of, pin_sum_of, SumIs}
-use Rattle.netlist_gates.specs.declared.inner.SumAnswer.{SumAnswer}
+use Rattle.std.specs.Prelude.{Option}
 
 pub pins-step : (n at : ℕ) (s : List ℕ) → 0 < n → net_fields n (drop at s) ≡ field at 2 s ∷ net_fields (n - 1) (drop (at + 2) s)
 pins-step zero at s h = absurd (omega arith)
@@ -99,5 +99,5 @@ module _ (s : List ℕ) {pins : ℕ} (two : pins ≡ 2) where
   pub two-lower-still : (net : ℕ) → pins_lower_of net pins 4 s ≡ true → pins_lower_of net 2 4 s ≡ true
   two-lower-still net e = sym (ap (λ (n : ℕ). pins_lower_of net n 4 s) two) ∙ e
 
-  pub sum-as_two : (counts : List ℕ) (r : SumAnswer) → SumIs r (pin_sum_of counts 2 4 s) → SumIs r (pin_sum_of counts pins 4 s)
+  pub sum-as_two : (counts : List ℕ) (r : Option ℕ) → SumIs r (pin_sum_of counts 2 4 s) → SumIs r (pin_sum_of counts pins 4 s)
   sum-as_two counts r i = subst (λ (n : ℕ). SumIs r (pin_sum_of counts n 4 s)) (sym two) i

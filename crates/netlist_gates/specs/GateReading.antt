@@ -5,12 +5,9 @@ use Rattle.model.specs.Netlist.{Gate, net_by_net, gate_count, at_nets, max_nets,
 use Rattle.model.specs.Read.{gate_rules, count_in, net_fields, read_gates}
 use Rattle.model.specs.Refusals.{refusal_number_of}
 use Rattle.model.specs.Calls.{padded}
-use Rattle.netlist_gates.specs.declared.inner.GateAnswer.{GateAnswer}
-use Rattle.netlist_gates.specs.declared.inner.GateAnswer.TheVariants as gate
-use Rattle.netlist_gates.specs.declared.inner.SumAnswer.{SumAnswer}
-use Rattle.netlist_gates.specs.declared.inner.SumAnswer.TheVariants as sum
-use Rattle.netlist_gates.specs.declared.inner.GatesAnswer.{GatesAnswer}
-use Rattle.netlist_gates.specs.declared.inner.GatesAnswer.TheVariants as gates
+use Rattle.std.specs.Prelude.{Option, Result, Ok, Err, Some, None}
+use Rattle.model.specs.declared.Refusal.{Refusal}
+use Rattle.netlist_gates.specs.declared.inner.GateSize.{GateSize}
 
 -- the length of the gate's record (47 54) at a position
 abbrev pub size_at : List ℕ → ℕ → ℕ
@@ -25,15 +22,6 @@ starts (suc n) at file = at ∷ starts n (at + size_at file at) file
 unfoldable pub zeros : List ℕ
 zeros = replicate max_nets 0
 
--- what the code keeps of a gate: its count and the length of its record
-pub record GateSize : Type 0 where
-  pub count : ℕ
-  pub size : ℕ
-
-abbrev pub gate_of : GateAnswer → Answer GateSize
-gate_of (gate.Gate n k) = value (record { count = n; size = k })
-gate_of (gate.Refused w) = refused (refusal_number_of w)
-
 -- Gate by gate: the rules of one gate, then its count and the length of its record
 unfoldable pub gate_step : ℕ → List ℕ → List ℕ → Answer GateSize
 gate_step net cs bs = checks (gate_rules net cs bs) then value (record { count = count_in cs bs; size = 4 + 2 * get_or bs 3 0 })
@@ -46,9 +34,9 @@ unfoldable pub pin_sum_of : List ℕ → ℕ → ℕ → List ℕ → ℕ
 pin_sum_of cs n at bs = sum_of (at_nets cs 0 (net_fields n (drop at bs)))
 
 -- a sum at most 2^62, or one over it
-abbrev pub SumIs : SumAnswer → ℕ → Type 0
-SumIs (sum.Sum n) x = (n ≡ x) × (x ≤ max_count)
-SumIs sum.Over x = max_count < x
+abbrev pub SumIs : Option ℕ → ℕ → Type 0
+SumIs (Some n) x = (n ≡ x) × (x ≤ max_count)
+SumIs None x = max_count < x
 
 -- `number` gates were read up to a position: their counts stand after those of the inputs, the positions of their records after a zero for each input
 pub record GatesEnd (at : ℕ) (counts positions file : List ℕ) (inputs number : ℕ) : Type 0 where
@@ -58,6 +46,6 @@ pub record GatesEnd (at : ℕ) (counts positions file : List ℕ) (inputs number
   pub positions-are : positions ≡ padded (replicate inputs 0 ++ starts number 8 file)
   pub within : at ≤ length file
 
-abbrev pub GatesAre : GatesAnswer → List ℕ → List ℕ → List ℕ → ℕ → ℕ → Type 0
-GatesAre (gates.Done at) counts positions file inputs number = GatesEnd at counts positions file inputs number
-GatesAre (gates.Refused w) counts positions file inputs number = read_gates number (replicate inputs 1) (drop 8 file) ≡ refused (refusal_number_of w)
+abbrev pub GatesAre : Result ℕ Refusal → List ℕ → List ℕ → List ℕ → ℕ → ℕ → Type 0
+GatesAre (Ok at) counts positions file inputs number = GatesEnd at counts positions file inputs number
+GatesAre (Err w) counts positions file inputs number = read_gates number (replicate inputs 1) (drop 8 file) ≡ refused (refusal_number_of w)

@@ -10,13 +10,14 @@ use Rattle.model.specs.Read.{output_rules, read_outputs_of, marked}
 use Rattle.model.proofs.AnswerLaws.{then-first, then-second, checks→, value_inj}
 use Rattle.model.proofs.BoolLaws.{and_left}
 use Rattle.model.proofs.NetLaws.{output-count-wire, output-count-gate}
-use Rattle.netlist_outputs.specs.OutputReading.{output_step, OutputRead, output_of, OutputsEnd}
+use Rattle.netlist_outputs.specs.OutputReading.{output_step, OutputsEnd}
+use Rattle.netlist_outputs.specs.declared.inner.OutputRead.{OutputRead}
 use Rattle.model.specs.Refusals.{refusal_number_of}
-use Rattle.netlist_outputs.specs.declared.inner.OutputAnswer.{OutputAnswer}
-use Rattle.netlist_outputs.specs.declared.inner.OutputAnswer.TheVariants as output
 use Rattle.model.specs.declared.Refusal.{Refusal}
 use Rattle.record_bytes.proofs.AheadLaws.{ahead, ahead-next, ahead_none}
 use Rattle.record_bytes.proofs.PartLaws.{part-rest, begins-long}
+use Rattle.std.specs.Prelude.{Result, Ok, Err}
+use Rattle.model.specs.Returned.{answer_of}
 
 -- the paths that end at an output, at an input net and at a gate's
 pub paths-wire : (inputs : ℕ) (cs : List ℕ) (net : ℕ) → net < inputs → 0 ≡ output_count inputs cs net
@@ -132,38 +133,35 @@ outputs-refused (suc left) inputs nets low total counts s n h t = go (checks (ou
     go (value u) v r f e = absurd (Rattle.model.proofs.AnswerLaws.not_refused (sym e))
 
 module _ (left inputs nets low total at : ℕ) (counts s : List ℕ) (whole : Answer (List ℕ × List ℕ))
-    (l : OutputsLeft left inputs nets low total at counts s whole) (more : 0 < left) (a : OutputAnswer)
-    (part : output_of a ≡ output_step inputs nets counts low total (take (length s - at) (drop at s))) where
-  e : output_of a ≡ output_step inputs nets counts low total (drop at s)
+    (l : OutputsLeft left inputs nets low total at counts s whole) (more : 0 < left) (a : Result OutputRead Refusal)
+    (part : answer_of a ≡ output_step inputs nets counts low total (take (length s - at) (drop at s))) where
+  e : answer_of a ≡ output_step inputs nets counts low total (drop at s)
   e = rw part-rest at part
 
-  pub outputs-stop : (w : Refusal) → a ≡ output.Refused w → whole ≡ refused (refusal_number_of w)
+  pub outputs-stop : (w : Refusal) → a ≡ Err w → whole ≡ refused (refusal_number_of w)
   unfolding ahead
   outputs-stop w h =
       let n : output_step inputs nets counts low total (drop at s) ≡ refused (refusal_number_of w) = sym (rw h at e) in
       sym l.rest-is ∙ ap (ahead l.outputs) (outputs-refused left inputs nets low total counts (drop at s) (refusal_number_of w) more n)
 
-  module _ (net next : ℕ) (h : a ≡ output.Output net next) where
-    is : OutputTaken inputs nets low total counts (drop at s) (record { net = net; total = next })
-    is = output-legal inputs nets low total counts (drop at s) (record { net = net; total = next }) (sym (rw h at e))
+  module _ (r : OutputRead) (h : a ≡ Ok r) where
+    is : OutputTaken inputs nets low total counts (drop at s) (record { net = r.net; total = r.total })
+    is = output-legal inputs nets low total counts (drop at s) (record { net = r.net; total = r.total }) (sym (rw h at e))
 
-    pub outputs-fit : nets ≤ 512 → Fits w64 (net + 1)
+    pub outputs-fit : nets ≤ 512 → Fits w64 (r.net + 1)
     outputs-fit b = record { fits = omega (arith, is.legal.there) }
 
-    pub outputs-at-fit : at ≤ length s → length s < 2 ^ 64 → Fits w64 (at + 4)
-    outputs-at-fit w f = record { fits = omega (arith, is.legal.room, length-drop at s) }
-
-    pub outputs-small : next ≤ 2 ^ 62
+    pub outputs-small : r.total ≤ 2 ^ 62
     outputs-small = is.legal.small
 
     pub outputs-within : at ≤ length s → at + 4 ≤ length s
     outputs-within w = omega (arith, is.legal.room, length-drop at s)
 
-    pub outputs-again : OutputsLeft (left - 1) inputs nets (net + 1) next (at + 4) counts s whole
+    pub outputs-again : OutputsLeft (left - 1) inputs nets (r.net + 1) r.total (at + 4) counts s whole
     outputs-again = record {
-      outputs = l.outputs ++ (net ∷ []);
-      total-is = omega (arith, sum-snoc (output_count inputs counts) l.outputs net, l.total-is, is.total-is, ap (output_count inputs counts) is.net-is);
-      rest-is = sym (ap (ahead l.outputs) (outputs-step left inputs nets low total counts (drop at s) (record { net = net; total = next }) more is)
-          ∙ ahead-next l.outputs net _
-          ∙ ap (λ (b : List ℕ). ahead (l.outputs ++ (net ∷ [])) (read_outputs_of (left - 1) inputs nets counts (net + 1) next b)) (drop-drop 4 at s)) ∙ l.rest-is;
+      outputs = l.outputs ++ (r.net ∷ []);
+      total-is = omega (arith, sum-snoc (output_count inputs counts) l.outputs r.net, l.total-is, is.total-is, ap (output_count inputs counts) is.net-is);
+      rest-is = sym (ap (ahead l.outputs) (outputs-step left inputs nets low total counts (drop at s) (record { net = r.net; total = r.total }) more is)
+          ∙ ahead-next l.outputs r.net _
+          ∙ ap (λ (b : List ℕ). ahead (l.outputs ++ (r.net ∷ [])) (read_outputs_of (left - 1) inputs nets counts (r.net + 1) r.total b)) (drop-drop 4 at s)) ∙ l.rest-is;
     }

@@ -4,19 +4,10 @@ use Rattle.model.specs.Base.{Answer, refused, value, checks, sum_of, field, ◌t
 use Rattle.model.specs.Netlist.{output_count}
 use Rattle.model.specs.Read.{output_rules}
 use Rattle.model.specs.Refusals.{refusal_number_of}
-use Rattle.netlist_outputs.specs.declared.inner.OutputAnswer.{OutputAnswer}
-use Rattle.netlist_outputs.specs.declared.inner.OutputAnswer.TheVariants as output
-use Rattle.netlist_outputs.specs.declared.inner.OutputsAnswer.{OutputsAnswer}
-use Rattle.netlist_outputs.specs.declared.inner.OutputsAnswer.TheVariants as outputs
-
--- what the code keeps of an output: its net and the sum with its count
-pub record OutputRead : Type 0 where
-  pub net : ℕ
-  pub total : ℕ
-
-abbrev pub output_of : OutputAnswer → Answer OutputRead
-output_of (output.Output n t) = value (record { net = n; total = t })
-output_of (output.Refused w) = refused (refusal_number_of w)
+use Rattle.std.specs.Prelude.{Result, Ok, Err}
+use Rattle.model.specs.declared.Refusal.{Refusal}
+use Rattle.netlist_outputs.specs.declared.inner.OutputRead.{OutputRead}
+use Rattle.netlist_outputs.specs.declared.inner.OutputsRead.{OutputsRead}
 
 -- Output by output: the rules of one output, then its net and the sum with its count
 unfoldable pub output_step : ℕ → ℕ → List ℕ → ℕ → ℕ → List ℕ → Answer OutputRead
@@ -30,6 +21,6 @@ pub record OutputsEnd (at total : ℕ) (file : List ℕ) (inputs : ℕ) (cs : Li
   pub total-is : total ≡ sum_of (map (output_count inputs cs) outputs)
   pub within : at ≤ length file
 
-abbrev pub OutputsAre : OutputsAnswer → List ℕ → ℕ → List ℕ → Answer (List ℕ × List ℕ) → Type 0
-OutputsAre (outputs.Done at total) file inputs cs x = OutputsEnd at total file inputs cs x
-OutputsAre (outputs.Refused w) file inputs cs x = x ≡ refused (refusal_number_of w)
+abbrev pub OutputsAre : Result OutputsRead Refusal → List ℕ → ℕ → List ℕ → Answer (List ℕ × List ℕ) → Type 0
+OutputsAre (Ok r) file inputs cs x = OutputsEnd r.at r.total file inputs cs x
+OutputsAre (Err w) file inputs cs x = x ≡ refused (refusal_number_of w)

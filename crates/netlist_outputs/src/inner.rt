@@ -3,23 +3,24 @@
 ghost use Rattle.std.specs.Prelude.{◌≡◌, ◌^◌, ◌≤◌, ◌<◌, length, drop};
 ghost use Rattle.model.specs.Netlist.{output_count};
 ghost use Rattle.model.specs.Read.{read_outputs_of};
-ghost use Rattle.netlist_outputs.specs.OutputReading.{output_of, output_step, OutputsAre};
+ghost use Rattle.netlist_outputs.specs.OutputReading.{output_step, OutputsAre};
+ghost use Rattle.model.specs.Returned.{answer_of};
 
 use model::{MAX_COUNT, Refusal};
 use record_bytes::inner::{begins_with, u16_at};
 
 // The position after the last output, and the total.
 #[derive(Drop)]
-pub enum OutputsAnswer {
-    Done { at: usize, total: u64 },
-    Refused(Refusal),
+pub struct OutputsRead {
+    pub at: usize,
+    pub total: u64,
 }
 
 // An output's net, and the total with it.
 #[derive(Drop)]
-pub(crate) enum OutputAnswer {
-    Output { net: usize, total: u64 },
-    Refused(Refusal),
+pub(crate) struct OutputRead {
+    pub net: usize,
+    pub total: u64,
 }
 
 // The outputs, from a position on.
@@ -30,30 +31,22 @@ pub fn read_outputs(
     inputs: usize,
     nets: usize,
     counts: &[u64; 512],
-) -> OutputsAnswer
+) -> Result<OutputsRead, Refusal>
     requires { (from ≤ length netlist.now) × (nets ≤ 512) }
     ensures { OutputsAre result netlist.now inputs counts.now (read_outputs_of outputs inputs nets counts.now 0 0 (drop from netlist.now)) }
 {
-    let mut left = outputs;
-    let mut at = from;
     let mut low: usize = 0;
     let mut total: u64 = 0;
-    while 0 < left {
-        let part = &netlist[at..];
-        let output = read_output(part, inputs, nets, low, total, counts);
-        match output {
-            OutputAnswer::Output { net, total: next } => {
-                low = net + 1;
-                total = next;
-            }
-            OutputAnswer::Refused(why) => {
-                return OutputsAnswer::Refused(why);
-            }
-        }
-        at += 4;
-        left -= 1;
+    for k in 0..outputs {
+        let part = &netlist[from + 4 * k..];
+        let output = read_output(part, inputs, nets, low, total, counts)?;
+        low = output.net + 1;
+        total = output.total;
     }
-    OutputsAnswer::Done { at, total }
+    Ok(OutputsRead {
+        at: from + 4 * outputs,
+        total,
+    })
 }
 
 // One output, from the part of the file that begins at its mark. It names a net from `low` to below `nets`; those below `inputs` have no path.
@@ -64,29 +57,29 @@ fn read_output(
     low: usize,
     total: u64,
     counts: &[u64; 512],
-) -> OutputAnswer
+) -> Result<OutputRead, Refusal>
     requires { (nets ≤ 512) × (total ≤ 2 ^ 62) }
-    ensures { output_of result ≡ output_step inputs nets counts.now low total part.now }
+    ensures { answer_of result ≡ output_step inputs nets counts.now low total part.now }
 {
     let marked = begins_with(part, 4, 0x4F, 0x55);
     if !marked {
-        return OutputAnswer::Refused(Refusal::OutputCut);
+        return Err(Refusal::OutputCut);
     }
     let net = u16_at(part, 2);
     if nets <= net {
-        return OutputAnswer::Refused(Refusal::OutputNet);
+        return Err(Refusal::OutputNet);
     }
     if net < low {
-        return OutputAnswer::Refused(Refusal::OutputNet);
+        return Err(Refusal::OutputNet);
     }
     let count = output_paths(counts, inputs, net);
     if MAX_COUNT - total < count {
-        return OutputAnswer::Refused(Refusal::TotalOverLimit);
+        return Err(Refusal::TotalOverLimit);
     }
-    OutputAnswer::Output {
+    Ok(OutputRead {
         net,
         total: total + count,
-    }
+    })
 }
 
 // How many paths end at an output at this net: none at an input, where the output is a wire without a gate.

@@ -22,26 +22,20 @@ pub enum Edge {
     Falling,
 }
 
-#[derive(Drop)]
-pub enum FaultAnswer {
-    Fault(FaultNo),
-    Refused(Refusal),
-}
-
 // The fault of a path and an edge: 2i - 1 or 2i. No netlist has a path number that is not 1 to 2^62.
-pub fn fault_of(path: PathNo, edge: Edge) -> FaultAnswer
+pub fn fault_of(path: PathNo, edge: Edge) -> Result<FaultNo, Refusal>
     ensures { fault_answer result ≡ fault_call_of (model_edge edge) path.0 }
 {
     let i = path.0;
     if i < 1 {
-        return FaultAnswer::Refused(Refusal::NoSuchNumber);
+        return Err(Refusal::NoSuchNumber);
     }
     if MAX_COUNT < i {
-        return FaultAnswer::Refused(Refusal::NoSuchNumber);
+        return Err(Refusal::NoSuchNumber);
     }
     match edge {
-        Edge::Rising => FaultAnswer::Fault(FaultNo(2 * i - 1)),
-        Edge::Falling => FaultAnswer::Fault(FaultNo(2 * i)),
+        Edge::Rising => Ok(FaultNo(2 * i - 1)),
+        Edge::Falling => Ok(FaultNo(2 * i)),
     }
 }
 

@@ -9,14 +9,14 @@ use Rattle.bench_text.specs.NetlistFile.{converted}
 use Rattle.bench_text.specs.Calls.{convert_answer, convert_buffer, bench_of}
 use Rattle.bench_text.specs.Converting.{ConvertTrue}
 use Rattle.bench_text.proofs.ConvertCases.{call-is}
-use Rattle.bench_text.specs.declared.BenchAnswer.{BenchAnswer}
-use Rattle.bench_text.specs.declared.BenchAnswer.TheVariants as bench
 use Rattle.bench_net_names.specs.NetNames.{name_of}
 use Rattle.bench_net_names.specs.Table.{name_in_of, NamesTold}
 use Rattle.listing_lines.specs.ListingLines.{refused_line_of}
 use Rattle.text_buffer.specs.Written.{Written, in_room}
 use Rattle.text_buffer.proofs.WrittenLaws.{no_room, room-there, written_as}
 use Rattle.path_lines.specs.PathText.{path_text, bench_shown, bench_path_text}
+use Rattle.std.specs.Prelude.{Result, Ok, Err}
+use Rattle.bench_circuit.specs.declared.inner.judging.LineRefusal.{LineRefusal}
 
 abbrev sized : Answer (List ℕ) → Answer ℕ
 sized y = y into λ bs. value (length bs)
@@ -46,19 +46,19 @@ module _ (out text : List ℕ) (k : ℕ) where
   pub bench_short : length out < 65536 → Written out out 0 (in_room 65536 out (bench_path_text text k)) 0
   bench_short h = no_room 65536 out (bench_path_text text k) h
 
-  module _ (buf buf' : List ℕ) (big : length buf ≡ 10484) (a : BenchAnswer) (t : ConvertTrue a text buf buf') where
+  module _ (buf buf' : List ℕ) (big : length buf ≡ 10484) (a : Result ℕ LineRefusal) (t : ConvertTrue a text buf buf') where
     answer-is : bench_of a ≡ sized (converted text)
     unfolding convert_answer
     answer-is = t.answer ∙ ap (λ (x : Answer (List ℕ)). sized x) (call-is text buf (omega arith))
 
-    pub bench_refused : 65536 ≤ length out → (w : Refusal) (line : ℕ) → a ≡ bench.Refused w line → (o : List ℕ) (r : ℕ)
-        → Written out o 0 (refused_line_of (refusal_number_of w)) r → Written out o 0 (in_room 65536 out (bench_path_text text k)) r
+    pub bench_refused : 65536 ≤ length out → (r0 : LineRefusal) → a ≡ Err r0 → (o : List ℕ) (r : ℕ)
+        → Written out o 0 (refused_line_of (refusal_number_of r0.why)) r → Written out o 0 (in_room 65536 out (bench_path_text text k)) r
     unfolding bench_path_text
-    bench_refused room w line e o r p =
-        let z = as_refused (converted text) (refusal_number_of w) (ap bench_of (sym e) ∙ answer-is) in
+    bench_refused room r0 e o r p =
+        let z = as_refused (converted text) (refusal_number_of r0.why) (ap bench_of (sym e) ∙ answer-is) in
         room-there 65536 out (bench_path_text text k) room (written_as (ap (bench_shown (name_of text) k) (sym z)) p)
 
-    module _ (n : ℕ) (e : a ≡ bench.Written n) where
+    module _ (n : ℕ) (e : a ≡ Ok n) where
       got : Sized (converted text) n
       got = as_value (converted text) n (ap bench_of (sym e) ∙ answer-is)
 

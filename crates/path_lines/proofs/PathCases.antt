@@ -15,29 +15,28 @@ use Rattle.model.specs.declared.Refusal.{Refusal}
 use Rattle.netlist.specs.Answers.{LoadTrue}
 use Rattle.netlist.specs.Tables.{SomeCircuit}
 use Rattle.netlist.specs.declared.inner.Shape.{Shape}
-use Rattle.netlist.specs.declared.inner.LoadAnswer.{LoadAnswer}
-use Rattle.netlist.specs.declared.inner.LoadAnswer.TheVariants as load
 use Rattle.netlist.proofs.LoadCases.{zeros-are}
 use Rattle.path_to_number.proofs.NumberCallCases.{read-tables}
-use Rattle.path_of_number.specs.Answers.{path_answer, PathWritten}
-use Rattle.path_of_number.specs.declared.PathAnswer.{PathAnswer}
-use Rattle.path_of_number.specs.declared.PathAnswer.TheVariants as path
+use Rattle.path_of_number.specs.Answers.{PathWritten}
 use Rattle.listing_lines.specs.ListingLines.{refused_line_of}
 use Rattle.text_buffer.specs.Written.{Written, in_room}
 use Rattle.text_buffer.proofs.WrittenLaws.{no_room, room-there, written_as}
 use Rattle.path_lines.specs.PathText.{path_call, shown_path, path_text}
 use Rattle.path_lines.specs.Walked.{PinsAt, PathTold}
+use Rattle.std.specs.Prelude.{Result, Ok, Err}
+use Rattle.netlist.specs.declared.inner.LegalNetlist.{LegalNetlist}
+use Rattle.model.specs.Returned.{answer_of}
 
 -- ---- a netlist that was loaded
 
-module _ (file counts positions : List ℕ) (a : LoadAnswer) (la : LoadTrue a file counts positions) where
-  pub loaded_none : (w : Refusal) → a ≡ load.Refused w → (out : List ℕ) (name : ℕ → List ℕ) (words : List ℕ) → PathTold out out file name words 0
+module _ (file counts positions : List ℕ) (a : Result LegalNetlist Refusal) (la : LoadTrue a file counts positions) where
+  pub loaded_none : (w : Refusal) → a ≡ Err w → (out : List ℕ) (name : ℕ → List ℕ) (words : List ℕ) → PathTold out out file name words 0
   loaded_none w l out name words =
       let n : read_netlist file ≡ refused (refusal_number_of w) = rw l at la in
       record { told = λ N p e v o q. absurd (not_refused (sym n ∙ e)) }
 
-  pub loaded_circuit : (shape : Shape) (total : ℕ) → a ≡ load.Legal shape total → SomeCircuit file positions shape
-  loaded_circuit shape total l = record { counts = counts; known = read-tables file [] counts positions a la shape total l }
+  pub loaded_circuit : (l0 : LegalNetlist) → a ≡ Ok l0 → SomeCircuit file positions l0.shape
+  loaded_circuit l0 l = record { counts = counts; known = read-tables file [] counts positions a la l0 l }
 
 pub ruleset load-cases = (zeros-are, loaded_none, loaded_circuit, rules)
 
@@ -85,20 +84,20 @@ module _ (out : List ℕ) (file : List ℕ) (name : ℕ → List ℕ) (k : ℕ) 
   pub path-short : length out < 65536 → Written out out 0 (in_room 65536 out (path_text file name k)) 0
   path-short h = no_room 65536 out (path_text file name k) h
 
-  module _ (room : 65536 ≤ length out) (ws left : List ℕ) (long : 513 ≤ length ws) (a : PathAnswer) (t : PathWritten a file k ws left) where
-    pub path-refused : (w : Refusal) → a ≡ path.Refused w → (o : List ℕ) (r : ℕ) → Written out o 0 (refused_line_of (refusal_number_of w)) r
+  module _ (room : 65536 ≤ length out) (ws left : List ℕ) (long : 513 ≤ length ws) (a : Result (Unit {0}) Refusal) (t : PathWritten a file k ws left) where
+    pub path-refused : (w : Refusal) → a ≡ Err w → (o : List ℕ) (r : ℕ) → Written out o 0 (refused_line_of (refusal_number_of w)) r
         → Written out o 0 (in_room 65536 out (path_text file name k)) r
     unfolding path_text number_to_path_answer
     path-refused w e o r p =
         let n : refused (refusal_number_of w) ≡ passes (alone (path_call file k)) =
-        ap path_answer (sym e) ∙ t.answer ∙ ap (λ (x : Answer CircuitPath). passes x) (call-is file k ws long) in
+        ap answer_of (sym e) ∙ t.answer ∙ ap (λ (x : Answer CircuitPath). passes x) (call-is file k ws long) in
         let z = as_refused (path_call file k) (refusal_number_of w) n in
         room-there 65536 out (path_text file name k) room (written_as (ap (shown_path name) (sym z)) p)
 
-    module _ (e : a ≡ path.Written) where
+    module _ (e : a ≡ Ok tt) where
       got : Got (path_call file k)
       unfolding number_to_path_answer
-      got = as_value (path_call file k) (ap path_answer (sym e) ∙ t.answer ∙ ap (λ (x : Answer CircuitPath). passes x) (call-is file k ws long))
+      got = as_value (path_call file k) (ap answer_of (sym e) ∙ t.answer ∙ ap (λ (x : Answer CircuitPath). passes x) (call-is file k ws long))
 
       pub record Found : Type 0 where
         pub circuit : Netlist

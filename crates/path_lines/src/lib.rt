@@ -11,11 +11,11 @@ ghost use Rattle.path_lines.specs.PathText.{path_text, bench_path_text, path_byt
 
 use crate::walk::put_loaded;
 use bench_net_names::net_names;
-use bench_text::{BenchAnswer, NETLIST_BYTES, bench_to_netlist};
+use bench_text::{LineRefusal, NETLIST_BYTES, bench_to_netlist};
 use listing_lines::inner::put_refusal;
 use model::PATH_WORDS;
 use path_faults::PathNo;
-use path_of_number::{PathAnswer, number_to_path};
+use path_of_number::number_to_path;
 
 // The least bytes of a buffer for a path's text.
 pub const PATH_BYTES: usize = 65536;
@@ -32,8 +32,8 @@ pub fn put_path(netlist: &[u8], names: &[u64], number: PathNo, out: &mut [u8]) -
     let mut words = [0u16; PATH_WORDS];
     let answer = number_to_path(netlist, number, &mut words);
     match answer {
-        PathAnswer::Refused(why) => put_refusal(out, 0, why),
-        PathAnswer::Written => put_loaded(netlist, names, &words, out),
+        Err(why) => put_refusal(out, 0, why),
+        Ok(()) => put_loaded(netlist, names, &words, out),
     }
 }
 
@@ -57,7 +57,7 @@ pub fn put_bench_path(text: &[u8], number: PathNo, out: &mut [u8]) -> usize
     let mut netlist = no_bytes();
     let answer = bench_to_netlist(text, &mut netlist);
     match answer {
-        BenchAnswer::Refused { why, line: _ } => put_refusal(out, 0, why),
-        BenchAnswer::Written(length) => put_path(&netlist[..length], &names, number, out),
+        Err(LineRefusal { why, line: _ }) => put_refusal(out, 0, why),
+        Ok(length) => put_path(&netlist[..length], &names, number, out),
     }
 }

@@ -5,7 +5,7 @@ ghost use Rattle.bench_net_names.specs.Table.{name_in_of};
 ghost use Rattle.path_lines.specs.Walked.{GatesTold, PathTold};
 
 use crate::nets::{put_gate, put_input, put_output};
-use netlist::inner::{LoadAnswer, Shape, gate_part, load, output_net, outputs_part};
+use netlist::inner::{LegalNetlist, Shape, gate_part, load, output_net, outputs_part};
 use record_bytes::inner::{wide, wide_word};
 
 // The gates of a path from its output's net on, then its input. The nets fall, so that there are at most 511 gates. Words that name a pin that the
@@ -74,8 +74,8 @@ pub(crate) fn put_loaded(netlist: &[u8], names: &[u64], words: &[u16], out: &mut
     let mut positions = [0u16; 512];
     let answer = load(netlist, &mut counts, &mut positions);
     match answer {
-        LoadAnswer::Refused(_) => 0,
-        LoadAnswer::Legal { shape, total: _ } => put_walk(
+        Err(_) => 0,
+        Ok(LegalNetlist { shape, total: _ }) => put_walk(
             out, names, netlist, &positions, shape, words,
         ),
     }

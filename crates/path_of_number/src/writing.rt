@@ -39,10 +39,8 @@ fn clear(path: &mut [u16])
     requires { path_words ≤ length path.old }
     ensures { path.new ≡ blank path_words path.old }
 {
-    let mut i = 0;
-    while i < PATH_WORDS {
+    for i in 0..PATH_WORDS {
         path[i] = 0;
-        i += 1;
     }
 }
 

@@ -13,10 +13,10 @@ use Rattle.model.proofs.ReadLaws.{legal}
 use Rattle.netlist.specs.Answers.{LegalLoad, LoadTrue}
 use Rattle.netlist.specs.Tables.{CircuitTables, SomeTables}
 use Rattle.netlist.specs.declared.inner.Shape.{Shape}
-use Rattle.netlist.specs.declared.inner.LoadAnswer.{LoadAnswer}
-use Rattle.netlist.specs.declared.inner.LoadAnswer.TheVariants as load
 use Rattle.netlist.proofs.LoadCases.{zeros-are}
 use Rattle.path_to_number.specs.PathNumbers.{or_zero, number_in}
+use Rattle.std.specs.Prelude.{Result, Ok, Err}
+use Rattle.netlist.specs.declared.inner.LegalNetlist.{LegalNetlist}
 
 not_path : (v : Bool) (a : ℕ) → (v ≡ true → 1 ≤ a) → 0 ≡ or_zero v a → v ≡ false
 not_path true a h e = absurd (omega (arith, h refl))
@@ -32,21 +32,21 @@ counted-from file M e ws t =
     let a : T (leb 2 (length ws) && eqb (length ws) (2 + get_or ws 1 0) && valid M (path_in ws)) = true→T (is_path M ws) t in
     (numbers-bounds M (legal file M e) (path_in ws) (and3 (leb 2 (length ws)) (eqb (length ws) (2 + get_or ws 1 0)) (valid M (path_in ws)) a).2).0
 
-module _ (file ws cs ps : List ℕ) (a : LoadAnswer) (la : LoadTrue a file cs ps) where
-  pub read-netlist : (w : Refusal) → a ≡ load.Refused w → refused (refusal_number_of w) ≡ path_to_number_call file ws
+module _ (file ws cs ps : List ℕ) (a : Result LegalNetlist Refusal) (la : LoadTrue a file cs ps) where
+  pub read-netlist : (w : Refusal) → a ≡ Err w → refused (refusal_number_of w) ≡ path_to_number_call file ws
   unfolding path_to_number_call
   read-netlist w l =
       let n : read_netlist file ≡ refused (refusal_number_of w) = rw l at la in
       rw n refl
 
-  module _ (shape : Shape) (total : ℕ) (l : a ≡ load.Legal shape total) where
-    legal-load : LegalLoad file cs ps shape total
+  module _ (l0 : LegalNetlist) (l : a ≡ Ok l0) where
+    legal-load : LegalLoad file cs ps l0.shape l0.total
     legal-load = rw l at la
 
-    pub read-tables : SomeTables file ps cs shape
+    pub read-tables : SomeTables file ps cs l0.shape
     read-tables = record { circuit = legal-load.circuit; tables = legal-load.tables }
 
-    module _ (k : ℕ) (f : (M : Netlist) → CircuitTables M file ps cs shape → k ≡ number_in M ws) where
+    module _ (k : ℕ) (f : (M : Netlist) → CircuitTables M file ps cs l0.shape → k ≡ number_in M ws) where
       abbrev circuit : Netlist
       circuit = legal-load.circuit
 

@@ -1,17 +1,17 @@
 -- What the reading call answers, by document 01's numbers and values, and the numbers that it works with.
 use Rattle.std.specs.Prelude.{Bool, true, false, List, ℕ}
-use Rattle.model.specs.Base.{Answer, refused, value}
+use Rattle.model.specs.Base.{Answer}
 use Rattle.model.specs.Netlist.{Netlist}
 use Rattle.model.specs.Path.{valid_at, number_at, number_of}
-use Rattle.model.specs.Refusals.{refusal_number_of}
+use Rattle.model.specs.Returned.{answer_by}
 use Rattle.model.specs.Calls.{is_path, path_in}
-use Rattle.path_to_number.specs.declared.NumberAnswer.{NumberAnswer}
-use Rattle.path_to_number.specs.declared.NumberAnswer.TheVariants as number
+use Rattle.std.specs.Prelude.{Result}
+use Rattle.model.specs.declared.Refusal.{Refusal}
+use Rattle.path_faults.specs.declared.PathNo.{PathNo}
 
 -- Path to number: a path number, or the number of the refusal
-abbrev pub number_answer : NumberAnswer → Answer ℕ
-number_answer (number.Number p) = value p.0
-number_answer (number.Refused w) = refused (refusal_number_of w)
+abbrev pub number_answer : Result PathNo Refusal → Answer ℕ
+number_answer = answer_by (λ p. p.0)
 
 -- the number if the test passes, else 0
 abbrev pub or_zero : Bool → ℕ → ℕ

@@ -9,30 +9,19 @@ ghost use Rattle.path_to_number.specs.PathNumbers.{number_answer};
 
 use crate::reading::read_path;
 use model::Refusal;
-use netlist::inner::{LoadAnswer, load};
+use netlist::inner::load;
 use path_faults::PathNo;
 
-#[derive(Drop)]
-pub enum NumberAnswer {
-    Number(PathNo),
-    Refused(Refusal),
-}
-
 // The number of the path in the words: output place, number of pins, then the pins.
-pub fn path_to_number(netlist: &[u8], path: &[u16]) -> NumberAnswer
+pub fn path_to_number(netlist: &[u8], path: &[u16]) -> Result<PathNo, Refusal>
     ensures { number_answer result ≡ path_to_number_call netlist.now path.now }
 {
     let mut counts = [0u64; 512];
     let mut positions = [0u16; 512];
-    let answer = load(netlist, &mut counts, &mut positions);
-    match answer {
-        LoadAnswer::Refused(why) => NumberAnswer::Refused(why),
-        LoadAnswer::Legal { shape, total: _ } => {
-            let number = read_path(netlist, &positions, &counts, shape, path);
-            if number == 0 {
-                return NumberAnswer::Refused(Refusal::NotAPath);
-            }
-            NumberAnswer::Number(PathNo(number))
-        }
+    let legal = load(netlist, &mut counts, &mut positions)?;
+    let number = read_path(netlist, &positions, &counts, legal.shape, path);
+    if number == 0 {
+        return Err(Refusal::NotAPath);
     }
+    Ok(PathNo(number))
 }

@@ -36,12 +36,10 @@ fn same_text(left: &[u8], right: &[u8]) -> bool
     if left.len() != right.len() {
         return false;
     }
-    let mut i = 0;
-    while i < left.len() {
+    for i in 0..left.len() {
         if left[i] != right[i] {
             return false;
         }
-        i += 1;
     }
     true
 }

@@ -27,9 +27,7 @@ fn put_error(error: Error, space: &mut [u8]) -> usize
 fn reason_length(text: &[u8]) -> usize
     ensures { IsPrefixLen result text.now }
 {
-    let mut at = text.len();
-    while 1 < at {
-        at -= 1;
+    for at in (1..text.len()).rev() {
         if text[at] == b'(' {
             return at - 1;
         }

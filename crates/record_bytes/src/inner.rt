@@ -60,14 +60,10 @@ pub fn put(s: &mut [u8], at: usize, k: usize, number: u64)
     requires { at + k ≤ length s.old }
     ensures { s.new ≡ sets s.old at (little_endian k number) }
 {
-    let mut place = at;
-    let mut left = k;
     let mut rest = number;
-    while 0 < left {
+    for place in at..at + k {
         s[place] = (rest % 256) as u8;
         rest = rest / 256;
-        place += 1;
-        left -= 1;
     }
 }
 
@@ -76,16 +72,12 @@ pub fn same(s: &[u8], at: usize, k: usize, number: u64) -> bool
     requires { at + k ≤ length s.now }
     ensures { result ≡ same_bytes (take k (drop at s.now)) (little_endian k number) }
 {
-    let mut place = at;
-    let mut left = k;
     let mut rest = number;
-    while 0 < left {
+    for place in at..at + k {
         if s[place] as u64 != rest % 256 {
             return false;
         }
         rest = rest / 256;
-        place += 1;
-        left -= 1;
     }
     true
 }

@@ -11,10 +11,10 @@ use Rattle.model.proofs.BoolLaws.{true→T}
 use Rattle.record_bytes.proofs.PartLaws.{part-rest}
 use Rattle.model.proofs.ListLaws.{get_d_map-in, take-bytes, length-numbers_from, numbers_from-at}
 use Rattle.record_test.specs.Records.{RecordTrue, VectorsTrue, EdgesTrue}
-use Rattle.record_test.specs.declared.inner.RecordAnswer.TheVariants.{Legal, Refused}
 use Rattle.record_test.specs.declared.inner.Vectors.{Vectors}
 use Rattle.record_bytes.proofs.BitLaws.{rise-bit, fall-bit, word-bit}
 use lib.Bits.{bit_and, bit_xor}
+use Rattle.std.specs.Prelude.{Ok, Err}
 
 pub edges-true : (t : Vectors) → EdgesTrue t (record { rises = bit_and (bit_xor t.v1 t.v2) t.v2; falls = bit_and (bit_xor t.v1 t.v2) t.v1 })
 edges-true t = record { rise = rise-bit t.v1 t.v2; fall = fall-bit t.v1 t.v2 }
@@ -95,7 +95,7 @@ module _ (inputs : ℕ) (test : List ℕ) (bytes : ℕ) (eb : bytes ≡ vector_b
   changes : Netlist → Bool
   changes N = some_change_of N.inputs (v1_part N test) (v2_part N test)
 
-  pub wrong_length : (length test ≡ 2 + 2 * bytes → ⊥) → RecordTrue (Refused why.RecordLength) inputs test
+  pub wrong_length : (length test ≡ 2 + 2 * bytes → ⊥) → RecordTrue (Err why.RecordLength) inputs test
   unfolding right_length right_mark no_spare changes
   wrong_length h = record {
     answer = λ N e. test-30 (right_length N) right_mark (no_spare N) (changes N)
@@ -109,7 +109,7 @@ module _ (inputs : ℕ) (test : List ℕ) (bytes : ℕ) (eb : bytes ≡ vector_b
     mark-is : leb 2 (length test) && marked 0x54 0x50 test ≡ marked 0x54 0x50 test
     mark-is = and_known (leb 2 (length test)) (marked 0x54 0x50 test) (le-leb 2 (length test) (omega arith))
 
-    pub wrong_mark : (m : Bool) → m ≡ (leb 2 (length test) && marked 0x54 0x50 test) → not m ≡ true → RecordTrue (Refused why.RecordMark) inputs test
+    pub wrong_mark : (m : Bool) → m ≡ (leb 2 (length test) && marked 0x54 0x50 test) → not m ≡ true → RecordTrue (Err why.RecordMark) inputs test
     unfolding right_length right_mark no_spare changes
     wrong_mark m em h = record {
       answer = λ N e. test-31 (right_length N) right_mark (no_spare N) (changes N) (length-right N e) (sym (em ∙ mark-is) ∙ not-true m h);
@@ -123,7 +123,7 @@ module _ (inputs : ℕ) (test : List ℕ) (bytes : ℕ) (eb : bytes ≡ vector_b
       first-is : (N : Netlist) → N.inputs ≡ inputs → spare_zero_of N.inputs (v1_part N test) ≡ z₁
       first-is N e = ap (λ i. spare_zero_of i (drop 2 test)) e ∙ ap (spare_zero_of inputs) (sym (part-rest 2 test)) ∙ sym e₁
 
-      pub spare-first : not z₁ ≡ true → RecordTrue (Refused why.SpareBit) inputs test
+      pub spare-first : not z₁ ≡ true → RecordTrue (Err why.SpareBit) inputs test
       unfolding right_length right_mark no_spare changes
       spare-first h = record {
         answer = λ N e.
@@ -138,7 +138,7 @@ module _ (inputs : ℕ) (test : List ℕ) (bytes : ℕ) (eb : bytes ≡ vector_b
             ∙ ap (λ i. spare_zero_of i (drop (2 + vector_bytes_of i) test)) e ∙ ap (λ b. spare_zero_of inputs (drop (2 + b) test)) (sym eb)
             ∙ ap (spare_zero_of inputs) (sym (part-rest (2 + bytes) test)) ∙ sym e₂
 
-        pub spare-second : not z₂ ≡ true → RecordTrue (Refused why.SpareBit) inputs test
+        pub spare-second : not z₂ ≡ true → RecordTrue (Err why.SpareBit) inputs test
         unfolding right_length right_mark no_spare changes
         spare-second h = record {
           answer = λ N e. test-32 (right_length N) right_mark (no_spare N) (changes N) (length-right N e) mark-right (both-are N e ∙ not-true z₂ h);
@@ -151,14 +151,14 @@ module _ (inputs : ℕ) (test : List ℕ) (bytes : ℕ) (eb : bytes ≡ vector_b
               ap (λ i. some_change_of i (drop 2 test) (drop (2 + vector_bytes_of i) test)) e ∙ ap (λ b. some_change_of inputs (drop 2 test) (drop (2 + b) test)) (sym eb)
               ∙ ap₂ (some_change_of inputs) (sym (part-rest 2 test)) (sym (part-rest (2 + bytes) test)) ∙ sym e₃
 
-          pub pair-unchanged : not d ≡ true → RecordTrue (Refused why.UnchangedPair) inputs test
+          pub pair-unchanged : not d ≡ true → RecordTrue (Err why.UnchangedPair) inputs test
           unfolding right_length right_mark no_spare changes
           pair-unchanged h = record {
             answer = λ N e. test-85 (right_length N) right_mark (no_spare N) (changes N) (length-right N e) mark-right (both-are N e ∙ not-false z₂ h₂)
                 (change_is N e ∙ not-true d h);
           }
 
-          pub record_legal : not d ≡ false → RecordTrue Legal inputs test
+          pub record_legal : not d ≡ false → RecordTrue (Ok tt) inputs test
           unfolding right_length right_mark no_spare changes
           record_legal h = record {
             answer = λ N e. test-none (right_length N) right_mark (no_spare N) (changes N) (length-right N e) mark-right (both-are N e ∙ not-false z₂ h₂)

@@ -1,23 +1,18 @@
 -- What the checks of a test record answer, and its vectors and edges as words with a bit for each input.
 use Rattle.std.specs.Prelude.{◌≡◌, false, ◌&&◌, not, List, ℕ, ◌<◌, get_or}
-use Rattle.model.specs.Base.{Answer, refused, value, checks, bit}
+use Rattle.model.specs.Base.{checks, bit}
 use Rattle.model.specs.Netlist.{Netlist}
 use Rattle.model.specs.Detect.{Class}
 use Rattle.model.specs.Read.{test_rules, test_of}
-use Rattle.model.specs.Refusals.{refusal_number_of}
-use Rattle.record_test.specs.declared.inner.RecordAnswer.{RecordAnswer}
-use Rattle.record_test.specs.declared.inner.RecordAnswer.TheVariants as record-answer
 use Rattle.record_test.specs.declared.inner.Vectors.{Vectors}
 use Rattle.record_test.specs.declared.inner.InputEdges.{InputEdges}
-
--- document 01's number for each case
-abbrev pub record_of : RecordAnswer → Answer (Unit {0})
-record_of record-answer.Legal = value tt
-record_of (record-answer.Refused why) = refused (refusal_number_of why)
+use Rattle.std.specs.Prelude.{Result}
+use Rattle.model.specs.declared.Refusal.{Refusal}
+use Rattle.model.specs.Returned.{answer_of}
 
 -- the answer is that of the place Test, for a netlist with so many inputs
-pub record RecordTrue (r : RecordAnswer) (inputs : ℕ) (rec : List ℕ) : Type 0 where
-  pub answer : (N : Netlist) → N.inputs ≡ inputs → record_of r ≡ checks (test_rules N rec)
+pub record RecordTrue (r : Result (Unit {0}) Refusal) (inputs : ℕ) (rec : List ℕ) : Type 0 where
+  pub answer : (N : Netlist) → N.inputs ≡ inputs → answer_of r ≡ checks (test_rules N rec)
 
 -- bit j of each word is the value of input j in V1, and in V2
 pub record VectorsTrue (r : Vectors) (inputs : ℕ) (rec : List ℕ) : Type 0 where

@@ -8,13 +8,6 @@ ghost use Rattle.record_test.specs.Records.{RecordTrue, VectorsTrue, EdgesTrue};
 use model::Refusal;
 use record_bytes::inner::{begins_with, spare_zero, wide};
 
-// What the checks of a test record answer.
-#[derive(Drop)]
-pub enum RecordAnswer {
-    Legal,
-    Refused(Refusal),
-}
-
 // V1 and V2, input j in bit j.
 #[derive(Drop)]
 pub struct Vectors {
@@ -52,42 +45,40 @@ fn some_change(v1: &[u8], v2: &[u8], inputs: usize) -> bool
     ensures { result ≡ some_change_of inputs v1.now v2.now }
 {
     let bytes = vector_bytes(inputs);
-    let mut k = 0;
-    while k < bytes {
+    for k in 0..bytes {
         if v1[k] != v2[k] {
             return true;
         }
-        k += 1;
     }
     false
 }
 
 // The checks 30 to 32, then 85.
-pub fn check_record(test: &[u8], inputs: usize) -> RecordAnswer
+pub fn check_record(test: &[u8], inputs: usize) -> Result<(), Refusal>
     requires { (1 ≤ inputs) × (inputs ≤ 64) }
     ensures { RecordTrue result inputs test.now }
 {
     let bytes = vector_bytes(inputs);
     if test.len() != 2 + 2 * bytes {
-        return RecordAnswer::Refused(Refusal::RecordLength);
+        return Err(Refusal::RecordLength);
     }
     let marked = begins_with(test, 2, 0x54, 0x50);
     if !marked {
-        return RecordAnswer::Refused(Refusal::RecordMark);
+        return Err(Refusal::RecordMark);
     }
     let v1_zero = spare_zero(&test[2..], inputs);
     if !v1_zero {
-        return RecordAnswer::Refused(Refusal::SpareBit);
+        return Err(Refusal::SpareBit);
     }
     let v2_zero = spare_zero(&test[2 + bytes..], inputs);
     if !v2_zero {
-        return RecordAnswer::Refused(Refusal::SpareBit);
+        return Err(Refusal::SpareBit);
     }
     let changed = some_change(&test[2..], &test[2 + bytes..], inputs);
     if !changed {
-        return RecordAnswer::Refused(Refusal::UnchangedPair);
+        return Err(Refusal::UnchangedPair);
     }
-    RecordAnswer::Legal
+    Ok(())
 }
 
 // The first bytes of a part as a number, low byte first.
@@ -96,9 +87,7 @@ fn word_of(part: &[u8], bytes: usize) -> u64
     ensures { result ≡ from_little_endian (take bytes part.now) }
 {
     let mut word: u64 = 0;
-    let mut k = bytes;
-    while 0 < k {
-        k -= 1;
+    for k in (0..bytes).rev() {
         word = 256 * word + (wide(part[k]) as u64);
     }
     word

@@ -6,25 +6,24 @@ use Rattle.model.specs.Netlist.{path_total}
 use Rattle.model.specs.Path.{rising, falling}
 use Rattle.model.specs.Refusals.{refusal_number_of}
 use Rattle.model.specs.Store.{tests_taken_of, runs_by_edge, store_words_count, store_rules}
+use Rattle.model.specs.Calls.{survey_call}
 use Rattle.model.specs.Report.{report_record, report_buffer_bytes, writer_call, writer_answer, writer_buffer}
 use Rattle.model.specs.declared.Refusal.{Refusal}
 use Rattle.model.specs.declared.Refusal.TheVariants as why
-use Rattle.netlist.specs.Answers.{SurveyTrue}
-use Rattle.netlist.specs.declared.SurveyAnswer.TheVariants as survey
-use Rattle.netlist.specs.declared.Surveyed.{Surveyed}
+use Rattle.netlist.specs.Answers.{surveyed_of}
+use Rattle.netlist.specs.declared.NetlistSurvey.{NetlistSurvey}
 use Rattle.netlist.proofs.LoadLaws.{LegalSurvey, legal-survey, paths-fit, refused-survey}
-use Rattle.store_words.specs.WordAnswers.{check_of, totals_in, totals_both}
+use Rattle.store_words.specs.WordAnswers.{totals_in, totals_both}
 use Rattle.store_words.specs.Sound.{SoundWords, edge_words}
-use Rattle.store_words.specs.declared.inner.StoreCheck.{StoreCheck}
-use Rattle.store_words.specs.declared.inner.StoreCheck.TheVariants as check
 use Rattle.store_words.specs.declared.inner.StoreTotals.{StoreTotals}
 use Rattle.store_words.proofs.SoundLaws.{checked_sound}
 use Rattle.report.specs.Answers.{WriteTrue}
 use Rattle.report_bytes.specs.Layout.{word_bytes, head_bytes}
 use Rattle.report.specs.ReportWriting.{ReportPut}
-use Rattle.report.specs.declared.WriteAnswer.TheVariants as write
 use Rattle.report_bytes.proofs.HeadLaws.{next-put}
 use Rattle.report.proofs.ReportPartLaws.{length-words, report-parts, length-head, length_whole, edge_few, record_fits}
+use Rattle.std.specs.Prelude.{Result, Ok, Err}
+use Rattle.model.specs.Returned.{answer_of}
 
 -- the head, then the words of both edges' runs
 pub report-put : (tests paths : ℕ) (ws : List ℕ) → SoundWords (2 ^ 62) ws → (R F : List ℕ) → R ≡ edge_words ws rising → F ≡ edge_words ws falling
@@ -60,59 +59,59 @@ module _ (ws : List ℕ) (sound : SoundWords (2 ^ 62) ws) (R : List ℕ) (er : R
 pub ruleset put-report-cases = (rising-room, falling-room, record_small, rules)
 
 module _ (netlist ws buffer : List ℕ) where
-  pub writer_store : (length ws ≡ store_words_count → ⊥) → WriteTrue (write.Refused why.StoreLength) netlist ws buffer buffer
+  pub writer_store : (length ws ≡ store_words_count → ⊥) → WriteTrue (Err why.StoreLength) netlist ws buffer buffer
   unfolding writer_call writer_answer writer_buffer
   writer_store d = record { answer = rw (ne_eqb (length ws) store_words_count d) refl; buffer = rw (ne_eqb (length ws) store_words_count d) refl }
 
   module _ (l : length ws ≡ store_words_count) where
-    pub writer_short : length buffer < report_buffer_bytes → WriteTrue (write.Refused why.ReportBufferLength) netlist ws buffer buffer
+    pub writer_short : length buffer < report_buffer_bytes → WriteTrue (Err why.ReportBufferLength) netlist ws buffer buffer
     unfolding writer_call writer_answer writer_buffer
     writer_short h = record {
       answer = rw (eq-eqb (length ws) store_words_count l, lt-leb report_buffer_bytes (length buffer) h) refl;
       buffer = rw (eq-eqb (length ws) store_words_count l, lt-leb report_buffer_bytes (length buffer) h) refl;
     }
 
-    module _ (h : report_buffer_bytes ≤ length buffer) (s : Surveyed) (st : SurveyTrue s netlist) where
-      pub writer_netlist : (w : Refusal) → s.answer ≡ survey.Refused w → WriteTrue (write.Refused w) netlist ws buffer buffer
+    module _ (h : report_buffer_bytes ≤ length buffer) (s : Result NetlistSurvey Refusal) (st : surveyed_of s ≡ survey_call netlist) where
+      pub writer_netlist : (w : Refusal) → s ≡ Err w → WriteTrue (Err w) netlist ws buffer buffer
       unfolding writer_call writer_answer writer_buffer
       writer_netlist w e =
-          let z = refused-survey netlist s.answer st.answer w e in
+          let z = refused-survey netlist s st w e in
           record {
             answer = rw (eq-eqb (length ws) store_words_count l, le-leb report_buffer_bytes (length buffer) h, z) refl;
             buffer = rw (eq-eqb (length ws) store_words_count l, le-leb report_buffer_bytes (length buffer) h, z) refl;
           }
 
-      module _ (e : s.answer ≡ survey.Legal) where
-        is : LegalSurvey netlist s.survey
-        is = legal-survey netlist s.survey s.answer st.answer st.survey e
+      module _ (d : NetlistSurvey) (e : s ≡ Ok d) where
+        is : LegalSurvey netlist d
+        is = legal-survey netlist s st d e
 
-        pub writer_total : s.survey.total ≤ 2 ^ 62
-        writer_total = paths-fit netlist s st e
+        pub writer_total : d.total ≤ 2 ^ 62
+        writer_total = paths-fit netlist s st d e
 
-        module _ (k : StoreCheck) (checked : check_of k ≡ checks (store_rules s.survey.total ws)) where
-          by_total : check_of k ≡ checks (store_rules (path_total is.netlist) ws)
+        module _ (k : Result (Unit {0}) Refusal) (checked : answer_of k ≡ checks (store_rules d.total ws)) where
+          by_total : answer_of k ≡ checks (store_rules (path_total is.netlist) ws)
           by_total = checked ∙ ap (λ t. checks (store_rules t ws)) is.total_is
 
-          pub writer_words : (w : Refusal) → k ≡ check.Refused w → WriteTrue (write.Refused w) netlist ws buffer buffer
+          pub writer_words : (w : Refusal) → k ≡ Err w → WriteTrue (Err w) netlist ws buffer buffer
           unfolding writer_call writer_answer writer_buffer
           writer_words w f =
-              let z : checks (store_rules (path_total is.netlist) ws) ≡ refused (refusal_number_of w) = sym by_total ∙ ap check_of f in
+              let z : checks (store_rules (path_total is.netlist) ws) ≡ refused (refusal_number_of w) = sym by_total ∙ ap answer_of f in
               record {
                 answer = rw (eq-eqb (length ws) store_words_count l, le-leb report_buffer_bytes (length buffer) h, is.is_read) (rw z refl);
                 buffer = rw (eq-eqb (length ws) store_words_count l, le-leb report_buffer_bytes (length buffer) h, is.is_read) (rw z refl);
               }
 
-          module _ (f : k ≡ check.Sound) where
+          module _ (f : k ≡ Ok tt) where
             pub writer_sound : SoundWords (2 ^ 62) ws
-            writer_sound = checked_sound s.survey.total ws k checked l writer_total f
+            writer_sound = checked_sound d.total ws k checked l writer_total f
 
-            pub writer_written : (tests r : ℕ) (left : List ℕ) → tests ≡ tests_taken_of ws → ReportPut r tests s.survey.total ws buffer left
-                → WriteTrue (write.Written r) netlist ws buffer left
+            pub writer_written : (tests r : ℕ) (left : List ℕ) → tests ≡ tests_taken_of ws → ReportPut r tests d.total ws buffer left
+                → WriteTrue (Ok r) netlist ws buffer left
             unfolding writer_call writer_answer writer_buffer
             writer_written tests r left et p =
                 let R : List ℕ = report_record (tests_taken_of ws) (path_total is.netlist) (runs_by_edge ws) in
-                let z : checks (store_rules (path_total is.netlist) ws) ≡ value tt = sym by_total ∙ ap check_of f in
-                let same : report_record tests s.survey.total (runs_by_edge ws) ≡ R = ap₂ (λ n t. report_record n t (runs_by_edge ws)) et is.total_is in
+                let z : checks (store_rules (path_total is.netlist) ws) ≡ value tt = sym by_total ∙ ap answer_of f in
+                let same : report_record tests d.total (runs_by_edge ws) ≡ R = ap₂ (λ n t. report_record n t (runs_by_edge ws)) et is.total_is in
                 let fits : length R ≤ length buffer = omega (arith, record_fits (tests_taken_of ws) (path_total is.netlist) ws writer_sound.few) in
                 let n : 0 + length R ≡ length R = omega arith in
                 let put : left ≡ R ++ drop (length R) buffer =

@@ -3,8 +3,8 @@ ghost use Rattle.std.specs.Prelude.{◌≡◌, ◌^◌};
 ghost use Rattle.model.specs.Base.{checks};
 ghost use Rattle.model.specs.Store.{runs_by_edge};
 ghost use Rattle.model.specs.Report.{same_bytes, report_record, report_rules};
-ghost use Rattle.report.specs.Answers.{compared_of};
 ghost use Rattle.store_words.specs.Sound.{SoundWords};
+ghost use Rattle.model.specs.Returned.{answer_of};
 
 use model::Refusal;
 use path_faults::Edge;
@@ -13,13 +13,6 @@ use report_bytes::inner::comparing::{same_head, same_words};
 use report_bytes::layout::{FALLING_RUNS_AT, HEAD_BYTES, RISING_RUNS_AT, RUN_BYTES, WORD_BYTES};
 use store_words::inner::parts::edge_runs;
 use store_words::inner::totals_of;
-
-// What the checks of a report answer.
-#[derive(Drop)]
-pub enum Comparison {
-    Equal,
-    Refused(Refusal),
-}
 
 // Whether the bytes are the report of a sound store.
 fn same_report(report: &[u8], words: &[u64], tests: u64, paths: u64) -> bool
@@ -51,19 +44,19 @@ fn same_report(report: &[u8], words: &[u64], tests: u64, paths: u64) -> bool
 }
 
 // The checks of a report against the one that the writer gives for a sound store.
-pub fn compare(report: &[u8], words: &[u64], tests: u64, paths: u64) -> Comparison
+pub fn compare(report: &[u8], words: &[u64], tests: u64, paths: u64) -> Result<(), Refusal>
     requires { SoundWords (2 ^ 62) words.now }
-    ensures { compared_of result ≡ checks (report_rules report.now (report_record tests paths (runs_by_edge words.now))) }
+    ensures { answer_of result ≡ checks (report_rules report.now (report_record tests paths (runs_by_edge words.now))) }
 {
     if !begins_with(report, HEAD_BYTES, 0x52, 0x50) {
-        return Comparison::Refused(Refusal::ReportMark);
+        return Err(Refusal::ReportMark);
     }
     let runs = u16_at(report, RISING_RUNS_AT) + u16_at(report, FALLING_RUNS_AT);
     if report.len() != HEAD_BYTES + RUN_BYTES * runs {
-        return Comparison::Refused(Refusal::ReportLength);
+        return Err(Refusal::ReportLength);
     }
     if !same_report(report, words, tests, paths) {
-        return Comparison::Refused(Refusal::ReportBytes);
+        return Err(Refusal::ReportBytes);
     }
-    Comparison::Equal
+    Ok(())
 }

@@ -12,36 +12,36 @@ use Rattle.length_search.proofs.FirstLaws.{first-none, first-is}
 use Rattle.report_runs.specs.ReportRuns.{runs_of_bytes, stated_runs, ascend}
 use Rattle.report_differences.specs.Differences.{only, outside, FirstPiece, PieceFrom}
 use Rattle.report_differences.specs.FirstClaim.{first_claim_of, each_held_of, all_held_of, first_of_edges, first_in_of, claims_held_of, told_of}
-use Rattle.report_differences.specs.declared.inner.walk.Piece.{Piece}
-use Rattle.report_differences.specs.declared.inner.walk.Piece.TheVariants as piece
 use Rattle.report_differences.specs.declared.inner.first.Told.{Told}
 use Rattle.report_differences.specs.declared.inner.first.Told.TheVariants as told
 use Rattle.report_differences.proofs.RangeCases.{piece-as}
 use Rattle.report_differences.proofs.HeldLaws.{each-pass, one-held, run-below}
+use Rattle.std.specs.Prelude.{Option, Some, None}
+use Rattle.report_differences.specs.declared.inner.walk.FaultRange.{FaultRange}
 
 -- The first number that is claimed and not held, from the first range of them
-module _ (i j : ℕ) (a b : List ℕ) (paths : ℕ) (fits : Fits w64 paths) (x : Piece) (s : PieceFrom x i j a b 1) where
-  pub number-none : x ≡ piece.Nothing → 0 ≡ first_from (outside (runs_of_bytes a) (runs_of_bytes b)) 1 paths
+module _ (i j : ℕ) (a b : List ℕ) (paths : ℕ) (fits : Fits w64 paths) (x : Option FaultRange) (s : PieceFrom x i j a b 1) where
+  pub number-none : x ≡ None → 0 ≡ first_from (outside (runs_of_bytes a) (runs_of_bytes b)) 1 paths
   unfolding only
   number-none e =
-      let t : FirstPiece piece.Nothing a b 1 = piece-as i j a b 1 x piece.Nothing s e in
+      let t : FirstPiece None a b 1 = piece-as i j a b 1 x None s e in
       sym (first-none (outside (runs_of_bytes a) (runs_of_bytes b)) paths 1 (λ k h l. t k h (omega (arith, fits.fits))))
 
-  module _ (low high : ℕ) (e : x ≡ piece.Range low high) where
-    t : FirstPiece (piece.Range low high) a b 1
-    t = (piece-as i j a b 1 x (piece.Range low high) s e).0
+  module _ (r : FaultRange) (e : x ≡ Some r) where
+    t : FirstPiece (Some r) a b 1
+    t = (piece-as i j a b 1 x (Some r) s e).0
 
-    pub number-over : paths < low → 0 ≡ first_from (outside (runs_of_bytes a) (runs_of_bytes b)) 1 paths
+    pub number-over : paths < r.low → 0 ≡ first_from (outside (runs_of_bytes a) (runs_of_bytes b)) 1 paths
     unfolding only
     number-over h = sym (first-none (outside (runs_of_bytes a) (runs_of_bytes b)) paths 1 (λ k g l. t.1 k g (omega arith)))
 
-    pub number-found : low ≤ paths → low ≡ first_from (outside (runs_of_bytes a) (runs_of_bytes b)) 1 paths
+    pub number-found : r.low ≤ paths → r.low ≡ first_from (outside (runs_of_bytes a) (runs_of_bytes b)) 1 paths
     unfolding only
     number-found h =
-        sym (first-is (outside (runs_of_bytes a) (runs_of_bytes b)) paths 1 low t.0 (omega arith) (t.2.1 low (omega arith) t.2.0) t.1)
+        sym (first-is (outside (runs_of_bytes a) (runs_of_bytes b)) paths 1 r.low t.0 (omega arith) (t.2.1 r.low (omega arith) t.2.0) t.1)
 
 -- Whether every number is held, from the first range of those that are not
-module _ (i j : ℕ) (a b : List ℕ) (x : Piece) (s : PieceFrom x i j a b 0) where
+module _ (i j : ℕ) (a b : List ℕ) (x : Option FaultRange) (s : PieceFrom x i j a b 0) where
   not_only : (k : ℕ) → only a b k ≡ false → T (in_runs (runs_of_bytes a) k) → T (in_runs (runs_of_bytes b) k)
   unfolding only
   not_only k e t = held (in_runs (runs_of_bytes b) k) (sym (rw (T→true (in_runs (runs_of_bytes a) k) t) refl) ∙ e)
@@ -50,9 +50,9 @@ module _ (i j : ℕ) (a b : List ℕ) (x : Piece) (s : PieceFrom x i j a b 0) wh
       held true e = tt
       held false e = absurd (true≢false e)
 
-  pub held_all : ((k : ℕ) → Fits w8 (get_or a k 0)) → x ≡ piece.Nothing → true ≡ each_held_of (runs_of_bytes a) (runs_of_bytes b)
+  pub held_all : ((k : ℕ) → Fits w8 (get_or a k 0)) → x ≡ None → true ≡ each_held_of (runs_of_bytes a) (runs_of_bytes b)
   held_all f e =
-      let t : FirstPiece piece.Nothing a b 0 = piece-as i j a b 0 x piece.Nothing s e in
+      let t : FirstPiece None a b 0 = piece-as i j a b 0 x None s e in
       sym (T→true _ (each-pass (runs_of_bytes a) (runs_of_bytes b)
       (λ k h. not_only k (t k (omega arith) (run-below a (λ n. (f n).fits) k (in→ (runs_of_bytes a) k h))) h)))
 
@@ -68,10 +68,10 @@ module _ (i j : ℕ) (a b : List ℕ) (x : Piece) (s : PieceFrom x i j a b 0) wh
       clash true s t = s
       clash false s t = t
 
-  pub held-not : (low high : ℕ) → x ≡ piece.Range low high → false ≡ each_held_of (runs_of_bytes a) (runs_of_bytes b)
-  held-not low high e =
-      let t : FirstPiece (piece.Range low high) a b 0 = (piece-as i j a b 0 x (piece.Range low high) s e).0 in
-      sym (not→false _ (only-clash low (t.2.1 low (omega arith) t.2.0)))
+  pub held-not : (r : FaultRange) → x ≡ Some r → false ≡ each_held_of (runs_of_bytes a) (runs_of_bytes b)
+  held-not r e =
+      let t : FirstPiece (Some r) a b 0 = (piece-as i j a b 0 x (Some r) s e).0 in
+      sym (not→false _ (only-clash r.low (t.2.1 r.low (omega arith) t.2.0)))
 
 -- Lists of runs that may not ascend
 module _ (claimed held : List Run) (x : Bool) (e : x ≡ ascend 0 claimed) where

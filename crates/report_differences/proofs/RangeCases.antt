@@ -8,9 +8,8 @@ use Rattle.report_differences.specs.declared.inner.walk.Standing.{Standing}
 use Rattle.report_differences.specs.declared.inner.walk.Standing.TheVariants as standing
 use Rattle.report_differences.specs.declared.inner.walk.Step.{Step}
 use Rattle.report_differences.specs.declared.inner.walk.Step.TheVariants as step
-use Rattle.report_differences.specs.declared.inner.walk.First.{First}
-use Rattle.report_differences.specs.declared.inner.walk.First.TheVariants as first
-use Rattle.report_differences.specs.declared.inner.walk.Piece.{Piece}
+use Rattle.std.specs.Prelude.{Option, Some, None}
+use Rattle.report_differences.specs.declared.inner.walk.FaultRange.{FaultRange}
 
 module _ (a b : List ℕ) (k : ℕ) where
   in_a-only : in_runs (runs_of_bytes a) k ≡ true → in_runs (runs_of_bytes b) k ≡ false → only a b k ≡ true
@@ -88,7 +87,7 @@ first-start a b from = (omega arith, λ k h l. absurd (omega arith))
 
 -- The search for the first: no number from `from` to below `n` is in `a` only
 module _ (a b : List ℕ) (from n : ℕ) (h : from ≤ n) (f : (k : ℕ) → from ≤ k → k < n → only a b k ≡ false) (x : Step) (s : Steps x a b n) where
-  pub first_found : (end : ℕ) → x ≡ step.Only end → FirstOnly (first.At n) a b from
+  pub first_found : (end : ℕ) → x ≡ step.Only end → FirstOnly (Some n) a b from
   first_found end e =
       let t : Steps (step.Only end) a b n = steps-as x (step.Only end) n a b e s in
       (h, f, t.1 n (omega arith) t.0)
@@ -100,7 +99,7 @@ module _ (a b : List ℕ) (from n : ℕ) (h : from ≤ n) (f : (k : ℕ) → fro
       let i : n < next = t.0 in
       (i, omega arith, joined (λ k. only a b k ≡ false) from n next f t.1)
 
-  pub first-none : x ≡ step.End → FirstOnly first.Nothing a b from
+  pub first-none : x ≡ step.End → FirstOnly None a b from
   first-none e =
       let t : Steps step.End a b n = steps-as x step.End n a b e s in
       λ k i l. ⊎_elim (λ j. t k j l) (λ j. f k i j) (le_or_lt n k)
@@ -134,8 +133,8 @@ module _ (a b : List ℕ) (low high : ℕ) (h : low ≤ high) (f : (k : ℕ) →
 
 -- The range: its first number, then its last
 module _ (i j : ℕ) (a b : List ℕ) (from : ℕ) where
-  pub start-as : (x y : First) → FirstFrom x i j a b from → x ≡ y → FirstFrom y i j a b from
-  start-as x y s e = subst (λ (z : First). FirstFrom z i j a b from) e s
+  pub start-as : (x y : Option ℕ) → FirstFrom x i j a b from → x ≡ y → FirstFrom y i j a b from
+  start-as x y s e = subst (λ (z : Option ℕ). FirstFrom z i j a b from) e s
 
-  pub piece-as : (x y : Piece) → PieceFrom x i j a b from → x ≡ y → PieceFrom y i j a b from
-  piece-as x y s e = subst (λ (z : Piece). PieceFrom z i j a b from) e s
+  pub piece-as : (x y : Option FaultRange) → PieceFrom x i j a b from → x ≡ y → PieceFrom y i j a b from
+  piece-as x y s e = subst (λ (z : Option FaultRange). PieceFrom z i j a b from) e s

@@ -70,8 +70,10 @@ pub reached-run : (bs : List ℕ) (i n high : ℕ) → high ≡ field (16 * i + 
     → Reached bs i n
 reached-run bs i n high e h p = (p, λ l. omega (arith, e))
 
-pub reached-end : (bs : List ℕ) (i n : ℕ) → length bs / 16 ≤ i → Passed bs i n → Reached bs i n
-reached-end bs i n h p = (p, λ l. absurd (omega arith))
+pub reached-end : (bs : List ℕ) (i n : ℕ) → length bs / 16 ≤ i → Passed bs i n → Reached bs (length bs / 16) n
+reached-end bs i n h p =
+    let e : i ≡ length bs / 16 = omega (arith, p.1) in
+    subst (λ (j : ℕ). Reached bs j n) e (p, λ l. absurd (omega arith))
 
 -- Where a number stands, by the run at a place that it has reached
 module _ (bs : List ℕ) (i n : ℕ) (s : Reached bs i n) where

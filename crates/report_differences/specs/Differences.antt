@@ -7,10 +7,8 @@ use Rattle.report_differences.specs.declared.inner.walk.Standing.{Standing}
 use Rattle.report_differences.specs.declared.inner.walk.Standing.TheVariants as standing
 use Rattle.report_differences.specs.declared.inner.walk.Step.{Step}
 use Rattle.report_differences.specs.declared.inner.walk.Step.TheVariants as step
-use Rattle.report_differences.specs.declared.inner.walk.First.{First}
-use Rattle.report_differences.specs.declared.inner.walk.First.TheVariants as first
-use Rattle.report_differences.specs.declared.inner.walk.Piece.{Piece}
-use Rattle.report_differences.specs.declared.inner.walk.Piece.TheVariants as piece
+use Rattle.std.specs.Prelude.{Option, Some, None}
+use Rattle.report_differences.specs.declared.inner.walk.FaultRange.{FaultRange}
 
 -- the number is claimed and not held
 abbrev pub outside : List Run → List Run → ℕ → Bool
@@ -44,9 +42,9 @@ Steps (step.Not next) a b n = (n < next) × ((k : ℕ) → n ≤ k → k < next 
 Steps step.End a b n = (k : ℕ) → n ≤ k → k < 2 ^ 64 → only a b k ≡ false
 
 -- the first number from `from` on that is in the runs of `a` only; runs hold no number of 2^64 or over
-abbrev pub FirstOnly : First → List ℕ → List ℕ → ℕ → Type 0
-FirstOnly (first.At n) a b from = (from ≤ n) × ((k : ℕ) → from ≤ k → k < n → only a b k ≡ false) × (only a b n ≡ true)
-FirstOnly first.Nothing a b from = (k : ℕ) → from ≤ k → k < 2 ^ 64 → only a b k ≡ false
+abbrev pub FirstOnly : Option ℕ → List ℕ → List ℕ → ℕ → Type 0
+FirstOnly (Some n) a b from = (from ≤ n) × ((k : ℕ) → from ≤ k → k < n → only a b k ≡ false) × (only a b n ≡ true)
+FirstOnly None a b from = (k : ℕ) → from ≤ k → k < 2 ^ 64 → only a b k ≡ false
 
 -- the last number of the range from `low` on that is in the runs of `a` only
 abbrev pub LastOnly : ℕ → List ℕ → List ℕ → ℕ → Type 0
@@ -54,20 +52,20 @@ LastOnly high a b low =
     (low ≤ high) × ((k : ℕ) → low ≤ k → k ≤ high → only a b k ≡ true) × (high + 1 < 2 ^ 64 → only a b (high + 1) ≡ false)
 
 -- the first longest range from `from` on of numbers that are in the runs of `a` only
-abbrev pub FirstPiece : Piece → List ℕ → List ℕ → ℕ → Type 0
-FirstPiece (piece.Range low high) a b from =
-    (from ≤ low) × ((k : ℕ) → from ≤ k → k < low → only a b k ≡ false) × LastOnly high a b low
-FirstPiece piece.Nothing a b from = (k : ℕ) → from ≤ k → k < 2 ^ 64 → only a b k ≡ false
+abbrev pub FirstPiece : Option FaultRange → List ℕ → List ℕ → ℕ → Type 0
+FirstPiece (Some r) a b from =
+    (from ≤ r.low) × ((k : ℕ) → from ≤ k → k < r.low → only a b k ≡ false) × LastOnly r.high a b r.low
+FirstPiece None a b from = (k : ℕ) → from ≤ k → k < 2 ^ 64 → only a b k ≡ false
 
 -- the same with the places to look on from: place `i` in the runs of `a` and `j` in those of `b`
-abbrev pub FirstFrom : First → ℕ → ℕ → List ℕ → List ℕ → ℕ → Type 0
-FirstFrom (first.At n) i j a b from = FirstOnly (first.At n) a b from × Passed a i n × Passed b j n
-FirstFrom first.Nothing i j a b from = FirstOnly first.Nothing a b from
+abbrev pub FirstFrom : Option ℕ → ℕ → ℕ → List ℕ → List ℕ → ℕ → Type 0
+FirstFrom (Some n) i j a b from = FirstOnly (Some n) a b from × Passed a i n × Passed b j n
+FirstFrom None i j a b from = FirstOnly None a b from
 
 abbrev pub LastFrom : ℕ → ℕ → ℕ → List ℕ → List ℕ → ℕ → Type 0
 LastFrom high i j a b low = LastOnly high a b low × Passed a i (high + 1) × Passed b j (high + 1)
 
-abbrev pub PieceFrom : Piece → ℕ → ℕ → List ℕ → List ℕ → ℕ → Type 0
-PieceFrom (piece.Range low high) i j a b from =
-    FirstPiece (piece.Range low high) a b from × Passed a i (high + 1) × Passed b j (high + 1)
-PieceFrom piece.Nothing i j a b from = FirstPiece piece.Nothing a b from
+abbrev pub PieceFrom : Option FaultRange → ℕ → ℕ → List ℕ → List ℕ → ℕ → Type 0
+PieceFrom (Some r) i j a b from =
+    FirstPiece (Some r) a b from × Passed a i (r.high + 1) × Passed b j (r.high + 1)
+PieceFrom None i j a b from = FirstPiece None a b from

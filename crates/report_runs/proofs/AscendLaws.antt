@@ -3,8 +3,7 @@ use Rattle.model.proofs.Prelude.{ℕ, ◌+◌, suc, zero, ◌≡◌, ◌∙◌, 
 use Rattle.model.specs.Runs.{Run}
 use Rattle.model.proofs.BoolLaws.{and3, all3, T→true, true→T, not→false}
 use Rattle.report_runs.specs.ReportRuns.{Ascends, Ordered, ascend}
-use Rattle.report_runs.specs.declared.Order.{Order}
-use Rattle.report_runs.specs.declared.Order.TheVariants as order
+use Rattle.std.specs.Prelude.{Result, Ok, Err}
 
 ascends→ : (least : ℕ) (rs : List Run) → T (ascend least rs) → Ascends least rs
 unfolding ascend
@@ -31,13 +30,13 @@ pub ascends-of : (rs : List Run) {b : Bool} → b ≡ ascend 0 rs → b ≡ true
 ascends-of rs e t = ascends→ 0 rs (true→T (ascend 0 rs) (sym e ∙ t))
 
 -- The test from the first run that is out of order
-module _ (rs : List Run) (x : Order) (told : Ordered x rs) where
-  pub ordered-all : x ≡ order.Ascending → true ≡ ascend 0 rs
+module _ (rs : List Run) (x : Result (Unit {0}) ℕ) (told : Ordered x rs) where
+  pub ordered-all : x ≡ Ok tt → true ≡ ascend 0 rs
   ordered-all e =
-      let h : Ascends 0 rs = subst (λ (y : Order). Ordered y rs) e told in
+      let h : Ascends 0 rs = subst (λ (y : Result (Unit {0}) ℕ). Ordered y rs) e told in
       sym (T→true (ascend 0 rs) (→ascends 0 rs h))
 
-  pub ordered-not : (k : ℕ) → x ≡ order.OutOfOrder k → false ≡ ascend 0 rs
+  pub ordered-not : (k : ℕ) → x ≡ Err k → false ≡ ascend 0 rs
   ordered-not k e =
-      let h : Ordered (order.OutOfOrder k) rs = subst (λ (y : Order). Ordered y rs) e told in
+      let h : Ordered (Err k) rs = subst (λ (y : Result (Unit {0}) ℕ). Ordered y rs) e told in
       sym (not→false (ascend 0 rs) (λ t. h.2 (ascends-taken (k + 1) 0 rs (ascends→ 0 rs t))))

@@ -6,8 +6,8 @@ use Rattle.model.specs.Base.{field}
 use Rattle.model.specs.Runs.{Run}
 use Rattle.model.proofs.BoolLaws.{and_left, and_right, true→T, le_or_lt}
 use Rattle.report_runs.specs.ReportRuns.{runs_of_bytes, Ascends, Ordered, least_at_of}
-use Rattle.report_runs.specs.declared.Order.TheVariants as order
 use Rattle.report_runs.proofs.RunByteLaws.{run_at, run-taken, run-count}
+use Rattle.std.specs.Prelude.{Err}
 
 -- the least low of a run after ascending runs
 abbrev pub least_after : ℕ → List Run → ℕ
@@ -77,7 +77,7 @@ module _ (bs : List ℕ) (at last : ℕ) (up : Ascends 0 (take at (runs_of_bytes
       ∙ omega (arith, f, least-later (at + 1) high (omega arith))
 
   pub out_of_order : (b : Bool) → b ≡ (leb (least_at_of at last) low && leb low high) → not b ≡ true
-      → Ordered (order.OutOfOrder at) (runs_of_bytes bs)
+      → Ordered (Err at) (runs_of_bytes bs)
   out_of_order b g s =
       let t : (leb (least_at_of at last) low && leb low high) ≡ false = sym g ∙ not-true b s in (
         omega (arith, run-count bs),

@@ -5,8 +5,7 @@ use Rattle.model.specs.Path.{Edge, rising, falling}
 use Rattle.model.specs.Runs.{Run}
 use Rattle.model.specs.Report.{runs_in}
 use Rattle.report_runs.specs.declared.inner.Head.{Head}
-use Rattle.report_runs.specs.declared.Order.{Order}
-use Rattle.report_runs.specs.declared.Order.TheVariants as order
+use Rattle.std.specs.Prelude.{Result, Ok, Err}
 
 -- The fields before the runs, each by its first byte and its bytes: tests, T, rising runs, falling runs, rising faults, falling faults
 abbrev pub head_of : List ℕ → Head
@@ -48,9 +47,9 @@ ascend least [] = true
 ascend least (r ∷ rs) = leb least r.low && leb r.low r.high && ascend (r.high + 1) rs
 
 -- the runs ascend; or the run at place `k` is the first out of order: those before it ascend, and with it they do not
-abbrev pub Ordered : Order → List Run → Type 0
-Ordered order.Ascending rs = Ascends 0 rs
-Ordered (order.OutOfOrder k) rs = (k < length rs) × Ascends 0 (take k rs) × (Ascends 0 (take (k + 1) rs) → ⊥)
+abbrev pub Ordered : Result (Unit {0}) ℕ → List Run → Type 0
+Ordered (Ok tt) rs = Ascends 0 rs
+Ordered (Err k) rs = (k < length rs) × Ascends 0 (take k rs) × (Ascends 0 (take (k + 1) rs) → ⊥)
 
 -- the least low of a run at place `at` after one that ends with `last`; at place 0 there is none before it
 unfoldable pub least_at_of : ℕ → ℕ → ℕ

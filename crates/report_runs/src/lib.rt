@@ -9,14 +9,6 @@ ghost use Rattle.report_runs.specs.ReportRuns.{runs_of_bytes, least_at_of, Order
 use crate::inner::number_at;
 use report_bytes::layout::RUN_BYTES;
 
-// Whether runs ascend.
-#[derive(Drop)]
-pub enum Order {
-    Ascending,
-    // The place, from 0, of the first run that is out of order.
-    OutOfOrder(usize),
-}
-
 // Whether a run at a place ascends after one that ends with `last`; at place 0 there is none before it.
 fn ascends_at(at: usize, last: u64, low: u64, high: u64) -> bool
     ensures { result ≡ (leb (least_at_of at last) low && leb low high) }
@@ -31,22 +23,20 @@ fn ascends_at(at: usize, last: u64, low: u64, high: u64) -> bool
 }
 
 // Whether runs in bytes ascend, or which is the first that is out of order.
-pub fn order_of(runs: &[u8]) -> Order
+pub fn order_of(runs: &[u8]) -> Result<(), usize>
     ensures { Ordered result (runs_of_bytes runs.now) }
 {
     let count = runs.len() / RUN_BYTES;
     let mut last: u64 = 0;
-    let mut at: usize = 0;
-    while at < count {
+    for at in 0..count {
         let low = number_at(runs, RUN_BYTES * at);
         let high = number_at(runs, RUN_BYTES * at + 8);
         if !ascends_at(at, last, low, high) {
-            return Order::OutOfOrder(at);
+            return Err(at);
         }
         last = high;
-        at += 1;
     }
-    Order::Ascending
+    Ok(())
 }
 
 // Whether runs in bytes ascend.
@@ -55,7 +45,7 @@ pub fn ascending(runs: &[u8]) -> bool
 {
     let order = order_of(runs);
     match order {
-        Order::Ascending => true,
-        Order::OutOfOrder(_) => false,
+        Ok(()) => true,
+        Err(_) => false,
     }
 }

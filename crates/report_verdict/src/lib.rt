@@ -3,22 +3,21 @@
 
 ghost use Rattle.std.specs.Prelude.{◌≡◌};
 ghost use Rattle.model.specs.Refusals.{refusal_number_of};
-ghost use Rattle.audit_judging.specs.FileJudging.{audited_of};
 ghost use Rattle.text_line.specs.Lines.{text_of};
 ghost use Rattle.report_verdict.specs.Verdict.{verdict_text, of_record, class_text};
+ghost use Rattle.model.specs.Returned.{answer_of};
 
-use audit_judging::AuditAnswer;
 use model::{ROBUST, Refusal};
 use model_refusals::refusal_number;
 use text_line::{Line, empty_line, with_refusal, with_text};
 
 // `accepted`, or `refused` and document 01's number.
-pub fn verdict_line(answer: AuditAnswer) -> Line
-    ensures { text_of result ≡ verdict_text (audited_of answer) }
+pub fn verdict_line(answer: Result<(), Refusal>) -> Line
+    ensures { text_of result ≡ verdict_text (answer_of answer) }
 {
     match answer {
-        AuditAnswer::Accepted => with_text(empty_line(), b"accepted"),
-        AuditAnswer::Refused(why) => with_refusal(empty_line(), why),
+        Ok(()) => with_text(empty_line(), b"accepted"),
+        Err(why) => with_refusal(empty_line(), why),
     }
 }
 

@@ -2,12 +2,11 @@
 use Rattle.std.specs.Prelude.{◌≡◌, ℕ, ◌+◌, ◌*◌, ◌<◌, ◌≤◌, Bool, true, cond, List, length, take, nat_le}
 use Rattle.model.specs.Runs.{Run}
 use Rattle.run_lists.specs.RunLists.{run_at, write_runs_of}
-use Rattle.run_lists.specs.declared.inner.Added.{Added}
-use Rattle.run_lists.specs.declared.inner.Added.TheVariants.{Count, Full}
+use Rattle.std.specs.Prelude.{Option, Some, None}
 
 -- the number of runs of a list, or Full where they are over the capacity (document 01's 50 and 51: "runs over 1,024")
-abbrev pub answer : ℕ → List Run → Added
-answer cap s = cond (nat_le (length s) cap) (Count (length s)) Full
+abbrev pub answer : ℕ → List Run → Option ℕ
+answer cap s = cond (nat_le (length s) cap) (Some (length s)) None
 
 -- a list of `n` runs at run place `start`, with room for `cap` runs
 pub record Room (ws : List ℕ) (start n cap : ℕ) : Type 0 where
@@ -15,7 +14,7 @@ pub record Room (ws : List ℕ) (start n cap : ℕ) : Type 0 where
   pub inside : 2 * (start + cap) ≤ length ws
 
 -- a function that makes `s` of the list at `start`: its answer, and the words afterwards, with as many runs of `s` as there is room for
-pub record Adds (ws ws' : List ℕ) (start cap : ℕ) (s : List Run) (r : Added) : Type 0 where
+pub record Adds (ws ws' : List ℕ) (start cap : ℕ) (s : List Run) (r : Option ℕ) : Type 0 where
   pub answers : r ≡ answer cap s
   pub writes : ws' ≡ write_runs_of ws start (take cap s)
 

@@ -1,5 +1,5 @@
 -- Lists of runs (document 01: a run is a longest stretch of consecutive numbers in a set): one more run, runs shifted, and their words in memory.
-use Rattle.std.specs.Prelude.{ℕ, zero, suc, ◌+◌, ◌*◌, ◌≤◌, max, Bool, true, false, cond, ◌||◌, List, [], ◌∷◌, set, nat_le, slice_index, slice_set}
+use Rattle.std.specs.Prelude.{ℕ, zero, suc, ◌+◌, ◌*◌, ◌≤◌, max, Bool, true, false, cond, ◌||◌, List, [], ◌∷◌, nat_le, slice_index, slice_set}
 use Rattle.model.specs.Runs.{Run, in_runs, Separated, run}
 
 -- Document 01's runs of a set of the numbers 1 to `n`: ascending, neighbours never adjacent or overlapping

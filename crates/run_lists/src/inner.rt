@@ -5,24 +5,15 @@ ghost use Rattle.model.specs.Runs.{in_runs, separated_runs_of};
 ghost use Rattle.run_lists.specs.RunLists.{Sound, runs_in_words};
 ghost use Rattle.run_lists.specs.Answers.{InsideWhere};
 
-// The runs that a list then has, or that they are over its capacity.
-#[derive(Drop)]
-pub enum Added {
-    Count(usize),
-    Full,
-}
-
 // How many numbers lie in the runs from..to.
 pub fn size(words: &[u64], from: usize, to: usize) -> u64
     requires from_le_to { (from ≤ to) × (2 * to ≤ length words.now) }
     requires sound { Sound (2 ^ 62) (runs_in_words words.now from (to - from)) }
     ensures { result ≡ Runs.size (runs_in_words words.now from (to - from)) }
 {
-    let mut i = from;
     let mut sum: u64 = 0;
-    while i < to {
+    for i in from..to {
         sum += words[2 * i + 1] - words[2 * i] + 1;
-        i += 1;
     }
     sum
 }
@@ -55,9 +46,8 @@ pub fn separated(words: &[u64], from: usize, to: usize, limit: u64) -> bool
     requires { (from ≤ to) × (2 * to ≤ length words.now) × (limit ≤ 2 ^ 62) }
     ensures { result ≡ separated_runs_of limit 1 (runs_in_words words.now from (to - from)) }
 {
-    let mut i = from;
     let mut least: u64 = 1;
-    while i < to {
+    for i in from..to {
         let low = words[2 * i];
         let high = words[2 * i + 1];
         if low < least {
@@ -70,7 +60,6 @@ pub fn separated(words: &[u64], from: usize, to: usize, limit: u64) -> bool
             return false;
         }
         least = high + 2;
-        i += 1;
     }
     true
 }
@@ -111,14 +100,12 @@ fn next_reaching(words: &[u64], from: usize, to: usize, x: u64) -> usize
     requires { (from ≤ to) × (2 * to ≤ length words.now) }
     ensures { (from ≤ result) × (result ≤ to) }
 {
-    let mut i = from;
-    while i < to {
+    for i in from..to {
         if x <= words[2 * i + 1] {
             return i;
         }
-        i += 1;
     }
-    i
+    to
 }
 
 // Whether each of the runs b_from..b_to of some words lies in one of the runs a_from..a_to of others. Both ascend, so one walk along both serves;
@@ -131,8 +118,7 @@ pub fn inside(a: &[u64], a_from: usize, a_to: usize, b: &[u64], b_from: usize, b
         return true;
     }
     let mut i = first_reaching(a, a_from, a_to, b[2 * b_from]);
-    let mut j = b_from;
-    while j < b_to {
+    for j in b_from..b_to {
         i = next_reaching(a, i, a_to, b[2 * j]);
         if a_to <= i {
             return false;
@@ -143,7 +129,6 @@ pub fn inside(a: &[u64], a_from: usize, a_to: usize, b: &[u64], b_from: usize, b
         if a[2 * i + 1] < b[2 * j + 1] {
             return false;
         }
-        j += 1;
     }
     true
 }

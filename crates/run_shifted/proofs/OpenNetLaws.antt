@@ -6,10 +6,10 @@ use mir.Syntax.{w64}
 use Rattle.model.specs.Runs.{Run}
 use Rattle.run_lists.specs.RunLists.{Sound, only_if, add_runs, shift_runs, runs_in_words}
 use Rattle.run_lists.specs.Answers.{Adds}
-use Rattle.run_lists.specs.declared.inner.Added.{Added}
 use Rattle.model.proofs.BoolLaws.{cases}
 use Rattle.detection.proofs.AddedLaws.{as_adds}
 use Rattle.run_shifted.specs.RunsOfPlaces.{runs_in, with_net, NetReady}
+use Rattle.std.specs.Prelude.{Option}
 
 only-open : {b : Bool} {s : List Run} → b ≡ true → only_if b s ≡ s
 only-open e = rw e
@@ -65,7 +65,7 @@ module _ {starts ws : List ℕ} {start net from to opened : ℕ} (r : NetReady s
   pub net-sound : Sound (2 ^ 62) (runs_in_words ws from (from + (to - from) * opened - from))
   net-sound = subst (λ (s : List Run). Sound (2 ^ 62) s) (sym opened-runs) (sound-only (2 ^ 62) (eqb opened 1) (runs_in starts ws net) r.sound)
 
-  pub net-added : (count offset : ℕ) {cap : ℕ} {ws' : List ℕ} {q : Added}
+  pub net-added : (count offset : ℕ) {cap : ℕ} {ws' : List ℕ} {q : (Option ℕ)}
       → Adds ws ws' start cap (add_runs (runs_in_words ws start count) (shift_runs offset (runs_in_words ws from (from + (to - from) * opened - from)))) q
       → Adds ws ws' start cap (with_net starts ws start count (eqb opened 1) offset net) q
   unfolding with_net

@@ -7,14 +7,13 @@ use Rattle.model.specs.Runs.{Run}
 use Rattle.netlist.proofs.OutputLaws.{output-here, output-long}
 use Rattle.run_lists.specs.RunLists.{Sound, only_if, add_runs, shift_runs, runs_in_words, write_runs_of}
 use Rattle.run_lists.specs.Answers.{Room, Adds}
-use Rattle.run_lists.specs.declared.inner.Added.{Added}
-use Rattle.run_lists.specs.declared.inner.Added.TheVariants.{Count, Full}
 use Rattle.model.proofs.BoolLaws.{cases}
 use Rattle.run_union.proofs.AddRunLaws.{add_runs-length, add_runs-take}
 use Rattle.run_union.proofs.Adding.{answer-full, Adding, adding-start, adding-runs, adding-length, adding-done, answer-over, part-full, part-more}
 use Rattle.detection.specs.PlaceRuns.{Places, paths_before, place_runs, first_runs}
 use Rattle.detection.proofs.AddedLaws.{as_adds}
 use Rattle.run_shifted.specs.RunsOfPlaces.{runs_in, with_net, NetReady, PlacesReady}
+use Rattle.std.specs.Prelude.{Option, Some, None}
 
 pub paths-next : (P : Places) (p : ℕ) → paths_before P (p + 1) ≡ paths_before P p + P.paths (P.net_of p)
 paths-next P p = rw (add-one p)
@@ -25,7 +24,7 @@ first_next P f p = rw (add-one p)
 
 -- what is over the capacity stays so when more runs are added
 more-full : (P : Places) (f : ℕ → List Run) (ws ws' : List ℕ) (start cap p n : ℕ) → p ≤ n
-    → Adds ws ws' start cap (first_runs P f p) Full → Adds ws ws' start cap (first_runs P f n) Full
+    → Adds ws ws' start cap (first_runs P f p) None → Adds ws ws' start cap (first_runs P f n) None
 unfolding first_runs
 more-full P f ws ws' start cap p zero h d = let e : p ≡ 0 = omega arith in as_adds (ap (first_runs P f) e) refl d
 more-full P f ws ws' start cap p (suc n) h d = cases p n
@@ -69,7 +68,7 @@ module _ {P : Places} {n : ℕ} {starts ws₀ : List ℕ} {start cap : ℕ} wher
     pub places-small : offset ≤ 2 ^ 62
     places-small = omega (arith, i.sum, i.ready.offsets place i.within)
 
-    pub places-done : (m : ℕ) → n ≡ m → n ≤ place → Adds ws₀ ws start cap (first_runs P (runs_in starts ws₀) m) (Count count)
+    pub places-done : (m : ℕ) → n ≡ m → n ≤ place → Adds ws₀ ws start cap (first_runs P (runs_in starts ws₀) m) (Some count)
     places-done m en h =
         let e : place ≡ m = omega (arith, i.within) in
         as_adds (ap (first_runs P (runs_in starts ws₀)) e) refl (adding-done ws₀ ws start cap count so_far i.adding)
@@ -102,7 +101,7 @@ module _ {P : Places} {n : ℕ} {starts ws₀ : List ℕ} {start cap : ℕ} wher
         pub place-sum : Fits w64 (offset + k)
         place-sum = record { fits = omega (arith, next, i.ready.offsets (place + 1) (omega arith)) }
 
-      module _ {ws' : List ℕ} (opened : ℕ) {q : Added} (o : eqb opened 1 ≡ P.opens place net)
+      module _ {ws' : List ℕ} (opened : ℕ) {q : (Option ℕ)} (o : eqb opened 1 ≡ P.opens place net)
           (d : Adds ws ws' start cap (with_net starts ws start count (eqb opened 1) offset net) q) where
         abbrev part : List Run
         part = place_runs P (runs_in starts ws₀) place
@@ -119,12 +118,12 @@ module _ {P : Places} {n : ℕ} {starts ws₀ : List ℕ} {start cap : ℕ} wher
         added = as_adds
             (λ j. add_runs (runs_in_words ws start count) (only_if ((o ∙ ap (P.opens place) e) j) (shift_runs (i.sum j) ((kept ∙ ap (runs_in starts ws₀) e) j)))) refl d
 
-        pub place-full : (m : ℕ) → n ≡ m → q ≡ Full → Adds ws₀ ws' start cap (first_runs P (runs_in starts ws₀) m) Full
+        pub place-full : (m : ℕ) → n ≡ m → q ≡ None → Adds ws₀ ws' start cap (first_runs P (runs_in starts ws₀) m) None
         place-full m en t =
             more-full P (runs_in starts ws₀) ws₀ ws' start cap (place + 1) m (omega arith)
             (part-full ws₀ ws start cap count (first_runs P (runs_in starts ws₀) (place + 1)) ws' part [] then q t added)
 
-        pub place-more : {k c : ℕ} → k ≡ P.paths net → q ≡ Count c → PlacesDone P n starts ws₀ start cap ws' (place + 1) c (offset + k)
+        pub place-more : {k c : ℕ} → k ≡ P.paths net → q ≡ Some c → PlacesDone P n starts ws₀ start cap ws' (place + 1) c (offset + k)
         place-more {c = c} ek t = record {
           ready = i.ready;
           within = omega arith;

@@ -7,7 +7,6 @@ ghost use Rattle.run_lists.specs.Answers.{Room, Adds};
 ghost use Rattle.run_shifted.specs.RunsOfPlaces.{NetReady, with_net};
 
 use record_bytes::inner::wide_word;
-use run_lists::inner::Added;
 use run_union::inner::append_shifted;
 
 // Adds the runs of a net, shifted, where `opened` is 1, and none where it is 0. Pins are open and shut without a pattern, and a branch on each would be
@@ -21,7 +20,7 @@ pub(crate) fn add_net(
     count: usize,
     capacity: usize,
     offset: u64,
-) -> Added
+) -> Option<usize>
     requires opened_bound { opened < 2 }
     requires room { Room words.old start count capacity }
     requires net_ready { NetReady starts.now words.old start net }

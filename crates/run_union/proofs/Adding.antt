@@ -4,32 +4,31 @@ use Rattle.model.proofs.Prelude.{length-take-le, take_all, leb, arith, le-leb, l
 use Rattle.model.specs.Runs.{Run}
 use Rattle.run_lists.specs.RunLists.{add_runs, run_at, runs_in_words, write_runs_of}
 use Rattle.run_lists.specs.Answers.{answer, Adds}
-use Rattle.run_lists.specs.declared.inner.Added.{Added}
-use Rattle.run_lists.specs.declared.inner.Added.TheVariants.{Count, Full}
 use Rattle.run_lists.proofs.MemberLaws.{run-path}
 use Rattle.run_lists.proofs.RunWordLaws.{length_runs}
 use Rattle.run_union.proofs.AddRunLaws.{add_runs-append, add_runs-length, add_runs-take}
 use Rattle.run_union.proofs.RunWriteLaws.{length-write_runs, write_runs-self, write_runs-write_runs, runs-write, runs-write_before, get_d-write_runs}
+use Rattle.std.specs.Prelude.{Option, Some, None}
 
 -- ---- answers
 
-pub answer-fits : (cap : ℕ) (s : List Run) (k : ℕ) → length s ≡ k → k ≤ cap → answer cap s ≡ Count k
+pub answer-fits : (cap : ℕ) (s : List Run) (k : ℕ) → length s ≡ k → k ≤ cap → answer cap s ≡ Some k
 answer-fits cap s k e h = rw (e, le-leb k cap h)
 
-pub answer-full : (cap : ℕ) (s : List Run) → cap < length s → answer cap s ≡ Full
+pub answer-full : (cap : ℕ) (s : List Run) → cap < length s → answer cap s ≡ None
 answer-full cap s h = rw (lt-leb (length s) cap h)
 
-pub answer-count : (cap c : ℕ) (s : List Run) → Count c ≡ answer cap s → (length s ≤ cap) × (c ≡ length s)
+pub answer-count : (cap c : ℕ) (s : List Run) → Some c ≡ answer cap s → (length s ≤ cap) × (c ≡ length s)
 answer-count cap c s e = go (leb (length s) cap) refl e
   where
-    go : (t : Bool) → leb (length s) cap ≡ t → Count c ≡ cond t (Count (length s)) Full → (length s ≤ cap) × (c ≡ length s)
+    go : (t : Bool) → leb (length s) cap ≡ t → Some c ≡ cond t (Some (length s)) None → (length s ≤ cap) × (c ≡ length s)
     go true q d = (leb-true (length s) cap q, cc)
     go false q d = let z : ◌≡◌ {A = ℕ} 0 1 = cc in absurd (omega arith)
 
-pub answer-over : (cap : ℕ) (s : List Run) → Full ≡ answer cap s → cap < length s
+pub answer-over : (cap : ℕ) (s : List Run) → None ≡ answer cap s → cap < length s
 answer-over cap s e = go (leb (length s) cap) refl e
   where
-    go : (t : Bool) → leb (length s) cap ≡ t → Full ≡ cond t (Count (length s)) Full → cap < length s
+    go : (t : Bool) → leb (length s) cap ≡ t → None ≡ cond t (Some (length s)) None → cap < length s
     go true q d = let z : ◌≡◌ {A = ℕ} 0 1 = cc in absurd (omega arith)
     go false q d = leb-false (length s) cap q
 
@@ -47,7 +46,7 @@ module _ (ws₀ ws : List ℕ) (start cap n : ℕ) (total : List Run) where
   pub adding-length : (rest : List Run) → Adding ws₀ ws start cap n rest total → length ws ≡ length ws₀
   adding-length rest a = ap length a.kept ∙ length-write_runs ws₀ start (runs_in_words ws start n)
 
-  pub adding-done : Adding ws₀ ws start cap n [] total → Adds ws₀ ws start cap total (Count n)
+  pub adding-done : Adding ws₀ ws start cap n [] total → Adds ws₀ ws start cap total (Some n)
   adding-done a = rw (← a.left) (record {
     answers = sym (answer-fits cap (runs_in_words ws start n) n (length_runs ws start n) a.fits);
     writes = rw (take_all cap (runs_in_words ws start n) (omega (arith, length_runs ws start n, a.fits))) a.kept;
@@ -64,7 +63,7 @@ module _ (ws₀ ws : List ℕ) (start cap n : ℕ) (total : List Run) (ws' : Lis
   unfolding grown
   grown-left = sym (add_runs-append (runs_in_words ws start n) part rest) ∙ a.left
 
-  pub part-full : (q : Added) → q ≡ Full → Adds ws ws' start cap (add_runs (runs_in_words ws start n) part) q → Adds ws₀ ws' start cap total Full
+  pub part-full : (q : Option ℕ) → q ≡ None → Adds ws ws' start cap (add_runs (runs_in_words ws start n) part) q → Adds ws₀ ws' start cap total None
   unfolding grown
   part-full q e d =
       let o : cap < length grown = answer-over cap grown (sym e ∙ d.answers) in
@@ -77,7 +76,7 @@ module _ (ws₀ ws : List ℕ) (start cap n : ℕ) (total : List Run) (ws' : Lis
         writes = d.writes ∙ w ∙ ap (λ (l : List Run). write_runs_of ws₀ start l) (sym t);
       })
 
-  pub part-more : (q : Added) (c : ℕ) → q ≡ Count c → 2 * (start + cap) ≤ length ws₀ → Adds ws ws' start cap (add_runs (runs_in_words ws start n) part) q
+  pub part-more : (q : Option ℕ) (c : ℕ) → q ≡ Some c → 2 * (start + cap) ≤ length ws₀ → Adds ws ws' start cap (add_runs (runs_in_words ws start n) part) q
       → Adding ws₀ ws' start cap c rest total
   unfolding grown
   part-more q c e room d =
@@ -104,7 +103,7 @@ pub adding-runs : (ws₀ ws : List ℕ) (start cap n : ℕ) (rest total : List R
 adding-runs ws₀ ws start cap n rest total f k a h = ap (λ (l : List ℕ). runs_in_words l f k) a.kept ∙ runs-write_before ws₀ start f k (runs_in_words ws start n) h
 
 -- what a call that answers a count left
-pub adds-count : (ws ws' : List ℕ) (start cap c : ℕ) (s : List Run) (q : Added) → 2 * (start + cap) ≤ length ws → q ≡ Count c → Adds ws ws' start cap s q
+pub adds-count : (ws ws' : List ℕ) (start cap c : ℕ) (s : List Run) (q : Option ℕ) → 2 * (start + cap) ≤ length ws → q ≡ Some c → Adds ws ws' start cap s q
     → (length s ≤ cap) × (c ≡ length s) × (runs_in_words ws' start c ≡ s)
 adds-count ws ws' start cap c s q room e d =
     let k : (length s ≤ cap) × (c ≡ length s) = answer-count cap c s (sym e ∙ d.answers) in

@@ -5,12 +5,11 @@ use lib.Seq.{set-get_or}
 use Rattle.model.specs.Runs.{Run, run}
 use Rattle.run_lists.specs.RunLists.{add_run, run_at, runs_in_words}
 use Rattle.run_lists.specs.Answers.{Room, Adds}
-use Rattle.run_lists.specs.declared.inner.Added.{Added}
-use Rattle.run_lists.specs.declared.inner.Added.TheVariants.{Count, Full}
 use Rattle.run_lists.proofs.RunWordLaws.{length_runs, runs-snoc}
 use Rattle.run_union.proofs.AddRunLaws.{joined-one, joined-two, add_run-snoc}
 use Rattle.run_union.proofs.RunWriteLaws.{write_runs-snoc, write_runs-self}
 use Rattle.run_union.proofs.Adding.{answer-fits, answer-full}
+use Rattle.std.specs.Prelude.{Option, Some, None}
 
 -- ---- place
 
@@ -18,7 +17,7 @@ length-snoc : (s : List Run) (r : Run) → length (s ++ r ∷ []) ≡ length s +
 length-snoc s r = length-append s (r ∷ [])
 
 module _ (ws : List ℕ) (start n cap low high : ℕ) (room : Room ws start n cap) where
-  pub place-room : n < cap → Adds ws (set (set ws (2 * (start + n)) low) (2 * (start + n) + 1) high) start cap (runs_in_words ws start n ++ run low high ∷ []) (Count (n + 1))
+  pub place-room : n < cap → Adds ws (set (set ws (2 * (start + n)) low) (2 * (start + n) + 1) high) start cap (runs_in_words ws start n ++ run low high ∷ []) (Some (n + 1))
   place-room h =
       let s : List Run = runs_in_words ws start n in
       let l : length (s ++ run low high ∷ []) ≡ n + 1 = length-snoc s (run low high) ∙ ap (λ k. k + 1) (length_runs ws start n) in
@@ -28,7 +27,7 @@ module _ (ws : List ℕ) (start n cap low high : ℕ) (room : Room ws start n ca
             rw (take_all cap (s ++ run low high ∷ []) (omega arith), write_runs-snoc ws start (start + n) s (run low high) (rw (length_runs ws start n)), write_runs-self ws start n);
       }
 
-  pub place-full : cap ≤ n → Adds ws ws start cap (runs_in_words ws start n ++ run low high ∷ []) Full
+  pub place-full : cap ≤ n → Adds ws ws start cap (runs_in_words ws start n ++ run low high ∷ []) None
   place-full h =
       let s : List Run = runs_in_words ws start n in
       let l : length (s ++ run low high ∷ []) ≡ n + 1 = length-snoc s (run low high) ∙ ap (λ k. k + 1) (length_runs ws start n) in
@@ -59,7 +58,7 @@ module _ (ws : List ℕ) (start n : ℕ) (r : Run) (pos : 0 < n) where
       (sym (append_assoc (runs_in_words ws start (n - 1)) (run_at ws (start + (n - 1)) ∷ []) (r ∷ [])))
 
   join_adds : (cap : ℕ) → Room ws start n cap → r.low - 1 ≤ get_or ws (2 * (start + n) - 1) 0
-      → Adds ws (set ws (2 * (start + n) - 1) (max (get_or ws (2 * (start + n) - 1) 0) r.high)) start cap (add_run (runs_in_words ws start n) r) (Count n)
+      → Adds ws (set ws (2 * (start + n) - 1) (max (get_or ws (2 * (start + n) - 1) 0) r.high)) start cap (add_run (runs_in_words ws start n) r) (Some n)
   join_adds cap room h =
       let h' : r.low - 1 ≤ get_or ws (2 * (start + (n - 1)) + 1) 0 = rw last-at at h in
       let all = take_all cap (s ++ j ∷ []) (omega (arith, l, room.fits)) in
@@ -83,15 +82,15 @@ module _ (ws : List ℕ) (start n : ℕ) (r : Run) (pos : 0 < n) where
       l = length-snoc s j ∙ omega (arith, length_runs ws start (n - 1))
 
 module _ (ws : List ℕ) (start n cap low high : ℕ) where
-  pub append_first : (ws' : List ℕ) (q : Added) → n ≡ 0 → Adds ws ws' start cap (runs_in_words ws start n ++ run low high ∷ []) q
+  pub append_first : (ws' : List ℕ) (q : Option ℕ) → n ≡ 0 → Adds ws ws' start cap (runs_in_words ws start n ++ run low high ∷ []) q
       → Adds ws ws' start cap (add_run (runs_in_words ws start n) (run low high)) q
   append_first ws' q z d = rw (add_run-none ws start n (run low high) z) d
 
   module _ (some : n ≡ 0 → ⊥) where
-    pub append_apart : (ws' : List ℕ) (q : Added) → get_or ws (2 * (start + n) - 1) 0 < low - 1 → Adds ws ws' start cap (runs_in_words ws start n ++ run low high ∷ []) q
+    pub append_apart : (ws' : List ℕ) (q : Option ℕ) → get_or ws (2 * (start + n) - 1) 0 < low - 1 → Adds ws ws' start cap (runs_in_words ws start n ++ run low high ∷ []) q
         → Adds ws ws' start cap (add_run (runs_in_words ws start n) (run low high)) q
     append_apart ws' q h d = rw (add_run-apart ws start n (run low high) (omega arith) h) d
 
     pub append_joined : (m : ℕ) → m ≡ max (get_or ws (2 * (start + n) - 1) 0) high → Room ws start n cap → low - 1 ≤ get_or ws (2 * (start + n) - 1) 0
-        → Adds ws (set ws (2 * (start + n) - 1) m) start cap (add_run (runs_in_words ws start n) (run low high)) (Count n)
+        → Adds ws (set ws (2 * (start + n) - 1) m) start cap (add_run (runs_in_words ws start n) (run low high)) (Some n)
     append_joined m e room h = rw e (join_adds ws start n (run low high) (omega arith) cap room h)

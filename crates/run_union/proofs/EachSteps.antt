@@ -3,11 +3,10 @@ use Rattle.model.proofs.Prelude.{ℕ, ◌≤◌, ◌<◌, ◌+◌, ◌-◌, ◌^
 use Rattle.model.specs.Runs.{Run}
 use Rattle.run_lists.specs.RunLists.{RunWithin, Sound, add_run, shift_run, shift_runs, run_at, runs_in_words}
 use Rattle.run_lists.specs.Answers.{Room, Adds}
-use Rattle.run_lists.specs.declared.inner.Added.{Added}
-use Rattle.run_lists.specs.declared.inner.Added.TheVariants.{Count, Full}
 use Rattle.run_lists.proofs.RunWordLaws.{runs-next, sound-at}
 use Rattle.run_union.specs.Unions.{with_shifted}
 use Rattle.run_union.proofs.Adding.{Adding, adding-start, adding-length, adding-done, adding-run, as_rest, part-full, part-more}
+use Rattle.std.specs.Prelude.{Option, Some, None}
 
 -- `n` runs stand at `start`, and the runs i..to are left
 pub record Shifting (ws₀ : List ℕ) (from to start count cap offset : ℕ) (ws : List ℕ) (i n : ℕ) : Type 0 where
@@ -41,7 +40,7 @@ module _ {ws₀ : List ℕ} {from to start count cap offset : ℕ} {ws : List �
   pub shifting_room : Room ws start n cap
   shifting_room = record { fits = now.adding.fits; inside = omega (arith, now.same_length_of, now.room.inside) }
 
-  pub shifting_end : to ≤ i → Adds ws₀ ws start cap (with_shifted ws₀ from to start count offset) (Count n)
+  pub shifting_end : to ≤ i → Adds ws₀ ws start cap (with_shifted ws₀ from to start count offset) (Some n)
   unfolding total rest
   shifting_end h =
       let z : to - i ≡ 0 = omega arith in
@@ -59,12 +58,12 @@ module _ {ws₀ : List ℕ} {from to start count cap offset : ℕ} {ws : List �
     unfolding total rest
     next = as_rest (ap (shift_runs offset) (runs-next ws₀ i to lt) ∙ ap (λ (r : Run). shift_run offset r ∷ rest (i + 1)) (sym same)) now.adding
 
-    module _ {ws' : List ℕ} {q : Added} (adds : Adds ws ws' start cap (add_run (runs_in_words ws start n) (shift_run offset (run_at ws i))) q) where
-      pub shifting_full : q ≡ Full → Adds ws₀ ws' start cap (with_shifted ws₀ from to start count offset) Full
+    module _ {ws' : List ℕ} {q : (Option ℕ)} (adds : Adds ws ws' start cap (add_run (runs_in_words ws start n) (shift_run offset (run_at ws i))) q) where
+      pub shifting_full : q ≡ None → Adds ws₀ ws' start cap (with_shifted ws₀ from to start count offset) None
       unfolding total
       shifting_full e = part-full ws₀ ws start cap n total ws' (shift_run offset (run_at ws i) ∷ []) (rest (i + 1)) next q e adds
 
-      pub shifting_more : (c : ℕ) → q ≡ Count c → Shifting ws₀ from to start count cap offset ws' (i + 1) c
+      pub shifting_more : (c : ℕ) → q ≡ Some c → Shifting ws₀ from to start count cap offset ws' (i + 1) c
       unfolding total rest
       shifting_more c e =
           let more : Adding ws₀ ws' start cap c (rest (i + 1)) total =

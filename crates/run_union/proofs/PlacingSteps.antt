@@ -10,11 +10,10 @@ use Rattle.run_lists.proofs.RunWordLaws.{length_runs, runs-snoc, sound-at}
 use Rattle.run_union.proofs.ShiftLaws.{shift-append, length_shift}
 use Rattle.run_union.proofs.RunWriteLaws.{get_d-write_runs, write_runs-snoc}
 
--- the runs from..i are placed from `place` on, and `at` is the place after them
-pub record Placing (ws₀ : List ℕ) (from to place offset : ℕ) (ws : List ℕ) (i at : ℕ) : Type 0 where
+-- the runs from..i are placed from `place` on
+pub record Placing (ws₀ : List ℕ) (from to place offset : ℕ) (ws : List ℕ) (i : ℕ) : Type 0 where
   pub begun : from ≤ i
   pub within : i ≤ to
-  pub reached : at ≡ place + (i - from)
   pub below : to ≤ place
   pub room : 2 * (place + (to - from)) ≤ length ws₀
   pub sound : Sound (2 ^ 62) (runs_in_words ws₀ from (to - from))
@@ -22,13 +21,12 @@ pub record Placing (ws₀ : List ℕ) (from to place offset : ℕ) (ws : List �
   pub written : ws ≡ write_runs_of ws₀ place (shift_runs offset (runs_in_words ws₀ from (i - from)))
 
 pub placing_start : (ws : List ℕ) (from to place offset : ℕ) → from ≤ to → to ≤ place → 2 * (place + (to - from)) ≤ length ws
-    → Sound (2 ^ 62) (runs_in_words ws from (to - from)) → Placing ws from to place offset ws from place
+    → Sound (2 ^ 62) (runs_in_words ws from (to - from)) → Placing ws from to place offset ws from
 placing_start ws from to place offset h l room sound =
     let z : from - from ≡ 0 = omega arith in
     record {
       begun = omega arith;
       within = h;
-      reached = omega arith;
       below = l;
       room = room;
       sound = sound;
@@ -36,7 +34,7 @@ placing_start ws from to place offset h l room sound =
       written = sym (ap (λ (k : ℕ). write_runs_of ws place (shift_runs offset (runs_in_words ws from k))) z);
     }
 
-module _ {ws₀ : List ℕ} {from to place offset : ℕ} {ws : List ℕ} {i at : ℕ} (now : Placing ws₀ from to place offset ws i at) where
+module _ {ws₀ : List ℕ} {from to place offset : ℕ} {ws : List ℕ} {i : ℕ} (now : Placing ws₀ from to place offset ws i) where
   pub placing_end : to ≤ i → ws ≡ write_runs_of ws₀ place (shift_runs offset (runs_in_words ws₀ from (to - from)))
   placing_end h =
       let e : i ≡ to = omega (arith, now.within) in
@@ -59,13 +57,16 @@ module _ {ws₀ : List ℕ} {from to place offset : ℕ} {ws : List ℕ} {i at :
       pub placing_high : Fits w64 (get_or ws (2 * i + 1) 0 + offset)
       placing_high = omega (arith, placing_run.most)
 
-    pub placing_more : Placing ws₀ from to place offset (set (set ws (2 * at) (get_or ws (2 * i) 0 + offset)) (2 * at + 1) (get_or ws (2 * i + 1) 0 + offset)) (i + 1) (at + 1)
+    abbrev at : ℕ
+    at = place + (i - from)
+
+    pub placing_more : Placing ws₀ from to place offset (set (set ws (2 * at) (get_or ws (2 * i) 0 + offset)) (2 * at + 1) (get_or ws (2 * i + 1) 0 + offset)) (i + 1)
     placing_more =
         let k : i + 1 - from ≡ suc (i - from) = omega (arith, now.begun) in
         let f : from + (i - from) ≡ i = omega (arith, now.begun) in
         let so_far : List Run = shift_runs offset (runs_in_words ws₀ from (i - from)) in
         let l : at ≡ place + length (shift_runs offset (runs_in_words ws₀ from (i - from))) =
-        now.reached ∙ ap (λ (x : ℕ). place + x) (sym (length_shift offset (runs_in_words ws₀ from (i - from)) ∙ length_runs ws₀ from (i - from))) in
+        ap (λ (x : ℕ). place + x) (sym (length_shift offset (runs_in_words ws₀ from (i - from)) ∙ length_runs ws₀ from (i - from))) in
         let next : shift_runs offset (runs_in_words ws₀ from (i + 1 - from)) ≡ so_far ++ shift_run offset (run_at ws₀ i) ∷ [] =
         ap (λ (x : ℕ). shift_runs offset (runs_in_words ws₀ from x)) k
         ∙ ap (shift_runs offset) (runs-snoc ws₀ from (i - from))
@@ -74,7 +75,6 @@ module _ {ws₀ : List ℕ} {from to place offset : ℕ} {ws : List ℕ} {i at :
         record {
           begun = omega (arith, now.begun);
           within = omega arith;
-          reached = omega (arith, now.reached, now.begun);
           below = now.below;
           room = now.room;
           sound = now.sound;

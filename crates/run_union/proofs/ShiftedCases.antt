@@ -6,8 +6,6 @@ use mathlib.Core.Bool.{false≢true}
 use Rattle.model.specs.Runs.{Run, Separated}
 use Rattle.run_lists.specs.RunLists.{RunWithin, Sound, add_run, add_runs, shift_run, shift_runs, run_at, runs_in_words, write_runs_of}
 use Rattle.run_lists.specs.Answers.{Room, answer, Adds}
-use Rattle.run_lists.specs.declared.inner.Added.{Added}
-use Rattle.run_lists.specs.declared.inner.Added.TheVariants.{Count, Full}
 use Rattle.run_lists.proofs.RunWordLaws.{length_runs, runs-snoc, runs-next, sound-at}
 use Rattle.model.proofs.BoolLaws.{cases}
 use Rattle.model.proofs.RunLaws.{separated_weaken}
@@ -16,6 +14,7 @@ use Rattle.run_union.proofs.AddRunLaws.{joined-two, add_runs-length}
 use Rattle.run_union.proofs.ShiftLaws.{shift_runs-sound, length_shift}
 use Rattle.run_union.proofs.RunWriteLaws.{write_runs-self, write_runs-write_runs, write_append}
 use Rattle.run_union.proofs.Adding.{Adding, answer-fits, adding-start, adding-length, adding-runs, adding-done, as_rest, part-full, part-more}
+use Rattle.std.specs.Prelude.{Option, Some, None}
 
 -- the last run, where there is one, ends at `h` or below
 EndsBy : List Run → ℕ → Type 0
@@ -71,10 +70,10 @@ fits-yes ws from to start n cap offset room w h e =
 -- ---- append_rest
 
 pub nothing-more : {ws : List ℕ} {from to start count cap : ℕ} (offset : ℕ) → to ≤ from → Room ws start count cap
-    → Adds ws ws start cap (with_shifted ws from to start count offset) (Count count)
+    → Adds ws ws start cap (with_shifted ws from to start count offset) (Some count)
 nothing-more {ws} {from} {to} {start} {count} {cap} offset h room =
     let z : to - from ≡ 0 = omega arith in
-    subst (λ (k : ℕ). Adds ws ws start cap (add_runs (runs_in_words ws start count) (shift_runs offset (runs_in_words ws from k))) (Count count)) (sym z)
+    subst (λ (k : ℕ). Adds ws ws start cap (add_runs (runs_in_words ws start count) (shift_runs offset (runs_in_words ws from k))) (Some count)) (sym z)
     (adding-done ws ws start cap count (runs_in_words ws start count) (adding-start ws start cap count [] room.fits))
 
 pub first_run : (ws : List ℕ) (from to : ℕ) → Sound (2 ^ 62) (runs_in_words ws from (to - from)) → from < to → RunWithin (2 ^ 62) (run_at ws from)
@@ -105,7 +104,7 @@ module _ {ws : List ℕ} {start count cap : ℕ} (from to offset : ℕ) (room : 
     together = adds-apart (2 ^ 62 + offset) last list more (runs-end ws start count) more-apart
 
     -- all of them placed after the list
-    pub placed : (ws' : List ℕ) → ws' ≡ write_runs_of ws (start + count) more → Adds ws ws' start cap (with_shifted ws from to start count offset) (Count (count + (to - from)))
+    pub placed : (ws' : List ℕ) → ws' ≡ write_runs_of ws (start + count) more → Adds ws ws' start cap (with_shifted ws from to start count offset) (Some (count + (to - from)))
     placed ws' e =
         let few = (fits (not-false r yes)).0 in
         let l : length (list ++ more) ≡ count + (to - from) =
@@ -140,11 +139,11 @@ module _ {ws : List ℕ} {from to start count cap : ℕ} (offset : ℕ) (lt : fr
   split : Adding ws ws start cap count (first ++ rest) total
   split = as_rest (ap (shift_runs offset) (runs-next ws from to lt)) (adding-start ws start cap count (shift_runs offset (runs_in_words ws from (to - from))) room.fits)
 
-  module _ {ws₁ : List ℕ} {q : Added} (adds : Adds ws ws₁ start cap (add_run (runs_in_words ws start count) (shift_run offset (run_at ws from))) q) where
-    pub first-full : q ≡ Full → Adds ws ws₁ start cap (with_shifted ws from to start count offset) Full
+  module _ {ws₁ : List ℕ} {q : (Option ℕ)} (adds : Adds ws ws₁ start cap (add_run (runs_in_words ws start count) (shift_run offset (run_at ws from))) q) where
+    pub first-full : q ≡ None → Adds ws ws₁ start cap (with_shifted ws from to start count offset) None
     first-full e = part-full ws ws start cap count total ws₁ first rest split q e adds
 
-    module _ {n : ℕ} (e : q ≡ Count n) where
+    module _ {n : ℕ} (e : q ≡ Some n) where
       then-rest : Adding ws ws₁ start cap n rest total
       then-rest = part-more ws ws start cap count total ws₁ first rest split q n e room.inside adds
 
@@ -160,7 +159,7 @@ module _ {ws : List ℕ} {from to start count cap : ℕ} (offset : ℕ) (lt : fr
           (separated_weaken (2 ^ 62) ((run_at ws from).high + 2) 1 (runs_in_words ws (from + 1) (to - (from + 1))) (omega arith)
           (subst (λ (s : List Run). Separated (2 ^ 62) 1 s) (runs-next ws from to lt) sound).3)
 
-      pub all-added : {ws₂ : List ℕ} {r : Added} → Adds ws₁ ws₂ start cap (with_shifted ws₁ (from + 1) to start n offset) r
+      pub all-added : {ws₂ : List ℕ} {r : (Option ℕ)} → Adds ws₁ ws₂ start cap (with_shifted ws₁ (from + 1) to start n offset) r
           → Adds ws ws₂ start cap (with_shifted ws from to start count offset) r
       all-added {ws₂} {r} d =
           let list : List Run = runs_in_words ws₁ start n in

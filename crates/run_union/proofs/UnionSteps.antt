@@ -4,13 +4,12 @@ use Rattle.model.proofs.Prelude.{◌∷◌, length, get_or, leb, arith}
 use Rattle.model.specs.Runs.{Run}
 use Rattle.run_lists.specs.RunLists.{RunWithin, Sound, add_run, add_runs, run_at, runs_in_words}
 use Rattle.run_lists.specs.Answers.{Adds, Room}
-use Rattle.run_lists.specs.declared.inner.Added.{Added}
-use Rattle.run_lists.specs.declared.inner.Added.TheVariants.{Count, Full}
 use Rattle.run_lists.proofs.RunWordLaws.{runs-next, sound-at}
 use Rattle.model.proofs.BoolLaws.{cases}
 use Rattle.run_union.specs.Unions.{left_first_of, Unites}
 use Rattle.run_union.proofs.UnionLaws.{interleave, interleave-left, interleave-right, add_runs-union}
 use Rattle.run_union.proofs.Adding.{Adding, as_rest, adding-start, adding-length, adding-done, adding-run, adding-runs, part-full, part-more}
+use Rattle.std.specs.Prelude.{Option, Some, None}
 
 -- what is left to merge at the cursors i and j
 abbrev pub rest : List ℕ → ℕ → ℕ → List ℕ → ℕ → ℕ → List Run
@@ -92,7 +91,7 @@ module _ {a : List ℕ} {a-from a-to : ℕ} {ws₀ : List ℕ} {b-from b-to star
   total : List Run
   total = add_runs [] (rest a a-from a-to ws₀ b-from b-to)
 
-  unites : (ws' : List ℕ) (q : Added) → Adds ws₀ ws' start cap total q → Unites a a-from a-to ws₀ b-from b-to start cap ws' q
+  unites : (ws' : List ℕ) (q : Option ℕ) → Adds ws₀ ws' start cap total q → Unites a a-from a-to ws₀ b-from b-to start cap ws' q
   unfolding total
   unites ws' q d t u v =
       subst (λ (s : List Run). Adds ws₀ ws' start cap s q)
@@ -101,10 +100,10 @@ module _ {a : List ℕ} {a-from a-to : ℕ} {ws₀ : List ℕ} {b-from b-to star
   pub merging_room : Room ws start k cap
   merging_room = record { fits = now.adding.fits; inside = omega (arith, now.same_length_of, now.room.inside) }
 
-  pub merging_end : a-to + b-to ≤ i + j → Unites a a-from a-to ws₀ b-from b-to start cap ws (Count k)
+  pub merging_end : a-to + b-to ≤ i + j → Unites a a-from a-to ws₀ b-from b-to start cap ws (Some k)
   unfolding total
   merging_end h =
-      unites ws (Count k)
+      unites ws (Some k)
       (adding-done ws₀ ws start cap k total
       (as_rest (rest-none a i a-to ws₀ j b-to (omega (arith, now.b-within)) (omega (arith, now.a-within))) now.adding))
 
@@ -128,11 +127,11 @@ module _ {a : List ℕ} {a-from a-to : ℕ} {ws₀ : List ℕ} {b-from b-to star
       unfolding total
       left-now = as_rest (rest-left a i a-to ws₀ j b-to (sym was ∙ yes)) now.adding
 
-      module _ {ws' : List ℕ} {q : Added} (adds : Adds ws ws' start cap (add_run (runs_in_words ws start k) (run_at a i)) q) where
-        pub left-full : q ≡ Full → Unites a a-from a-to ws₀ b-from b-to start cap ws' Full
-        left-full e = unites ws' Full (part-full ws₀ ws start cap k total ws' (run_at a i ∷ []) (rest a (i + 1) a-to ws₀ j b-to) left-now q e adds)
+      module _ {ws' : List ℕ} {q : (Option ℕ)} (adds : Adds ws ws' start cap (add_run (runs_in_words ws start k) (run_at a i)) q) where
+        pub left-full : q ≡ None → Unites a a-from a-to ws₀ b-from b-to start cap ws' None
+        left-full e = unites ws' None (part-full ws₀ ws start cap k total ws' (run_at a i ∷ []) (rest a (i + 1) a-to ws₀ j b-to) left-now q e adds)
 
-        pub left-more : (c : ℕ) → q ≡ Count c → Merging a a-from a-to ws₀ b-from b-to start cap ws' (i + 1) j c
+        pub left-more : (c : ℕ) → q ≡ Some c → Merging a a-from a-to ws₀ b-from b-to start cap ws' (i + 1) j c
         unfolding total
         left-more c e =
             let more : Adding ws₀ ws' start cap c (rest a (i + 1) a-to ws₀ j b-to) total =
@@ -171,11 +170,11 @@ module _ {a : List ℕ} {a-from a-to : ℕ} {ws₀ : List ℕ} {b-from b-to star
           (rest-right a i a-to ws₀ j b-to (sym was ∙ no) now.a-within lt ∙ ap (λ (r : Run). r ∷ rest a i a-to ws₀ (j + 1) b-to) (sym same))
           now.adding
 
-      module _ {ws' : List ℕ} {q : Added} (adds : Adds ws ws' start cap (add_run (runs_in_words ws start k) (run_at ws j)) q) where
-        pub right-full : q ≡ Full → Unites a a-from a-to ws₀ b-from b-to start cap ws' Full
-        right-full e = unites ws' Full (part-full ws₀ ws start cap k total ws' (run_at ws j ∷ []) (rest a i a-to ws₀ (j + 1) b-to) right-now q e adds)
+      module _ {ws' : List ℕ} {q : (Option ℕ)} (adds : Adds ws ws' start cap (add_run (runs_in_words ws start k) (run_at ws j)) q) where
+        pub right-full : q ≡ None → Unites a a-from a-to ws₀ b-from b-to start cap ws' None
+        right-full e = unites ws' None (part-full ws₀ ws start cap k total ws' (run_at ws j ∷ []) (rest a i a-to ws₀ (j + 1) b-to) right-now q e adds)
 
-        pub right-more : (c : ℕ) → q ≡ Count c → Merging a a-from a-to ws₀ b-from b-to start cap ws' i (j + 1) c
+        pub right-more : (c : ℕ) → q ≡ Some c → Merging a a-from a-to ws₀ b-from b-to start cap ws' i (j + 1) c
         unfolding total
         right-more c e =
             let more : Adding ws₀ ws' start cap c (rest a i a-to ws₀ (j + 1) b-to) total =

@@ -3,7 +3,7 @@ use Rattle.std.specs.Prelude.{ℕ, ◌+◌, ◌-◌, ◌*◌, ◌≤◌, ◌<◌
 use Rattle.model.specs.Runs.{Run, runs_among}
 use Rattle.run_lists.specs.RunLists.{Sound, add_runs, shift_runs, in_either, runs_in_words}
 use Rattle.run_lists.specs.Answers.{Adds}
-use Rattle.run_lists.specs.declared.inner.Added.{Added}
+use Rattle.std.specs.Prelude.{Option}
 
 -- the `count` runs at run place `start` with the runs from..to added, shifted
 abbrev pub with_shifted : List ℕ → ℕ → ℕ → ℕ → ℕ → ℕ → List Run
@@ -30,7 +30,7 @@ BeginsOver high [] = Unit {0}
 BeginsOver high (r ∷ rs) = high + 1 < r.low
 
 -- the runs a-from..a-to of some words and b-from..b-to of others united at `start` of the others, for each bound that both lists keep
-abbrev pub Unites : (a : List ℕ) (a-from a-to : ℕ) (ws : List ℕ) (b-from b-to start cap : ℕ) (ws' : List ℕ) (r : Added) → Type 0
+abbrev pub Unites : (a : List ℕ) (a-from a-to : ℕ) (ws : List ℕ) (b-from b-to start cap : ℕ) (ws' : List ℕ) (r : Option ℕ) → Type 0
 Unites a a-from a-to ws b-from b-to start cap ws' r =
     (t : ℕ) → Sound t (runs_in_words a a-from (a-to - a-from)) → Sound t (runs_in_words ws b-from (b-to - b-from))
     → Adds ws ws' start cap (runs_among (in_either (runs_in_words a a-from (a-to - a-from)) (runs_in_words ws b-from (b-to - b-from))) t) r

@@ -5,8 +5,6 @@ ghost use Rattle.run_lists.specs.RunLists.{RunWithin, Sound, add_run, shift_run,
 ghost use Rattle.run_lists.specs.Answers.{Room, Adds};
 ghost use Rattle.run_union.specs.Unions.{with_shifted, FitsWhere};
 
-use run_lists::inner::Added;
-
 pub mod merging;
 pub mod moving;
 
@@ -25,7 +23,7 @@ fn place(
     capacity: usize,
     low: u64,
     high: u64,
-) -> Added
+) -> Option<usize>
     requires { Room words.old start count capacity }
     ensures { Adds words.old words.new start capacity (runs_in_words words.old start count ++ run low high ∷ []) result }
 {
@@ -34,9 +32,9 @@ fn place(
         words[at] = low;
         words[at + 1] = high;
         let more = count + 1;
-        Added::Count(more)
+        Some(more)
     } else {
-        Added::Full
+        None
     }
 }
 
@@ -48,7 +46,7 @@ pub fn append(
     capacity: usize,
     low: u64,
     high: u64,
-) -> Added
+) -> Option<usize>
     requires room { Room words.old start count capacity }
     requires le_low { 1 ≤ low }
     ensures { Adds words.old words.new start capacity (add_run (runs_in_words words.old start count) (run low high)) result }
@@ -60,7 +58,7 @@ pub fn append(
     let last = words[at];
     if low - 1 <= last {
         words[at] = larger(last, high);
-        return Added::Count(count);
+        return Some(count);
     }
     place(words, start, count, capacity, low, high)
 }
@@ -73,7 +71,7 @@ fn append_run_shifted(
     count: usize,
     capacity: usize,
     offset: u64,
-) -> Added
+) -> Option<usize>
     requires room { Room words.old start count capacity }
     requires i_lt_start { (i < start) × (offset ≤ 2 ^ 62) }
     requires run_within { RunWithin (2 ^ 62) (run_at words.old i) }
@@ -93,26 +91,17 @@ fn append_each(
     count: usize,
     capacity: usize,
     offset: u64,
-) -> Added
+) -> Option<usize>
     requires room { Room words.old start count capacity }
     requires from_le_to { (from ≤ to) × (to ≤ start) × (offset ≤ 2 ^ 62) }
     requires sound { Sound (2 ^ 62) (runs_in_words words.old from (to - from)) }
     ensures { Adds words.old words.new start capacity (with_shifted words.old from to start count offset) result }
 {
-    let mut i = from;
     let mut n = count;
-    while i < to {
-        match append_run_shifted(words, i, start, n, capacity, offset) {
-            Added::Count(c) => {
-                n = c;
-            }
-            Added::Full => {
-                return Added::Full;
-            }
-        }
-        i += 1;
+    for i in from..to {
+        n = append_run_shifted(words, i, start, n, capacity, offset)?;
     }
-    Added::Count(n)
+    Some(n)
 }
 
 // Whether the runs from..to of the words, shifted, begin apart from the last run of a list that has room for all of them.
@@ -141,15 +130,12 @@ fn place_shifted(words: &mut [u64], from: usize, to: usize, place: usize, offset
     requires sound { Sound (2 ^ 62) (runs_in_words words.old from (to - from)) }
     ensures { words.new ≡ write_runs_of words.old place (shift_runs offset (runs_in_words words.old from (to - from))) }
 {
-    let mut i = from;
-    let mut at = place;
-    while i < to {
+    for i in from..to {
+        let at = place + (i - from);
         let low = words[2 * i] + offset;
         let high = words[2 * i + 1] + offset;
         words[2 * at] = low;
         words[2 * at + 1] = high;
-        i += 1;
-        at += 1;
     }
 }
 
@@ -162,14 +148,14 @@ fn append_rest(
     count: usize,
     capacity: usize,
     offset: u64,
-) -> Added
+) -> Option<usize>
     requires room { Room words.old start count capacity }
     requires from_le_to { (from ≤ to) × (to ≤ start) × (offset ≤ 2 ^ 62) }
     requires sound { Sound (2 ^ 62) (runs_in_words words.old from (to - from)) }
     ensures { Adds words.old words.new start capacity (with_shifted words.old from to start count offset) result }
 {
     if to <= from {
-        return Added::Count(count);
+        return Some(count);
     }
     let apart = fit_after(words, from, to, start, count, capacity, offset);
     if !apart {
@@ -177,7 +163,7 @@ fn append_rest(
     }
     place_shifted(words, from, to, start + count, offset);
     let more = count + (to - from);
-    Added::Count(more)
+    Some(more)
 }
 
 // Adds the runs from..to of the same words, shifted. Only the first may join the list's last run.
@@ -189,19 +175,17 @@ pub fn append_shifted(
     count: usize,
     capacity: usize,
     offset: u64,
-) -> Added
+) -> Option<usize>
     requires room { Room words.old start count capacity }
     requires from_le_to { (from ≤ to) × (to ≤ start) × (offset ≤ 2 ^ 62) }
     requires sound { Sound (2 ^ 62) (runs_in_words words.old from (to - from)) }
     ensures { Adds words.old words.new start capacity (with_shifted words.old from to start count offset) result }
 {
     if to <= from {
-        return Added::Count(count);
+        return Some(count);
     }
-    match append_run_shifted(words, from, start, count, capacity, offset) {
-        Added::Count(n) => append_rest(words, from + 1, to, start, n, capacity, offset),
-        Added::Full => Added::Full,
-    }
+    let n = append_run_shifted(words, from, start, count, capacity, offset)?;
+    append_rest(words, from + 1, to, start, n, capacity, offset)
 }
 
 // Copies runs to other words.
@@ -209,12 +193,10 @@ pub fn copy(source: &[u64], from: usize, count: usize, words: &mut [u64], start:
     requires { (2 * (from + count) ≤ length source.now) × (2 * (start + count) ≤ length words.old) }
     ensures { words.new ≡ write_runs_of words.old start (runs_in_words source.now from count) }
 {
-    let mut k = 0;
-    while k < count {
+    for k in 0..count {
         let s = 2 * (from + k);
         let w = 2 * (start + k);
         words[w] = source[s];
         words[w + 1] = source[s + 1];
-        k += 1;
     }
 }

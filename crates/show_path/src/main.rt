@@ -4,7 +4,7 @@
 
 ghost use Rattle.std.specs.Prelude.{◌≡◌, length};
 
-use netlist::{SurveyAnswer, survey};
+use netlist::survey;
 use path_faults::PathNo;
 use path_text::{print_bench_path, print_path};
 use program_files::{argument, file_name, has_argument, is_argument, load_file};
@@ -15,35 +15,26 @@ use program_sentences::{
 use std::fs::File;
 use std::rt::{Env, Files};
 
-// The number that a word stands for.
-#[derive(Drop)]
-enum Number {
-    Value(u64),
-    Nothing,
-}
-
 // The number that a word of digits stands for, below 10^19.
-fn number_in(word: &[u8]) -> Number {
+fn number_in(word: &[u8]) -> Option<u64> {
     if word.len() == 0 {
-        return Number::Nothing;
+        return None;
     }
     let mut n: u64 = 0;
-    let mut i = 0;
-    while i < word.len() {
+    for i in 0..word.len() {
         let c = word[i];
         if c < b'0' {
-            return Number::Nothing;
+            return None;
         }
         if b'9' < c {
-            return Number::Nothing;
+            return None;
         }
         if 1000000000000000000 <= n {
-            return Number::Nothing;
+            return None;
         }
         n = 10 * n + ((c - b'0') as u64);
-        i += 1;
     }
-    Number::Value(n)
+    Some(n)
 }
 
 fn print_usage(fd: i32) {
@@ -68,11 +59,9 @@ fn say_range(number: u64, paths: u64) {
 
 // Says what is wrong with the number of a path, if anything, of a legal netlist.
 fn say_number(number: u64, netlist: &[u8]) {
-    let surveyed = survey(netlist);
-    let answer = surveyed.answer;
-    match answer {
-        SurveyAnswer::Refused(_) => {}
-        SurveyAnswer::Legal => say_range(number, surveyed.survey.total),
+    match survey(netlist) {
+        Err(_) => {}
+        Ok(legal) => say_range(number, legal.total),
     }
 }
 
@@ -82,14 +71,14 @@ fn number_argument(rt: &impl Env) -> u64 {
     let digits = argument(rt, 1, &mut word);
     let number = number_in(&word[..digits]);
     match number {
-        Number::Nothing => {
+        None => {
             print(
                 STDERR_FILENO,
                 b"The first argument is not a number below 10^19.\n",
             );
             0
         }
-        Number::Value(value) => value,
+        Some(value) => value,
     }
 }
 

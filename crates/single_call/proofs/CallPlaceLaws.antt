@@ -11,48 +11,38 @@ use Rattle.model.specs.declared.Refusal.{Refusal}
 use Rattle.model.proofs.AnswerLaws.{checks-both}
 use Rattle.netlist.specs.Tables.{CircuitTables}
 use Rattle.netlist.specs.declared.inner.Shape.{Shape}
-use Rattle.record_test.specs.Records.{record_of, RecordTrue}
-use Rattle.record_test.specs.declared.inner.RecordAnswer.{RecordAnswer}
-use Rattle.record_test.specs.declared.inner.RecordAnswer.TheVariants as record-answer
-use Rattle.store_words.specs.WordAnswers.{check_of, totals_in, totals_both}
-use Rattle.store_words.specs.declared.inner.StoreCheck.{StoreCheck}
-use Rattle.store_words.specs.declared.inner.StoreCheck.TheVariants as check
+use Rattle.record_test.specs.Records.{RecordTrue}
+use Rattle.store_words.specs.WordAnswers.{totals_in, totals_both}
 use Rattle.store_coverage.specs.Stage.{place_rules}
 use Rattle.single_stage.specs.LegalStage.{LegalReady, StageTrue}
-use Rattle.store_coverage.specs.declared.inner.StageAnswer.{StageAnswer}
 use Rattle.store_words.specs.Sound.{SoundWords}
 use Rattle.store_words.specs.declared.inner.StoreTotals.{StoreTotals}
 use Rattle.store_words.proofs.SoundLaws.{sound_more}
 use Rattle.store_coverage.specs.TestCall.{TestedIs, Counting, SomeCounting}
-use Rattle.store_coverage.specs.declared.TestAnswer.{TestAnswer}
 use Rattle.store_coverage.proofs.EdgesLaws.{same_memory, few-paths, memory-sound}
 use Rattle.store_coverage.proofs.StageLaws.{stage-is-work}
+use Rattle.std.specs.Prelude.{Result, Ok, Err}
+use Rattle.store_coverage.specs.declared.TestCounts.{TestCounts}
+use Rattle.model.specs.Returned.{answer_of}
 
 -- ---- the places Test and Store
 
-module _ (inputs paths : ℕ) (rec ws : List ℕ) {q : RecordAnswer} (e : RecordTrue q inputs rec) where
-  pub place-test : (w : Refusal) → q ≡ record-answer.Refused w → (N : Netlist) → inputs ≡ N.inputs → paths ≡ path_total N
+module _ (inputs paths : ℕ) (rec ws : List ℕ) {q : (Result (Unit {0}) Refusal)} (e : RecordTrue q inputs rec) where
+  pub place-test : (w : Refusal) → q ≡ Err w → (N : Netlist) → inputs ≡ N.inputs → paths ≡ path_total N
       → refused (refusal_number_of w) ≡ checks (place_rules N rec ws)
   place-test w r N i p =
-      let t : checks (test_rules N rec) ≡ refused (refusal_number_of w) = sym (e.answer N (sym i)) ∙ ap record_of r in
+      let t : checks (test_rules N rec) ≡ refused (refusal_number_of w) = sym (e.answer N (sym i)) ∙ ap answer_of r in
       sym (checks-both (test_rules N rec) (store_rules (path_total N) ws) ∙ rw t refl)
 
-  module _ (r : q ≡ record-answer.Legal) where
+  module _ (r : q ≡ Ok tt) where
     place-store : (N : Netlist) → inputs ≡ N.inputs → checks (place_rules N rec ws) ≡ checks (store_rules (path_total N) ws)
     place-store N i =
-        let t : checks (test_rules N rec) ≡ value tt = sym (e.answer N (sym i)) ∙ ap record_of r in
+        let t : checks (test_rules N rec) ≡ value tt = sym (e.answer N (sym i)) ∙ ap answer_of r in
         checks-both (test_rules N rec) (store_rules (path_total N) ws) ∙ rw t refl
 
-    module _ (a : StoreCheck) (ea : check_of a ≡ checks (store_rules paths ws)) where
-      place-checked : (N : Netlist) → inputs ≡ N.inputs → paths ≡ path_total N → check_of a ≡ checks (place_rules N rec ws)
+    module _ (a : Result (Unit {0}) Refusal) (ea : answer_of a ≡ checks (store_rules paths ws)) where
+      pub place-checked : (N : Netlist) → inputs ≡ N.inputs → paths ≡ path_total N → answer_of a ≡ checks (place_rules N rec ws)
       place-checked N i p = ea ∙ ap (λ m. checks (store_rules m ws)) p ∙ sym (place-store N i)
-
-      pub place-refused : (w : Refusal) → a ≡ check.Refused w → (N : Netlist) → inputs ≡ N.inputs → paths ≡ path_total N
-          → refused (refusal_number_of w) ≡ checks (place_rules N rec ws)
-      place-refused w o N i p = sym (ap check_of o) ∙ place-checked N i p
-
-      pub place-sound : a ≡ check.Sound → (N : Netlist) → inputs ≡ N.inputs → paths ≡ path_total N → value tt ≡ checks (place_rules N rec ws)
-      place-sound o N i p = sym (ap check_of o) ∙ place-checked N i p
 
 -- ---- a legal record, counted
 
@@ -61,7 +51,7 @@ module _ {file ps cs : List ℕ} {shape : Shape} {rec ws work : List ℕ} (h : L
   pub before-sound : SoundWords (2 ^ 62) ws
   before-sound = sound_more (path_total h.stage.circuit) (2 ^ 62) ws (few-paths h.stage.tables) (memory-sound h.stage.memory)
 
-  module _ (class : ℕ) {before : StoreTotals} (eb : totals_in before ≡ totals_both ws) {ws' work' : List ℕ} {r : StageAnswer}
+  module _ (class : ℕ) {before : StoreTotals} (eb : totals_in before ≡ totals_both ws) {ws' work' : List ℕ} {r : (Result (Unit {0}) Refusal)}
       (s : (N : Netlist) → CircuitTables N file ps cs shape → StageTrue N (class_of class) rec ws ws' work work' r) where
     counting-of : (N : Netlist) → CircuitTables N file ps cs shape
         → Counting N (test_of N (class_of class) rec) (test_stage N (class_of class) rec ws) ws ws' work work' before r
@@ -84,7 +74,7 @@ module _ {file ps cs : List ℕ} {shape : Shape} {rec ws work : List ℕ} (h : L
       counting = counting-of h.stage.circuit h.stage.tables;
     }
 
-    pub legal-counted : {a : TestAnswer}
+    pub legal-counted : {a : (Result TestCounts Refusal)}
         → ((N : Netlist) (t : Test) (x : Answer Tested) (held old new : List ℕ) → Counting N t x held ws' old new before r → TestedIs x held ws' old new a)
         → (N : Netlist) → CircuitTables N file ps cs shape → TestedIs (test_stage N (class_of class) rec ws) ws ws' work work' a
     legal-counted counts N c = counts N (test_of N (class_of class) rec) (test_stage N (class_of class) rec ws) ws work work' (counting-of N c)

@@ -11,36 +11,25 @@ ghost use Rattle.netlist.specs.Tables.{CircuitTables};
 ghost use Rattle.store_coverage.specs.Stage.{place_rules};
 ghost use Rattle.store_coverage.specs.TestCall.{TestedIs};
 ghost use Rattle.single_stage.specs.LegalStage.{LegalReady};
-ghost use Rattle.single_call.specs.TestPromise.{CheckReady, checked_of, TestTrue};
+ghost use Rattle.single_call.specs.TestPromise.{CheckReady, TestTrue};
+ghost use Rattle.model.specs.Returned.{answer_of};
 
 use model::{Refusal, STORE_WORDS, WORK_WORDS, known_class};
-use netlist::inner::{LoadAnswer, Shape, load};
-use record_test::inner::{RecordAnswer, check_record};
+use netlist::inner::{Shape, load};
+use record_test::inner::check_record;
 use single_stage::inner::apply_legal;
-use store_coverage::TestAnswer;
+use store_coverage::TestCounts;
 use store_coverage::inner::count_answer;
-use store_words::inner::{StoreCheck, check_words, totals_of};
-
-// What the places Test and Store answer.
-#[derive(Drop)]
-enum Checked {
-    Passed,
-    Refused(Refusal),
-}
+use store_words::inner::{check_words, totals_of};
 
 // The places Test and Store for one record, in this order.
-fn check_places(test: &[u8], inputs: usize, store: &[u64], paths: u64) -> Checked
+fn check_places(test: &[u8], inputs: usize, store: &[u64], paths: u64) -> Result<(), Refusal>
     requires { CheckReady inputs store.now paths }
     ensures { (N : Netlist) → inputs ≡ N.inputs → paths ≡ path_total N
-        → checked_of result ≡ checks (place_rules N test.now store.now) }
+        → answer_of result ≡ checks (place_rules N test.now store.now) }
 {
-    match check_record(test, inputs) {
-        RecordAnswer::Refused(why) => Checked::Refused(why),
-        RecordAnswer::Legal => match check_words(store, paths) {
-            StoreCheck::Refused(why) => Checked::Refused(why),
-            StoreCheck::Sound => Checked::Passed,
-        },
-    }
+    check_record(test, inputs)?;
+    check_words(store, paths)
 }
 
 // A legal record on a sound store: the stage, with the faults that the store holds counted before and after it.
@@ -53,7 +42,7 @@ fn count_new(
     class: u32,
     store: &mut [u64],
     work: &mut [u64],
-) -> TestAnswer
+) -> Result<TestCounts, Refusal>
     requires { LegalReady netlist.now positions.now counts.now shape test.now store.old work.old }
     ensures { (N : Netlist) → CircuitTables N netlist.now positions.now counts.now shape
         → TestedIs (test_stage N (class_of class) test.now store.old)
@@ -65,13 +54,19 @@ fn count_new(
 }
 
 // The class, then the places Test and Store for one record, on a store that is not checked yet.
-fn check_call(test: &[u8], class: u32, inputs: usize, store: &[u64], paths: u64) -> Checked
+fn check_call(
+    test: &[u8],
+    class: u32,
+    inputs: usize,
+    store: &[u64],
+    paths: u64,
+) -> Result<(), Refusal>
     requires { CheckReady inputs store.now paths }
     ensures { (N : Netlist) → inputs ≡ N.inputs → paths ≡ path_total N
-        → checked_of result ≡ checks (class_rule class ∷ place_rules N test.now store.now) }
+        → answer_of result ≡ checks (class_rule class ∷ place_rules N test.now store.now) }
 {
     if !known_class(class) {
-        return Checked::Refused(Refusal::UnknownClass);
+        return Err(Refusal::UnknownClass);
     }
     check_places(test, inputs, store, paths)
 }
@@ -83,27 +78,18 @@ fn test_netlist(
     class: u32,
     store: &mut [u64],
     work: &mut [u64],
-) -> TestAnswer
+) -> Result<TestCounts, Refusal>
     requires { (length store.old ≡ store_words_count) × (work_words_count ≤ length work.old) }
     ensures { TestTrue result netlist.now class test.now store.old store.new work.old work.new }
 {
     let mut counts = [0u64; 512];
     let mut positions = [0u16; 512];
-    let loaded = load(netlist, &mut counts, &mut positions);
-    match loaded {
-        LoadAnswer::Refused(why) => TestAnswer::Refused(why),
-        LoadAnswer::Legal { shape, total } => {
-            let checked = check_call(test, class, shape.inputs, store, total);
-            match checked {
-                Checked::Refused(why) => TestAnswer::Refused(why),
-                Checked::Passed => {
-                    count_new(
-                        netlist, &positions, &counts, shape, test, class, store, work,
-                    )
-                }
-            }
-        }
-    }
+    let legal = load(netlist, &mut counts, &mut positions)?;
+    let shape = legal.shape;
+    check_call(test, class, shape.inputs, store, legal.total)?;
+    count_new(
+        netlist, &positions, &counts, shape, test, class, store, work,
+    )
 }
 
 // The test call, judged in class 1 (non-robust) or 2 (robust): for each edge the number of faults new to the store and the number then held.
@@ -113,14 +99,14 @@ pub fn apply_test(
     test_class: u32,
     store: &mut [u64],
     work: &mut [u64],
-) -> TestAnswer
+) -> Result<TestCounts, Refusal>
     ensures { TestTrue result netlist.now test_class test.now store.old store.new work.old work.new }
 {
     if store.len() != STORE_WORDS {
-        return TestAnswer::Refused(Refusal::StoreLength);
+        return Err(Refusal::StoreLength);
     }
     if work.len() < WORK_WORDS {
-        return TestAnswer::Refused(Refusal::WorkLength);
+        return Err(Refusal::WorkLength);
     }
     test_netlist(netlist, test, test_class, store, work)
 }

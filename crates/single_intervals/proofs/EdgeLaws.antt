@@ -14,8 +14,6 @@ use Rattle.netlist.specs.declared.inner.Shape.{Shape}
 use Rattle.netlist.proofs.TableLaws.{few-outputs, count_at, outputs-inside, output-is, output-below}
 use Rattle.run_lists.specs.RunLists.{only_if}
 use Rattle.run_lists.specs.Answers.{Adds}
-use Rattle.run_lists.specs.declared.inner.Added.{Added}
-use Rattle.run_lists.specs.declared.inner.Added.TheVariants.{Count, Full}
 use Rattle.run_union.proofs.Adding.{answer-fits, adds-count}
 use Rattle.detection.specs.Cases.{Case, set_runs_of, detected, working}
 use Rattle.detection.specs.Walks.{input_runs_of, Kept, Detects}
@@ -26,6 +24,7 @@ use Rattle.run_shifted.specs.RunsOfPlaces.{output_places, output_runs, runs_in, 
 use Rattle.single_intervals.specs.Edges.{EdgeAt, SomeEdgeAt}
 use Rattle.single_intervals.specs.Nets.{Stand, NetsAt, SomeNetsAt, NetsMade}
 use Rattle.single_intervals.proofs.StandLaws.{stand-same, stand-runs, stand-net}
+use Rattle.std.specs.Prelude.{Option, Some, None}
 
 total-is : (N : Netlist) → sum_of (output_counts N) ≡ path_total N
 unfolding path_total
@@ -33,7 +32,7 @@ total-is N = refl
 
 -- an edge that no input makes
 pub no_edge : {K : Case} {file positions pathCounts masks : List ℕ} {edges : ℕ} {shape : Shape} {ws : List ℕ} → edges ≡ 0
-    → EdgeAt K file positions pathCounts masks edges shape ws → Detects K ws ws (Count 0)
+    → EdgeAt K file positions pathCounts masks edges shape ws → Detects K ws ws (Some 0)
 no_edge {K} {file} {ws = ws} z a = unmade_edge K (legal file K.netlist a.tables.legal) z a.makes_edge ws
 
 -- after the inputs
@@ -56,17 +55,17 @@ module _ {file ps cs masks : List ℕ} {edges : ℕ} {shape : Shape} {ws₀ ws�
   edge-nets k = record { case = k.case; at-nets = nets-at k.case k.at_edge }
 
   -- after the gates
-  module _ {ws₂ starts₂ : List ℕ} {q : Added} (made : (K : Case) → NetsAt K file ps cs masks shape ws₁ starts₁ first → NetsMade K ws₁ ws₂ starts₂ q) where
-    pub edge-full : (K : Case) → EdgeAt K file ps cs masks edges shape ws₀ → q ≡ Full → Detects K ws₀ ws₂ Full
+  module _ {ws₂ starts₂ : List ℕ} {q : (Option ℕ)} (made : (K : Case) → NetsAt K file ps cs masks shape ws₁ starts₁ first → NetsMade K ws₁ ws₂ starts₂ q) where
+    pub edge-full : (K : Case) → EdgeAt K file ps cs masks edges shape ws₀ → q ≡ None → Detects K ws₀ ws₂ None
     edge-full K a t =
         let m = made K (nets-at K a) in
         record {
-          answers = ap (λ x. cond x (Count (length (detected K))) Full) (sym (lt-leb (working K) max_runs (m.full t)));
+          answers = ap (λ x. cond x (Some (length (detected K))) None) (sym (lt-leb (working K) max_runs (m.full t)));
           runs_are = λ n p. absurd (full-count p);
           kept = λ k h. m.kept.above k (omega arith) ∙ kept₁.above k (omega arith);
         }
 
-    module _ {n : ℕ} (t : q ≡ Count n) {part : List ℕ} (e : part ≡ drop (length file - 4 * shape.outputs) file) where
+    module _ {n : ℕ} (t : q ≡ Some n) {part : List ℕ} (e : part ≡ drop (length file - 4 * shape.outputs) file) where
       -- the outputs, by the tables
       module _ (K : Case) (a : EdgeAt K file ps cs masks edges shape ws₀) where
         abbrev N : Netlist
@@ -121,14 +120,14 @@ module _ {file ps cs masks : List ℕ} {edges : ℕ} {shape : Shape} {ws₀ ws�
               };
             }
 
-        pub edge-detects : {ws₃ : List ℕ} {r : Added} → Adds ws₂ ws₃ max_runs max_runs (output_runs part shape.inputs shape.outputs cs starts₂ ws₂) r → Detects K ws₀ ws₃ r
+        pub edge-detects : {ws₃ : List ℕ} {r : (Option ℕ)} → Adds ws₂ ws₃ max_runs max_runs (output_runs part shape.inputs shape.outputs cs starts₂ ws₂) r → Detects K ws₀ ws₃ r
         edge-detects {ws₃} {r} x =
             let y : Adds ws₂ ws₃ max_runs max_runs (detected K) r = as_adds (detected-set K w (output_places part shape.inputs cs) (runs_in starts₂ ws₂) is many) refl x in
             let fit : working K ≤ max_runs = omega (arith, working-all K, s₂.used, s₂.fits) in
             record {
               answers =
                   y.answers ∙ answer-fits max_runs (detected K) (length (detected K)) refl (omega (arith, few-detected K w))
-                  ∙ ap (λ z. cond z (Count (length (detected K))) Full) (sym (le-leb (working K) max_runs fit));
+                  ∙ ap (λ z. cond z (Some (length (detected K))) None) (sym (le-leb (working K) max_runs fit));
               runs_are = λ k p. (adds-count ws₂ ws₃ max_runs max_runs k (detected K) r (omega (arith, room)) p y).2;
               kept = λ k h. adds-kept k (omega arith) y ∙ m.kept.above k (omega arith) ∙ kept₁.above k (omega arith);
             }

@@ -12,8 +12,6 @@ use Rattle.netlist.specs.declared.inner.Shape.{Shape}
 use Rattle.netlist.proofs.TableLaws.{few-nets, inputs-below, gate-part, gate-inside, count_at}
 use Rattle.run_lists.specs.RunLists.{runs_in_words}
 use Rattle.run_lists.specs.Answers.{Adds}
-use Rattle.run_lists.specs.declared.inner.Added.{Added}
-use Rattle.run_lists.specs.declared.inner.Added.TheVariants.{Count, Full}
 use Rattle.run_union.proofs.Adding.{answer-over, adds-count}
 use Rattle.detection.specs.Cases.{Case, set_runs_of}
 use Rattle.detection.specs.Walks.{Kept}
@@ -24,6 +22,7 @@ use Rattle.detection.proofs.DetectedLaws.{PinIs, pins-all, gate-set, set-sound, 
 use Rattle.run_shifted.specs.RunsOfPlaces.{gate_places, runs_in, gate_runs_of, NetReady, GateReady}
 use Rattle.single_intervals.specs.Nets.{Stand, NetsAt, SomeNetsAt, NetsMade}
 use Rattle.single_intervals.proofs.StandLaws.{stand-runs, stand-net, stand-more}
+use Rattle.std.specs.Prelude.{Option, Some, None}
 
 pub record NetsDone (file ps cs masks : List ℕ) (shape : Shape) (ws₀ starts₀ : List ℕ) (first : ℕ) (ws starts : List ℕ) (net start : ℕ) : Type 0 where
   pub some : SomeNetsAt file ps cs masks shape ws₀ starts₀ first
@@ -37,7 +36,7 @@ module _ {file ps cs masks : List ℕ} {shape : Shape} {ws₀ starts₀ : List �
   nets-start s = record { some = s; begun = omega arith; within = inputs-below s.at-nets.tables; kept = kept_refl ws₀; stand = λ K a. a.inputs_stand }
 
   module _ {ws starts : List ℕ} {net start : ℕ} (i : NetsDone file ps cs masks shape ws₀ starts₀ first ws starts net start) where
-    pub nets-done : shape.nets ≤ net → (K : Case) → NetsAt K file ps cs masks shape ws₀ starts₀ first → NetsMade K ws₀ ws starts (Count start)
+    pub nets-done : shape.nets ≤ net → (K : Case) → NetsAt K file ps cs masks shape ws₀ starts₀ first → NetsMade K ws₀ ws starts (Some start)
     nets-done h K a =
         let all : net ≡ nets K.netlist = omega (arith, i.within, a.tables.nets_are) in
         record {
@@ -119,7 +118,7 @@ module _ {file ps cs masks : List ℕ} {shape : Shape} {ws₀ starts₀ : List �
         pub nets-gate : GateReady part (get_or masks net 0) cs starts ws start
         nets-gate = ready i.some.case i.some.at-nets
 
-        module _ {ws' : List ℕ} {q : Added} (d : Adds ws ws' start (max_runs - start) (gate_runs_of part (get_or masks net 0) cs starts ws) q) where
+        module _ {ws' : List ℕ} {q : (Option ℕ)} (d : Adds ws ws' start (max_runs - start) (gate_runs_of part (get_or masks net 0) cs starts ws) q) where
           made : (K : Case) → NetsAt K file ps cs masks shape ws₀ starts₀ first → Adds ws ws' start (max_runs - start) (set_runs_of K net) q
           made K a = as_adds (makes K a) refl d
 
@@ -130,7 +129,7 @@ module _ {file ps cs masks : List ℕ} {shape : Shape} {ws₀ starts₀ : List �
               kept_then i.kept
               (kept-write start (take (max_runs - start) (set_runs_of K net)) (made K a).writes (omega (arith, take_short (max_runs - start) (set_runs_of K net), (s K a).fits)))
 
-          pub nets-full : (starts' : List ℕ) → q ≡ Full → (K : Case) → NetsAt K file ps cs masks shape ws₀ starts₀ first → NetsMade K ws₀ ws' starts' Full
+          pub nets-full : (starts' : List ℕ) → q ≡ None → (K : Case) → NetsAt K file ps cs masks shape ws₀ starts₀ first → NetsMade K ws₀ ws' starts' None
           nets-full starts' t K a = record {
             kept = kept;
             stand = λ n p. absurd (full-count p);
@@ -140,7 +139,7 @@ module _ {file ps cs masks : List ℕ} {shape : Shape} {ws₀ starts₀ : List �
                 omega (arith, working-all K, over, more, runs-next (set_runs_of K) net, (s K a).used, (s K a).fits);
           }
 
-          module _ {c : ℕ} (t : q ≡ Count c) where
+          module _ {c : ℕ} (t : q ≡ Some c) where
             added : (K : Case) → NetsAt K file ps cs masks shape ws₀ starts₀ first
                 → (length (set_runs_of K net) ≤ max_runs - start) × (c ≡ length (set_runs_of K net)) × (runs_in_words ws' start c ≡ set_runs_of K net)
             added K a = adds-count ws ws' start (max_runs - start) c (set_runs_of K net) q (omega (arith, a.room, i.kept.same, (s K a).fits)) t (made K a)

@@ -8,7 +8,6 @@ use Rattle.model.specs.Store.{max_runs}
 use Rattle.netlist.specs.Tables.{pin_count_in, pin_in}
 use Rattle.run_lists.specs.RunLists.{only_if, add_runs, shift_runs, runs_in_words, write_runs_of}
 use Rattle.run_lists.specs.Answers.{Adds}
-use Rattle.run_lists.specs.declared.inner.Added.TheVariants.{Count}
 use Rattle.model.proofs.BoolLaws.{cases}
 use Rattle.run_union.proofs.Adding.{answer-fits}
 use Rattle.detection.specs.PlaceRuns.{paths_before, first_runs}
@@ -16,6 +15,7 @@ use Rattle.detection.proofs.AddedLaws.{as_adds}
 use Rattle.run_shifted.specs.RunsOfPlaces.{runs_in, gate_places, gate_runs_of, GateReady}
 use Rattle.run_shifted.proofs.OpenNetLaws.{times-most}
 use Rattle.single_intervals.specs.OpenRuns.{count_if, run_count, pin_runs_of, open_runs_of, PinsReady}
+use Rattle.std.specs.Prelude.{Some}
 
 -- ---- the runs of one pin's net
 
@@ -139,7 +139,7 @@ module _ {part : List ℕ} {mask : ℕ} {counts starts ws : List ℕ} {start : �
   }
 
   pub none-added : {k : ℕ} → k ≡ open_runs_of part mask starts (pin_count_in part) → k ≡ 0
-      → Adds ws ws start (max_runs - start) (gate_runs_of part mask counts starts ws) (Count 0)
+      → Adds ws ws start (max_runs - start) (gate_runs_of part mask counts starts ws) (Some 0)
   none-added e z = as_adds (sym (open_none part mask counts starts ws (pin_count_in part) (sym e ∙ z))) refl record {
     answers = sym (answer-fits (max_runs - start) [] 0 refl (omega arith));
     writes = ap (write_runs_of ws start) (sym (take_all (max_runs - start) [] (omega arith)));

@@ -6,11 +6,10 @@ use Rattle.model.specs.Runs.{Run}
 use Rattle.netlist.specs.Tables.{CircuitTables}
 use Rattle.netlist.specs.declared.inner.Shape.{Shape}
 use Rattle.run_lists.specs.RunLists.{runs_in_words}
-use Rattle.run_lists.specs.declared.inner.Added.{Added}
-use Rattle.run_lists.specs.declared.inner.Added.TheVariants.{Count, Full}
 use Rattle.detection.specs.Cases.{Case, set_runs_of, working}
 use Rattle.detection.specs.Walks.{runs_before, Kept}
 use Rattle.single_intervals.specs.Edges.{OpenBits}
+use Rattle.std.specs.Prelude.{Option, Some, None}
 
 -- the runs of the nets before `net` stand in the words, one net after the other; `starts` says where each net's begin, `start` is the place after them
 pub record Stand (netRuns : ℕ → List Run) (ws starts : List ℕ) (net start : ℕ) : Type 0 where
@@ -32,7 +31,7 @@ pub record SomeNetsAt (file positions pathCounts masks : List ℕ) (shape : Shap
   pub at-nets : NetsAt case file positions pathCounts masks shape ws starts first
 
 -- the runs of all nets; Full only where they are over 1,024
-pub record NetsMade (K : Case) (ws ws' starts' : List ℕ) (r : Added) : Type 0 where
+pub record NetsMade (K : Case) (ws ws' starts' : List ℕ) (r : Option ℕ) : Type 0 where
   pub kept : Kept ws ws'
-  pub stand : (n : ℕ) → r ≡ Count n → Stand (set_runs_of K) ws' starts' (nets K.netlist) n
-  pub full : r ≡ Full → max_runs < working K
+  pub stand : (n : ℕ) → r ≡ Some n → Stand (set_runs_of K) ws' starts' (nets K.netlist) n
+  pub full : r ≡ None → max_runs < working K

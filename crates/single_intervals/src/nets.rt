@@ -12,7 +12,6 @@ ghost use Rattle.single_intervals.specs.Nets.{Stand, NetsAt, SomeNetsAt, NetsMad
 use detection::inner::digit;
 use netlist::inner::{Shape, gate_part, pin_net};
 use record_bytes::inner::{wide, wide_word};
-use run_lists::inner::Added;
 use run_shifted::inner::gates::gate_runs;
 
 // Makes the runs of the inputs, and where each input's begin. The run 1 to 1 is written for each input, and counts for one that makes the edge: a branch
@@ -26,15 +25,13 @@ pub(crate) fn input_runs(
     requires { (inputs ≤ 64) × (length starts.old ≡ 513) × (2 * max_runs ≤ length words.old) }
     ensures { Stand (input_runs_of edges) words.new starts.new inputs result × Kept words.old words.new }
 {
-    let mut input = 0;
     let mut start = 0;
     starts[0] = 0;
-    while input < inputs {
+    for input in 0..inputs {
         words[2 * start] = 1;
         words[2 * start + 1] = 1;
         start += digit(edges, input as u64);
-        input += 1;
-        starts[input] = start as u16;
+        starts[input + 1] = start as u16;
     }
     start
 }
@@ -67,11 +64,9 @@ fn open_runs(part: &[u8], mask: u8, starts: &[u16; 513]) -> usize
     if pins == 2 {
         return pin_runs(part, mask, starts, 0) + pin_runs(part, mask, starts, 1);
     }
-    let mut pin = 0;
     let mut sum = 0;
-    while pin < pins {
+    for pin in 0..pins {
         sum += pin_runs(part, mask, starts, pin);
-        pin += 1;
     }
     sum
 }
@@ -84,13 +79,13 @@ fn add_gate(
     starts: &[u16; 513],
     words: &mut [u64],
     start: usize,
-) -> Added
+) -> Option<usize>
     requires { GateReady part.now mask counts.now starts.now words.old start }
     ensures { Adds words.old words.new start (max_runs - start)
         (gate_runs_of part.now mask counts.now starts.now words.old) result }
 {
     if open_runs(part, mask, starts) == 0 {
-        return Added::Count(0);
+        return Some(0);
     }
     gate_runs(part, mask, counts, starts, words, start)
 }
@@ -105,26 +100,17 @@ pub(crate) fn net_runs(
     starts: &mut [u16; 513],
     words: &mut [u64],
     first: usize,
-) -> Added
+) -> Option<usize>
     requires { SomeNetsAt netlist.now positions.now counts.now masks.now shape words.old starts.old first }
     ensures { (K : Case)
         → NetsAt K netlist.now positions.now counts.now masks.now shape words.old starts.old first
         → NetsMade K words.old words.new starts.new result }
 {
-    let mut net = shape.inputs;
     let mut start = first;
-    while net < shape.nets {
+    for net in shape.inputs..shape.nets {
         let part = gate_part(netlist, positions, net);
-        match add_gate(part, masks[net], counts, starts, words, start) {
-            Added::Count(c) => {
-                start += c;
-            }
-            Added::Full => {
-                return Added::Full;
-            }
-        }
-        net += 1;
-        starts[net] = start as u16;
+        start += add_gate(part, masks[net], counts, starts, words, start)?;
+        starts[net + 1] = start as u16;
     }
-    Added::Count(start)
+    Some(start)
 }

@@ -17,8 +17,9 @@ use Rattle.record_test.specs.declared.inner.Vectors.{Vectors}
 use Rattle.record_test.specs.declared.inner.InputEdges.{InputEdges}
 use Rattle.store_coverage.specs.Stage.{place_rules, work_stage, StageIs}
 use Rattle.single_stage.specs.LegalStage.{PinsOf, LegalReady, WorkReady, StageTrue}
-use Rattle.store_coverage.specs.declared.inner.StageAnswer.{StageAnswer}
 use Rattle.store_coverage.proofs.StageLaws.{stage-work}
+use Rattle.std.specs.Prelude.{Result}
+use Rattle.model.specs.declared.Refusal.{Refusal}
 
 module _ {file ps cs : List ℕ} {shape : Shape} {rec ws work : List ℕ} (h : LegalReady file ps cs shape rec ws work) where
   pub legal-inputs : shape.inputs ≤ 64
@@ -62,7 +63,7 @@ module _ {file ps cs : List ℕ} {shape : Shape} {rec ws work : List ℕ} (h : L
       pins = pins-of h.stage.circuit h.stage.tables;
     }
 
-    pub legal-taken : {ws' work' : List ℕ} {r : StageAnswer}
+    pub legal-taken : {ws' work' : List ℕ} {r : (Result (Unit {0}) Refusal)}
         → ((N : Netlist) (t : Test) → CircuitTables N file ps cs shape → PinsOf N t masks edges → StageIs (work_stage N t ws) ws ws' work work' r)
         → (N : Netlist) → CircuitTables N file ps cs shape → StageTrue N (class_of class) rec ws ws' work work' r
     legal-taken {ws' = ws'} {work' = work'} {r = r} made N c =

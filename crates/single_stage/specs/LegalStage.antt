@@ -10,7 +10,8 @@ use Rattle.netlist.specs.declared.inner.Shape.{Shape}
 use Rattle.single_simulation.specs.Simulated.{OpenMasks}
 use Rattle.record_test.specs.declared.inner.InputEdges.{InputEdges}
 use Rattle.store_coverage.specs.Stage.{StageReady, StageIs}
-use Rattle.store_coverage.specs.declared.inner.StageAnswer.{StageAnswer}
+use Rattle.std.specs.Prelude.{Result}
+use Rattle.model.specs.declared.Refusal.{Refusal}
 
 -- the open pins of each gate and the edges of the inputs, a bit for each, are those of a test
 pub record PinsOf (N : Netlist) (t : Test) (masks : List ℕ) (edges : InputEdges) : Type 0 where
@@ -30,5 +31,5 @@ pub record WorkReady (netlist positions counts masks : List ℕ) (edges : InputE
   pub pins : PinsOf stage.circuit test masks edges
 
 -- the places Test, Store and Work for one record in a class
-abbrev pub StageTrue : Netlist → Class → List ℕ → List ℕ → List ℕ → List ℕ → List ℕ → StageAnswer → Type 0
+abbrev pub StageTrue : Netlist → Class → List ℕ → List ℕ → List ℕ → List ℕ → List ℕ → Result (Unit {0}) Refusal → Type 0
 StageTrue N c rec ws ws' work work' r = StageIs (test_stage N c rec ws) ws ws' work work' r

@@ -7,16 +7,16 @@ ghost use Rattle.store_coverage.specs.Both.{CoversBoth};
 ghost use Rattle.store_coverage.specs.Stage.{work_stage, StageIs};
 ghost use Rattle.single_stage.specs.LegalStage.{PinsOf, LegalReady, WorkReady, StageTrue};
 
+use model::Refusal;
 use netlist::inner::Shape;
 use path_faults::Edge;
 use record_test::inner::{InputEdges, edges_of, read_vectors};
 use single_intervals::inner::detected_runs;
 use single_simulation::inner::open_pins::open_masks;
-use store_coverage::inner::edges::{
-    BothAnswer, FALLING_UNION, RISING_UNION, join_answers, join_edge,
-};
-use store_coverage::inner::{StageAnswer, write_both};
+use store_coverage::inner::edges::{FALLING_UNION, Over, RISING_UNION, join_answers, join_edge};
+use store_coverage::inner::write_both;
 use store_words::inner::parts::edge_runs;
+use store_writing::inner::Change;
 
 // Covers both edges of a store: the rising runs are made in the third quarter of the words, the falling ones in the last.
 fn cover_both(
@@ -28,7 +28,7 @@ fn cover_both(
     shape: Shape,
     store: &[u64],
     words: &mut [u64],
-) -> BothAnswer
+) -> Result<(Change, Change), Over>
     requires { WorkReady netlist.now positions.now counts.now masks.now edges shape store.now words.old }
     ensures { (N : Netlist) (t : Test) → CircuitTables N netlist.now positions.now counts.now shape
         → PinsOf N t masks.now edges → CoversBoth N t store.now words.old words.new result }
@@ -50,7 +50,7 @@ fn work_on(
     shape: Shape,
     store: &mut [u64],
     work: &mut [u64],
-) -> StageAnswer
+) -> Result<(), Refusal>
     requires { WorkReady netlist.now positions.now counts.now masks.now edges shape store.old work.old }
     ensures { (N : Netlist) (t : Test) → CircuitTables N netlist.now positions.now counts.now shape
         → PinsOf N t masks.now edges
@@ -71,7 +71,7 @@ pub fn apply_legal(
     class: u32,
     store: &mut [u64],
     work: &mut [u64],
-) -> StageAnswer
+) -> Result<(), Refusal>
     requires { LegalReady netlist.now positions.now counts.now shape test.now store.old work.old }
     ensures { (N : Netlist) → CircuitTables N netlist.now positions.now counts.now shape
         → StageTrue N (class_of class) test.now store.old store.new work.old work.new result }

@@ -8,20 +8,20 @@ use Rattle.model.specs.Store.{store_runs, store_rules}
 use Rattle.model.specs.Refusals.{refusal_number_of}
 use Rattle.model.specs.declared.Refusal.{Refusal}
 use Rattle.model.proofs.AnswerLaws.{checks-both}
-use Rattle.store_words.specs.WordAnswers.{check_of, totals_in, totals_both}
-use Rattle.store_words.specs.declared.inner.StoreCheck.{StoreCheck}
-use Rattle.store_words.specs.declared.inner.StoreCheck.TheVariants as check
+use Rattle.store_words.specs.WordAnswers.{totals_in, totals_both}
 use Rattle.store_words.specs.declared.inner.StoreTotals.{StoreTotals}
 use Rattle.store.specs.Answers.{totals_on_of, fault_on_of}
+use Rattle.std.specs.Prelude.{Result, Ok, Err}
+use Rattle.model.specs.Returned.{answer_of}
 
-module _ (paths : ℕ) (ws : List ℕ) (r : StoreCheck) (checked : check_of r ≡ checks (store_rules paths ws)) where
-  pub checked_refused : (w : Refusal) → r ≡ check.Refused w → refused (refusal_number_of w) ≡ totals_on_of paths ws
+module _ (paths : ℕ) (ws : List ℕ) (r : Result (Unit {0}) Refusal) (checked : answer_of r ≡ checks (store_rules paths ws)) where
+  pub checked_refused : (w : Refusal) → r ≡ Err w → refused (refusal_number_of w) ≡ totals_on_of paths ws
   unfolding totals_on_of
-  checked_refused w e = rw (sym checked ∙ ap check_of e) refl
+  checked_refused w e = rw (sym checked ∙ ap answer_of e) refl
 
-  pub checked_totals : r ≡ check.Sound → (t : StoreTotals) → totals_in t ≡ totals_both ws → value (totals_in t) ≡ totals_on_of paths ws
+  pub checked_totals : r ≡ Ok tt → (t : StoreTotals) → totals_in t ≡ totals_both ws → value (totals_in t) ≡ totals_on_of paths ws
   unfolding totals_on_of
-  checked_totals e t d = rw (sym checked ∙ ap check_of e) (ap value d)
+  checked_totals e t d = rw (sym checked ∙ ap answer_of e) (ap value d)
 
   module _ (fault : ℕ) where
     in_range : Bool
@@ -36,12 +36,12 @@ module _ (paths : ℕ) (ws : List ℕ) (r : StoreCheck) (checked : check_of r �
     as_asked a e = ap (λ (x : Answer (Unit {0})). x then checks ((60, in_range) ∷ []) then value found) e
         ∙ ap (λ (x : Answer (Unit {0})). x then value found) (sym (checks-both (store_rules paths ws) ((60, in_range) ∷ [])))
 
-    pub fault-refused : (w : Refusal) → r ≡ check.Refused w → refused (refusal_number_of w) ≡ fault_on_of paths ws fault
-    fault-refused w e = as_asked (refused (refusal_number_of w)) (sym (ap check_of e) ∙ checked)
+    pub fault-refused : (w : Refusal) → r ≡ Err w → refused (refusal_number_of w) ≡ fault_on_of paths ws fault
+    fault-refused w e = as_asked (refused (refusal_number_of w)) (sym (ap answer_of e) ∙ checked)
 
-    module _ (e : r ≡ check.Sound) where
+    module _ (e : r ≡ Ok tt) where
       sound-asked : (checks ((60, in_range) ∷ []) then value found) ≡ fault_on_of paths ws fault
-      sound-asked = as_asked (value tt) (sym (ap check_of e) ∙ checked)
+      sound-asked = as_asked (value tt) (sym (ap answer_of e) ∙ checked)
 
       pub fault-low : fault < 1 → refused 60 ≡ fault_on_of paths ws fault
       unfolding in_range

@@ -5,73 +5,45 @@ mod asking;
 
 ghost use Rattle.std.specs.Prelude.{◌≡◌};
 ghost use Rattle.model.specs.Calls.{totals_call, fault_call};
-ghost use Rattle.store.specs.Answers.{EmptyTrue, totals_among, held_of};
+ghost use Rattle.store.specs.Answers.{EmptyTrue, totals_among};
+ghost use Rattle.model.specs.Returned.{answer_of};
 
 use crate::asking::{fault_on, totals_on};
 use model::{Refusal, STORE_WORDS};
-use netlist::{SurveyAnswer, survey};
+use netlist::survey;
 use path_faults::FaultNo;
+pub use store_words::inner::StoreTotals;
 use store_writing::inner::clear;
 
-// What emptying a store answers.
-#[derive(Drop)]
-pub enum EmptyAnswer {
-    Emptied,
-    Refused(Refusal),
-}
-
-// The number of faults of each edge that a store holds.
-#[derive(Drop)]
-pub enum TotalsAnswer {
-    Totals { rising: u64, falling: u64 },
-    Refused(Refusal),
-}
-
-// Whether a store holds a fault.
-#[derive(Drop)]
-pub enum HeldAnswer {
-    Held,
-    NotHeld,
-    Refused(Refusal),
-}
-
 // Empties a store, of any words.
-pub fn empty(store: &mut [u64]) -> EmptyAnswer
+pub fn empty(store: &mut [u64]) -> Result<(), Refusal>
     ensures { EmptyTrue result store.old store.new }
 {
-    if store.len() != STORE_WORDS {
-        return EmptyAnswer::Refused(Refusal::StoreLength);
+    if store.len() == STORE_WORDS {
+        clear(store);
+        return Ok(());
     }
-    clear(store);
-    EmptyAnswer::Emptied
+    Err(Refusal::StoreLength)
 }
 
 // The number of faults of each edge that a store holds.
-pub fn totals(netlist: &[u8], store: &[u64]) -> TotalsAnswer
+pub fn totals(netlist: &[u8], store: &[u64]) -> Result<StoreTotals, Refusal>
     ensures { totals_among result ≡ totals_call netlist.now store.now }
 {
     if store.len() != STORE_WORDS {
-        return TotalsAnswer::Refused(Refusal::StoreLength);
+        return Err(Refusal::StoreLength);
     }
-    let surveyed = survey(netlist);
-    let answer = surveyed.answer;
-    match answer {
-        SurveyAnswer::Refused(why) => TotalsAnswer::Refused(why),
-        SurveyAnswer::Legal => totals_on(store, surveyed.survey.total),
-    }
+    let legal = survey(netlist)?;
+    totals_on(store, legal.total)
 }
 
 // Whether a store holds a fault.
-pub fn fault_in_store(netlist: &[u8], store: &[u64], fault: FaultNo) -> HeldAnswer
-    ensures { held_of result ≡ fault_call netlist.now store.now fault.0 }
+pub fn fault_in_store(netlist: &[u8], store: &[u64], fault: FaultNo) -> Result<bool, Refusal>
+    ensures { answer_of result ≡ fault_call netlist.now store.now fault.0 }
 {
     if store.len() != STORE_WORDS {
-        return HeldAnswer::Refused(Refusal::StoreLength);
+        return Err(Refusal::StoreLength);
     }
-    let surveyed = survey(netlist);
-    let answer = surveyed.answer;
-    match answer {
-        SurveyAnswer::Refused(why) => HeldAnswer::Refused(why),
-        SurveyAnswer::Legal => fault_on(store, surveyed.survey.total, fault),
-    }
+    let legal = survey(netlist)?;
+    fault_on(store, legal.total, fault)
 }

@@ -17,55 +17,54 @@ use Rattle.store_writing.specs.declared.inner.Change.{Change}
 use Rattle.store_writing.specs.declared.inner.Change.TheVariants.{Kept, Made}
 use Rattle.store_writing.proofs.EdgeWriteLaws.{length-replaced}
 use Rattle.detection.specs.Cases.{Case, case_of, in_set, detects_path, set_runs_of, working}
-use Rattle.store_coverage.specs.Covers.{then_runs_of, edge_of, Covers}
-use Rattle.store_coverage.specs.Both.{joined, both_of, CoversBoth}
-use Rattle.store_coverage.specs.declared.inner.edges.EdgeAnswer.{EdgeAnswer}
-use Rattle.store_coverage.specs.declared.inner.edges.EdgeAnswer.TheVariants.{Covered, OverWork, OverStore}
-use Rattle.store_coverage.specs.declared.inner.edges.BothAnswer.{BothAnswer}
-use Rattle.store_coverage.specs.declared.inner.edges.BothAnswer.TheVariants.{Fits}
+use Rattle.store_coverage.specs.Covers.{then_runs_of, fits_of, Covers}
+use Rattle.store_coverage.specs.Both.{joined, CoversBoth}
+use Rattle.store_coverage.specs.declared.inner.edges.Over.{Over}
+use Rattle.store_coverage.specs.declared.inner.edges.Over.TheVariants as over
+use Rattle.std.specs.Prelude.{Result, Ok, Err}
 
 -- an edge's answer by its two tests
-work_fits : EdgeAnswer → Bool
-work_fits (Covered d) = true
-work_fits OverWork = false
-work_fits OverStore = true
+work_fits : Result Change Over → Bool
+work_fits (Ok d) = true
+work_fits (Err over.Work) = false
+work_fits (Err over.Store) = true
 
-store_fits : EdgeAnswer → Bool
-store_fits (Covered d) = true
-store_fits OverWork = true
-store_fits OverStore = false
+store_fits : Result Change Over → Bool
+store_fits (Ok d) = true
+store_fits (Err over.Work) = true
+store_fits (Err over.Store) = false
 
-join_tests : (a b : EdgeAnswer) → both_of (joined a b) ≡ checks ((50, work_fits a && work_fits b) ∷ (51, store_fits a && store_fits b) ∷ [])
+join_tests : (a b : Result Change Over) → fits_of (joined a b) ≡ checks ((50, work_fits a && work_fits b) ∷ (51, store_fits a && store_fits b) ∷ [])
 unfolding work_fits store_fits
-join_tests (Covered d) (Covered d') = refl
-join_tests (Covered d) OverWork = refl
-join_tests (Covered d) OverStore = refl
-join_tests OverWork b = refl
-join_tests OverStore (Covered d') = refl
-join_tests OverStore OverWork = refl
-join_tests OverStore OverStore = refl
+join_tests (Ok d) (Ok d') = refl
+join_tests (Ok d) (Err over.Work) = refl
+join_tests (Ok d) (Err over.Store) = refl
+join_tests (Err over.Work) b = refl
+join_tests (Err over.Store) (Ok d') = refl
+join_tests (Err over.Store) (Err over.Work) = refl
+join_tests (Err over.Store) (Err over.Store) = refl
 
-work-test : (a : EdgeAnswer) (p c : Bool) → edge_of a ≡ checks ((50, p) ∷ (51, c) ∷ []) → work_fits a ≡ p
+work-test : (a : Result Change Over) (p c : Bool) → fits_of a ≡ checks ((50, p) ∷ (51, c) ∷ []) → work_fits a ≡ p
 unfolding work_fits
-work-test (Covered d) true c e = refl
-work-test (Covered d) false c e = absurd (not_refused (sym e))
-work-test OverWork true true e = absurd (not_refused e)
-work-test OverWork true false e = let z : ◌≡◌ {A = ℕ} 50 51 = refused-inj e in absurd (omega arith)
-work-test OverWork false c e = refl
-work-test OverStore true c e = refl
-work-test OverStore false c e = let z : ◌≡◌ {A = ℕ} 51 50 = refused-inj e in absurd (omega arith)
+work-test (Ok d) true c e = refl
+work-test (Ok d) false c e = absurd (not_refused (sym e))
+work-test (Err over.Work) true true e = absurd (not_refused e)
+work-test (Err over.Work) true false e = let z : ◌≡◌ {A = ℕ} 50 51 = refused-inj e in absurd (omega arith)
+work-test (Err over.Work) false c e = refl
+work-test (Err over.Store) true c e = refl
+work-test (Err over.Store) false c e = let z : ◌≡◌ {A = ℕ} 51 50 = refused-inj e in absurd (omega arith)
 
-store-test : (a : EdgeAnswer) (p c : Bool) → edge_of a ≡ checks ((50, p) ∷ (51, c) ∷ []) → p ≡ true → store_fits a ≡ c
+store-test : (a : Result Change Over) (p c : Bool) → fits_of a ≡ checks ((50, p) ∷ (51, c) ∷ []) → p ≡ true → store_fits a ≡ c
 unfolding store_fits
-store-test (Covered d) true true e h = refl
-store-test (Covered d) true false e h = absurd (not_refused (sym e))
-store-test (Covered d) false c e h = absurd (not_refused (sym e))
-store-test OverWork true true e h = absurd (not_refused e)
-store-test OverWork true false e h = let z : ◌≡◌ {A = ℕ} 50 51 = refused-inj e in absurd (omega arith)
-store-test OverWork false c e h = absurd (true≢false (sym h))
-store-test OverStore true true e h = absurd (not_refused e)
-store-test OverStore true false e h = refl
-store-test OverStore false c e h = let z : ◌≡◌ {A = ℕ} 51 50 = refused-inj e in absurd (omega arith)
+store-test (Ok d) true true e h = refl
+store-test (Ok d) true false e h = absurd (not_refused (sym e))
+store-test (Ok d) false c e h = absurd (not_refused (sym e))
+store-test (Err over.Work) true true e h = absurd (not_refused e)
+store-test (Err over.Work) true false e h = let z : ◌≡◌ {A = ℕ} 50 51 = refused-inj e in absurd (omega arith)
+store-test (Err over.Work) false c e h = absurd (true≢false (sym h))
+store-test (Err over.Store) true true e h = absurd (not_refused e)
+store-test (Err over.Store) true false e h = refl
+store-test (Err over.Store) false c e h = let z : ◌≡◌ {A = ℕ} 51 50 = refused-inj e in absurd (omega arith)
 
 both-tests : (p q c d x y : Bool) → (p ≡ true → x ≡ c) → (q ≡ true → y ≡ d)
     → checks ((50, p && q) ∷ (51, x && y) ∷ []) ≡ checks ((50, p && q) ∷ (51, c && d) ∷ [])
@@ -73,21 +72,22 @@ both-tests true true c d x y f g = ap₂ (λ (u v : Bool). checks ((50, true) �
 both-tests true false c d x y f g = refl
 both-tests false q c d x y f g = refl
 
-join_is : (a b : EdgeAnswer) (p q c d : Bool) → edge_of a ≡ checks ((50, p) ∷ (51, c) ∷ []) → edge_of b ≡ checks ((50, q) ∷ (51, d) ∷ [])
-    → both_of (joined a b) ≡ checks ((50, p && q) ∷ (51, c && d) ∷ [])
+join_is : (a b : Result Change Over) (p q c d : Bool) → fits_of a ≡ checks ((50, p) ∷ (51, c) ∷ []) → fits_of b ≡ checks ((50, q) ∷ (51, d) ∷ [])
+    → fits_of (joined a b) ≡ checks ((50, p && q) ∷ (51, c && d) ∷ [])
 join_is a b p q c d x y =
     join_tests a b
     ∙ ap₂ (λ (u v : Bool). checks ((50, u && v) ∷ (51, store_fits a && store_fits b) ∷ [])) (work-test a p c x) (work-test b q d y)
     ∙ both-tests p q c d (store_fits a) (store_fits b) (store-test a p c x) (store-test b q d y)
 
-pub fits-parts : (a b : EdgeAnswer) (r f : Change) → joined a b ≡ Fits r f → (a ≡ Covered r) × (b ≡ Covered f)
-fits-parts (Covered d) (Covered d') r f e = let p : d ≡ r = cc in let q : d' ≡ f = cc in (ap Covered p, ap Covered q)
-fits-parts (Covered d) OverWork r f e = let z : ◌≡◌ {A = ℕ} 0 1 = cc in absurd (omega arith)
-fits-parts (Covered d) OverStore r f e = let z : ◌≡◌ {A = ℕ} 0 1 = cc in absurd (omega arith)
-fits-parts OverWork b r f e = let z : ◌≡◌ {A = ℕ} 0 1 = cc in absurd (omega arith)
-fits-parts OverStore (Covered d) r f e = let z : ◌≡◌ {A = ℕ} 0 1 = cc in absurd (omega arith)
-fits-parts OverStore OverWork r f e = let z : ◌≡◌ {A = ℕ} 0 1 = cc in absurd (omega arith)
-fits-parts OverStore OverStore r f e = let z : ◌≡◌ {A = ℕ} 0 1 = cc in absurd (omega arith)
+pub fits-parts : (a b : Result Change Over) (r f : Change) → joined a b ≡ Ok (r, f) → (a ≡ Ok r) × (b ≡ Ok f)
+fits-parts (Ok d) (Ok d') r f e =
+    let p : (d, d') ≡ (r, f) = cc in (ap (λ (x : Change × Change). Ok x.0) p, ap (λ (x : Change × Change). Ok x.1) p)
+fits-parts (Ok d) (Err over.Work) r f e = let z : ◌≡◌ {A = ℕ} 0 1 = cc in absurd (omega arith)
+fits-parts (Ok d) (Err over.Store) r f e = let z : ◌≡◌ {A = ℕ} 0 1 = cc in absurd (omega arith)
+fits-parts (Err over.Work) b r f e = let z : ◌≡◌ {A = ℕ} 0 1 = cc in absurd (omega arith)
+fits-parts (Err over.Store) (Ok d) r f e = let z : ◌≡◌ {A = ℕ} 0 1 = cc in absurd (omega arith)
+fits-parts (Err over.Store) (Err over.Work) r f e = let z : ◌≡◌ {A = ℕ} 0 1 = cc in absurd (omega arith)
+fits-parts (Err over.Store) (Err over.Store) r f e = let z : ◌≡◌ {A = ℕ} 0 1 = cc in absurd (omega arith)
 
 -- an edge whose runs fit has few of them
 few-fit : (p c : Bool) (l : ℕ) → leb l max_runs ≡ c → value tt ≡ checks ((50, p) ∷ (51, c) ∷ []) → l ≤ max_runs
@@ -96,25 +96,25 @@ few-fit true false l h e = absurd (not_refused (sym e))
 few-fit false c l h e = absurd (not_refused (sym e))
 
 -- what was made of an edge in the third quarter is not touched by what is made in the last
-still_made : {K F : Case} {s f : List Run} {ws₀ ws₁ ws₂ : List ℕ} {a b : EdgeAnswer} → Covers K s ws₀ ws₁ (2 * max_runs) a → Covers F f ws₁ ws₂ (3 * max_runs) b
-    → (d : Change) → a ≡ Covered d → changed d ws₂ (2 * max_runs) s ≡ then_runs_of K s
+still_made : {K F : Case} {s f : List Run} {ws₀ ws₁ ws₂ : List ℕ} {a b : Result Change Over} → Covers K s ws₀ ws₁ (2 * max_runs) a → Covers F f ws₁ ws₂ (3 * max_runs) b
+    → (d : Change) → a ≡ Ok d → changed d ws₂ (2 * max_runs) s ≡ then_runs_of K s
 still_made x y Kept e = x.runs_are Kept e
 still_made {K = K} {s = s} {ws₁ = ws₁} x y (Made from to n) e =
     let made = x.runs_are (Made from to n) e in
     let few : length (then_runs_of K s) ≤ max_runs =
-    few-fit (leb (working K) max_runs) (leb (length (then_runs_of K s)) max_runs) (length (then_runs_of K s)) refl (ap edge_of (sym e) ∙ x.answers) in
+    few-fit (leb (working K) max_runs) (leb (length (then_runs_of K s)) max_runs) (length (then_runs_of K s)) refl (ap fits_of (sym e) ∙ x.answers) in
     let cut = x.within (Made from to n) e in
     let count : from + n + (length s - to) ≡ length (then_runs_of K s) =
     omega (arith, length-replaced from to (runs_in_words ws₁ (2 * max_runs) n) s (omega (arith, cut.0, cut.1)), length_runs ws₁ (2 * max_runs) n, ap (length {A = Run}) made) in
     ap (λ (rs : List Run). replaced from to rs s) (y.between (2 * max_runs) n (omega arith) (omega arith)) ∙ made
 
-pub covers-both : {N : Netlist} {t : Test} {ws ws₀ ws₁ ws₂ : List ℕ} {a b : EdgeAnswer} {q : BothAnswer}
+pub covers-both : {N : Netlist} {t : Test} {ws ws₀ ws₁ ws₂ : List ℕ} {a b : Result Change Over} {q : Result (Change × Change) Over}
     → Covers (case_of N t rising) (store_runs ws rising) ws₀ ws₁ (2 * max_runs) a → Covers (case_of N t falling) (store_runs ws falling) ws₁ ws₂ (3 * max_runs) b
     → q ≡ joined a b → CoversBoth N t ws ws₀ ws₂ q
 unfolding then_runs_of detects_path detects_number detects working set_runs_of in_set in_net_set working_runs
 covers-both {N = N} {t = t} {ws = ws} {a = a} {b = b} x y e = record {
   answers =
-      ap both_of e
+      ap fits_of e
       ∙ join_is a b (leb (working_runs N t rising) max_runs) (leb (working_runs N t falling) max_runs)
       (leb (length (runs_then_of N (runs_by_edge ws) t rising)) max_runs) (leb (length (runs_then_of N (runs_by_edge ws) t falling)) max_runs) x.answers y.answers;
   rising_runs_of = λ r f p. still_made x y r (fits-parts a b r f (sym e ∙ p)).0;

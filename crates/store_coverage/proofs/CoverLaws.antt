@@ -11,8 +11,6 @@ use Rattle.model.specs.Runs.{Run, runs_among, in_runs}
 use Rattle.model.proofs.RunLaws.{runs-separated, runs-test, runs_same}
 use Rattle.run_lists.specs.RunLists.{Sound, in_either, run_at, runs_in_words}
 use Rattle.run_lists.specs.Answers.{InsideWhere}
-use Rattle.run_lists.specs.declared.inner.Added.{Added}
-use Rattle.run_lists.specs.declared.inner.Added.TheVariants.{Count, Full}
 use Rattle.run_lists.proofs.MemberLaws.{run-path, sound-mono}
 use Rattle.run_lists.proofs.RunWordLaws.{length_runs}
 use Rattle.run_lists.proofs.InsideSteps.{walked_none, inside-union}
@@ -23,8 +21,9 @@ use Rattle.detection.specs.Cases.{Case, detects_path, detected, working}
 use Rattle.detection.specs.Walks.{Detects}
 use Rattle.detection.proofs.DetectedLaws.{few-detected}
 use Rattle.store_coverage.specs.Covers.{then_runs_of, held_runs, JoinReady, Covers}
-use Rattle.store_coverage.specs.declared.inner.edges.EdgeAnswer.{EdgeAnswer}
-use Rattle.store_coverage.specs.declared.inner.edges.EdgeAnswer.TheVariants.{Covered, OverWork}
+use Rattle.store_coverage.specs.declared.inner.edges.Over.{Over}
+use Rattle.store_coverage.specs.declared.inner.edges.Over.TheVariants as over
+use Rattle.std.specs.Prelude.{Option, Some, None, Result, Ok, Err}
 
 -- ---- words that are the same from a place on
 
@@ -45,11 +44,11 @@ runs-drop (suc k) n f a b e h =
 
 -- ---- what the detected runs' answer says
 
-count-cases : (b : Bool) (x n : ℕ) → ◌≡◌ {A = Added} (Count n) (cond b (Count x) Full) → (b ≡ true) × (n ≡ x)
+count-cases : (b : Bool) (x n : ℕ) → ◌≡◌ {A = (Option ℕ)} (Some n) (cond b (Some x) None) → (b ≡ true) × (n ≡ x)
 count-cases true x n e = (refl, cc)
 count-cases false x n e = let z : ◌≡◌ {A = ℕ} 0 1 = cc in absurd (omega arith)
 
-full-cases : (b : Bool) (x : ℕ) → ◌≡◌ {A = Added} Full (cond b (Count x) Full) → b ≡ false
+full-cases : (b : Bool) (x : ℕ) → ◌≡◌ {A = (Option ℕ)} None (cond b (Some x) None) → b ≡ false
 full-cases true x e = let z : ◌≡◌ {A = ℕ} 0 1 = cc in absurd (omega arith)
 full-cases false x e = refl
 
@@ -57,7 +56,7 @@ detected-apart : (K : Case) → Sound (path_total K.netlist) (detected K)
 unfolding detected
 detected-apart K = runs-separated (detects_path K) (path_total K.netlist)
 
-module _ {K : Case} {ws₀ ws₁ : List ℕ} {q : Added} (d : Detects K ws₀ ws₁ q) {n : ℕ} (t : q ≡ Count n) where
+module _ {K : Case} {ws₀ ws₁ : List ℕ} {q : (Option ℕ)} (d : Detects K ws₀ ws₁ q) {n : ℕ} (t : q ≡ Some n) where
   pub found-is : (leb (working K) max_runs ≡ true) × (n ≡ length (detected K))
   found-is = count-cases (leb (working K) max_runs) (length (detected K)) n (sym t ∙ d.answers)
 
@@ -93,9 +92,9 @@ rules-fit e d = rw (e, d) refl
 
 -- ---- the cases of joining
 
-module _ {q : Added} {held ws₁ : List ℕ} {target : ℕ} (h : JoinReady q held ws₁ target) where
-  pub join_over : q ≡ Full → (K : Case) (ws₀ : List ℕ) → Detects K ws₀ ws₁ q → Sound (path_total K.netlist) (held_runs held)
-      → Covers K (held_runs held) ws₀ ws₁ target OverWork
+module _ {q : (Option ℕ)} {held ws₁ : List ℕ} {target : ℕ} (h : JoinReady q held ws₁ target) where
+  pub join_over : q ≡ None → (K : Case) (ws₀ : List ℕ) → Detects K ws₀ ws₁ q → Sound (path_total K.netlist) (held_runs held)
+      → Covers K (held_runs held) ws₀ ws₁ target (Err over.Work)
   join_over t K ws₀ d so =
       let b : leb (working K) max_runs ≡ false = full-cases (leb (working K) max_runs) (length (detected K)) (sym t ∙ d.answers) in
       record {
@@ -109,7 +108,7 @@ module _ {q : Added} {held ws₁ : List ℕ} {target : ℕ} (h : JoinReady q hel
   as_held : runs_in_words held 0 (length held / 2 - 0) ≡ held_runs held
   as_held = let e : length held / 2 - 0 ≡ length held / 2 = omega arith in ap (λ (k : ℕ). runs_in_words held 0 k) e
 
-  module _ {n : ℕ} (t : q ≡ Count n) where
+  module _ {n : ℕ} (t : q ≡ Some n) where
     -- the place after the detected runs
     pub place-fits : Fits w64 (max_runs + n)
     place-fits = omega (arith, h.few_found n t)
@@ -128,7 +127,7 @@ module _ {q : Added} {held ws₁ : List ℕ} {target : ℕ} (h : JoinReady q hel
     -- nothing new: each detected run lies in a run of the store
     pub join_known : {k : Bool} → k ≡ true → InsideWhere k held 0 (length held / 2) ws₁ max_runs (max_runs + n)
         → (K : Case) (ws₀ : List ℕ) → Detects K ws₀ ws₁ q → Sound (path_total K.netlist) (held_runs held)
-        → Covers K (held_runs held) ws₀ ws₁ target (Covered Kept)
+        → Covers K (held_runs held) ws₀ ws₁ target (Ok Kept)
     join_known ek w K ws₀ d so =
         let same : held_runs held ≡ then_runs_of K (held_runs held) =
         sym as_held
@@ -146,16 +145,16 @@ module _ {q : Added} {held ws₁ : List ℕ} {target : ℕ} (h : JoinReady q hel
 
     -- nothing is detected
     pub join_none : n ≡ 0 → (K : Case) (ws₀ : List ℕ) → Detects K ws₀ ws₁ q → Sound (path_total K.netlist) (held_runs held)
-        → Covers K (held_runs held) ws₀ ws₁ target (Covered Kept)
+        → Covers K (held_runs held) ws₀ ws₁ target (Ok Kept)
     join_none z = join_known refl (walked_none held 0 (length held / 2) ws₁ max_runs (max_runs + n) (omega arith))
 
     -- something may be new
-    pub ready-count : JoinReady (Count n) held ws₁ target
-    ready-count = subst (λ (x : Added). JoinReady x held ws₁ target) t h
+    pub ready-count : JoinReady (Some n) held ws₁ target
+    ready-count = subst (λ (x : Option ℕ). JoinReady x held ws₁ target) t h
 
-    pub join_count : {ws₂ : List ℕ} {a : EdgeAnswer}
-        → ((K : Case) (ws₀ : List ℕ) → Detects K ws₀ ws₁ (Count n) → Sound (path_total K.netlist) (held_runs held) → Covers K (held_runs held) ws₀ ws₂ target a)
+    pub join_count : {ws₂ : List ℕ} {a : Result Change Over}
+        → ((K : Case) (ws₀ : List ℕ) → Detects K ws₀ ws₁ (Some n) → Sound (path_total K.netlist) (held_runs held) → Covers K (held_runs held) ws₀ ws₂ target a)
         → (K : Case) (ws₀ : List ℕ) → Detects K ws₀ ws₁ q → Sound (path_total K.netlist) (held_runs held) → Covers K (held_runs held) ws₀ ws₂ target a
-    join_count made K ws₀ d so = made K ws₀ (subst (λ (x : Added). Detects K ws₀ ws₁ x) t d) so
+    join_count made K ws₀ d so = made K ws₀ (subst (λ (x : Option ℕ). Detects K ws₀ ws₁ x) t d) so
 
 pub ruleset join-cases = (join_over, place-fits, found_inside, join_known, join_none, ready-count, join_count, rules)

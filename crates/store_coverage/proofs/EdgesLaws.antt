@@ -11,7 +11,6 @@ use Rattle.model.proofs.ReadLaws.{legal, limits}
 use Rattle.netlist.specs.Tables.{CircuitTables}
 use Rattle.netlist.specs.declared.inner.Shape.{Shape}
 use Rattle.run_lists.specs.RunLists.{Sound, runs_in_words}
-use Rattle.run_lists.specs.declared.inner.Added.{Added}
 use Rattle.run_lists.proofs.MemberLaws.{sound-mono}
 use Rattle.store_words.specs.Sound.{FewRuns, SoundWords, edge_words}
 use Rattle.store_words.proofs.RunPlaceLaws.{edge-words-runs, edge-words-fit}
@@ -20,8 +19,10 @@ use Rattle.detection.specs.Cases.{Case}
 use Rattle.detection.specs.Walks.{Detects}
 use Rattle.store_coverage.specs.Covers.{held_runs, JoinReady, Covers}
 use Rattle.store_coverage.specs.Stage.{MemoryReady, StageReady}
-use Rattle.store_coverage.specs.declared.inner.edges.EdgeAnswer.{EdgeAnswer}
+use Rattle.store_coverage.specs.declared.inner.edges.Over.{Over}
+use Rattle.store_writing.specs.declared.inner.Change.{Change}
 use Rattle.store_coverage.proofs.CoverLaws.{found-few, found-sound}
+use Rattle.std.specs.Prelude.{Option, Result}
 
 -- a netlist is what its bytes are
 pub same_memory : {file ps cs : List ℕ} {shape : Shape} {ws work : List ℕ} → StageReady file ps cs shape ws work → {N : Netlist}
@@ -48,7 +49,7 @@ pub memory-few : {N : Netlist} {ws work : List ℕ} → MemoryReady N ws work �
 memory-few m = (memory-sound m).few
 
 -- One edge of a sound store, from the detected runs of a case of its netlist
-module _ {K : Case} {work₁ work₂ : List ℕ} {q : Added} (d : Detects K work₁ work₂ q) {ws work : List ℕ} (m : MemoryReady K.netlist ws work)
+module _ {K : Case} {work₁ work₂ : List ℕ} {q : (Option ℕ)} (d : Detects K work₁ work₂ q) {ws work : List ℕ} (m : MemoryReady K.netlist ws work)
     (e : Edge) {held : List ℕ} (is : held ≡ edge_words ws e) {target : ℕ} where
   -- what joining is handed
   pub ready-to-join : (file : List ℕ) → read_netlist file ≡ value K.netlist → length work₂ ≡ length work → 2 * max_runs ≤ target → target + max_runs ≤ 4 * max_runs
@@ -66,7 +67,7 @@ module _ {K : Case} {work₁ work₂ : List ℕ} {q : Added} (d : Detects K work
         room = omega (arith, m.work_length);
       }
 
-  pub edge-covered : {work₃ : List ℕ} {a : EdgeAnswer}
+  pub edge-covered : {work₃ : List ℕ} {a : Result Change Over}
       → ((K : Case) (w : List ℕ) → Detects K w work₂ q → Sound (path_total K.netlist) (held_runs held) → Covers K (held_runs held) w work₃ target a)
       → Covers K (store_runs ws e) work₁ work₃ target a
   edge-covered {work₃ = work₃} {a = a} joins =

@@ -8,8 +8,6 @@ use Rattle.model.specs.Netlist.{path_total}
 use Rattle.model.specs.Runs.{Run, runs_among}
 use Rattle.run_lists.specs.RunLists.{Sound, in_either, runs_in_words}
 use Rattle.run_lists.specs.Answers.{Adds}
-use Rattle.run_lists.specs.declared.inner.Added.{Added}
-use Rattle.run_lists.specs.declared.inner.Added.TheVariants.{Count, Full}
 use Rattle.run_lists.proofs.RunCutLaws.{take_runs, drop-runs, runs-cut-twice}
 use Rattle.run_lists.proofs.RunWordLaws.{length_runs, sound-at}
 use Rattle.run_union.specs.Unions.{least_after, BeginsOver, Unites}
@@ -23,10 +21,11 @@ use Rattle.detection.specs.Cases.{Case}
 use Rattle.detection.specs.Walks.{Detects}
 use Rattle.detection.proofs.AddedLaws.{as_adds, adds-kept}
 use Rattle.store_coverage.specs.Covers.{then_runs_of, held_runs, JoinReady, Covers}
-use Rattle.store_coverage.specs.declared.inner.edges.EdgeAnswer.TheVariants.{Covered, OverStore}
+use Rattle.store_coverage.specs.declared.inner.edges.Over.TheVariants as over
 use Rattle.store_coverage.proofs.CoverLaws.{runs-drop, found-is, found-apart, then_is, rules-store, rules-fit}
+use Rattle.std.specs.Prelude.{Option, Some, None, Ok, Err}
 
-module _ {held ws₁ : List ℕ} {target found : ℕ} (h : JoinReady (Count found) held ws₁ target) (some : 1 ≤ found) where
+module _ {held ws₁ : List ℕ} {target found : ℕ} (h : JoinReady (Some found) held ws₁ target) (some : 1 ≤ found) where
   abbrev new : List Run
   new = runs_in_words ws₁ max_runs found
 
@@ -83,7 +82,7 @@ module _ {held ws₁ : List ℕ} {target found : ℕ} (h : JoinReady (Count foun
     pub union_held : Sound (2 ^ 62) around
     union_held = around-sound (2 ^ 62) h.sound_held
 
-    module _ {ws₂ : List ℕ} {r : Added} (u : Unites held from to ws₁ max_runs (max_runs + found) target max_runs ws₂ r) {n : ℕ} (e : r ≡ Count n) where
+    module _ {ws₂ : List ℕ} {r : (Option ℕ)} (u : Unites held from to ws₁ max_runs (max_runs + found) target max_runs ws₂ r) {n : ℕ} (e : r ≡ Some n) where
       few-made : n ≤ max_runs
       few-made =
           let fits = answer-count max_runs n (runs_among (in_either around (runs_in_words ws₁ max_runs (max_runs + found - max_runs))) (2 ^ 62)) (sym e ∙ (u (2 ^ 62) union_held union_found).answers) in
@@ -95,8 +94,8 @@ module _ {held ws₁ : List ℕ} {target found : ℕ} (h : JoinReady (Count foun
       pub then-fits : Fits w64 (from + n + (length held / 2 - to))
       then-fits = omega (arith, few-made, begun.0, h.few_held)
 
-    module _ {ws₂ : List ℕ} {r : Added} (u : Unites held from to ws₁ max_runs (max_runs + found) target max_runs ws₂ r)
-        (K : Case) (ws₀ : List ℕ) (d : Detects K ws₀ ws₁ (Count found)) (so : Sound (path_total K.netlist) (held_runs held)) where
+    module _ {ws₂ : List ℕ} {r : (Option ℕ)} (u : Unites held from to ws₁ max_runs (max_runs + found) target max_runs ws₂ r)
+        (K : Case) (ws₀ : List ℕ) (d : Detects K ws₀ ws₁ (Some found)) (so : Sound (path_total K.netlist) (held_runs held)) where
       abbrev paths : ℕ
       paths = path_total K.netlist
 
@@ -136,7 +135,7 @@ module _ {held ws₁ : List ℕ} {target found : ℕ} (h : JoinReady (Count foun
           ∙ runs-write_before ws₁ target f k (take max_runs middle) m
           ∙ runs-drop k (4 * max_runs) f ws₁ ws₀ (d.kept (4 * max_runs) (omega arith)) (omega arith)
 
-      over-store : max_runs < length then → Covers K (held_runs held) ws₀ ws₂ target OverStore
+      over-store : max_runs < length then → Covers K (held_runs held) ws₀ ws₂ target (Err over.Store)
       over-store o = record {
         answers = rules-store (found-is d refl).0 (lt-leb (length then) max_runs o);
         runs_are = λ c p. (let z : ◌≡◌ {A = ℕ} 0 1 = cc in absurd (omega arith));
@@ -146,15 +145,15 @@ module _ {held ws₁ : List ℕ} {target found : ℕ} (h : JoinReady (Count foun
       }
 
       -- the middle alone is over the store's runs
-      pub join_full : r ≡ Full → Covers K (held_runs held) ws₀ ws₂ target OverStore
+      pub join_full : r ≡ None → Covers K (held_runs held) ws₀ ws₂ target (Err over.Store)
       join_full e = over-store (omega (arith, answer-over max_runs middle (sym e ∙ united.answers), length-then))
 
-      module _ {n : ℕ} (e : r ≡ Count n) where
+      module _ {n : ℕ} (e : r ≡ Some n) where
         made : (length middle ≤ max_runs) × (n ≡ length middle) × (runs_in_words ws₂ target n ≡ middle)
         made = adds-count ws₁ ws₂ target max_runs n middle r h.room e united
 
         -- with those before and after it
-        pub join_many : max_runs < from + n + (length held / 2 - to) → Covers K (held_runs held) ws₀ ws₂ target OverStore
+        pub join_many : max_runs < from + n + (length held / 2 - to) → Covers K (held_runs held) ws₀ ws₂ target (Err over.Store)
         join_many o = over-store (omega (arith, o, made.1, length-then))
 
         changed-is : changed (Made from to n) ws₂ target (held_runs held) ≡ then
@@ -165,7 +164,7 @@ module _ {held ws₁ : List ℕ} {target found : ℕ} (h : JoinReady (Count foun
             ∙ ap (λ (x : List Run). before ++ (x ++ behind)) made.2
             ∙ then-parts
 
-        pub join_made : from + n + (length held / 2 - to) ≤ max_runs → Covers K (held_runs held) ws₀ ws₂ target (Covered (Made from to n))
+        pub join_made : from + n + (length held / 2 - to) ≤ max_runs → Covers K (held_runs held) ws₀ ws₂ target (Ok (Made from to n))
         join_made few = record {
           answers = rules-fit (found-is d refl).0 (le-leb (length then) max_runs (omega (arith, few, made.1, length-then)));
           runs_are = λ g p. (let i : Made from to n ≡ g = cc in subst (λ (x : Change). changed x ws₂ target (held_runs held) ≡ then) i changed-is);

@@ -18,13 +18,12 @@ use Rattle.store_words.specs.WordAnswers.{totals_in, totals_both}
 use Rattle.store_words.specs.Sound.{SoundWords}
 use Rattle.store_words.specs.declared.inner.StoreTotals.{StoreTotals}
 use Rattle.store_words.proofs.SoundLaws.{edge-sound, sound_more}
-use Rattle.store_coverage.specs.Stage.{MemoryReady, stage_of, store_after, work_stage, StageIs}
+use Rattle.store_coverage.specs.Stage.{MemoryReady, store_after, work_stage, StageIs}
 use Rattle.store_coverage.specs.TestCall.{tested_of, returned_by, TestedIs, Counting}
-use Rattle.store_coverage.specs.declared.TestAnswer.TheVariants.{Taken, Refused}
-use Rattle.store_coverage.specs.declared.inner.StageAnswer.{StageAnswer}
-use Rattle.store_coverage.specs.declared.inner.StageAnswer.TheVariants as stage
 use Rattle.store_coverage.proofs.EdgesLaws.{memory-sound}
 use Rattle.store_coverage.proofs.WorkMemory.{then-few, work-result, work-memory}
+use Rattle.std.specs.Prelude.{Result, Ok, Err}
+use Rattle.model.specs.Returned.{answer_of}
 
 -- what it says of an answer that it passes, or does not
 pub refused-by : {A : Type 0} (x : Answer A) (n : ℕ) → refused n ≡ passes x → x ≡ refused n
@@ -35,7 +34,7 @@ pub taken-by : {A : Type 0} (x : Answer A) → value tt ≡ passes x → Passed 
 taken-by (refused m) e = absurd (not_refused (sym e))
 taken-by (value a) e = record { got = a; is = refl }
 
-as_tested : {x : Answer Tested} {ws ws' work work' : List ℕ} {w : Refusal} → StageIs x ws ws' work work' (stage.Refused w) → TestedIs x ws ws' work work' (Refused w)
+as_tested : {x : Answer Tested} {ws ws' work work' : List ℕ} {w : Refusal} → StageIs x ws ws' work work' (Err w) → TestedIs x ws ws' work work' (Err w)
 unfolding returned_by
 as_tested {x = x} {w = w} s =
     let e : x ≡ refused (refusal_number_of w) = refused-by x (refusal_number_of w) s.answer in
@@ -58,14 +57,14 @@ module _ (N : Netlist) (t : Test) (ws : List ℕ) (e : Edge) (a : Separated (pat
       ∙ ap (λ n. n + how_many (new_then_of N (runs_by_edge ws) t e) (path_total N)) old-size
 
 -- A stage that passes on a sound store: the store afterwards, and what is counted
-module _ {N : Netlist} {t : Test} {x : Answer Tested} {ws ws' work work' : List ℕ} {before : StoreTotals} {r : StageAnswer}
+module _ {N : Netlist} {t : Test} {x : Answer Tested} {ws ws' work work' : List ℕ} {before : StoreTotals} {r : (Result (Unit {0}) Refusal)}
     (k : Counting N t x ws ws' work work' before r) where
-  pub count-refused : {w : Refusal} → r ≡ stage.Refused w → TestedIs x ws ws' work work' (Refused w)
-  count-refused e = as_tested (subst (λ (a : StageAnswer). StageIs x ws ws' work work' a) e k.stage)
+  pub count-refused : {w : Refusal} → r ≡ Err w → TestedIs x ws ws' work work' (Err w)
+  count-refused e = as_tested (subst (λ (a : Result (Unit {0}) Refusal). StageIs x ws ws' work work' a) e k.stage)
 
-  module _ (q : r ≡ stage.Taken) where
+  module _ (q : r ≡ Ok tt) where
     took : Passed x
-    took = taken-by x (sym (ap stage_of q) ∙ k.stage.answer)
+    took = taken-by x (sym (ap answer_of q) ∙ k.stage.answer)
 
     work-is : work_stage N t ws ≡ value took.got
     work-is = k.is_work took.got took.is
@@ -114,15 +113,15 @@ module _ {N : Netlist} {t : Test} {x : Answer Tested} {ws ws' work work' : List 
       pub more-falling : before.falling ≤ after.falling
       more-falling = let g = grows falling in omega arith
 
-      pub count-taken : TestedIs x ws ws' work work' (Taken (after.rising - before.rising) (after.falling - before.falling) after.rising after.falling)
+      pub count-taken : TestedIs x ws ws' work work' (Ok (record { new_rising = (after.rising - before.rising); new_falling = (after.falling - before.falling); held_rising = after.rising; held_falling = after.falling }))
       unfolding returned_by tested fresh
       count-taken =
           let is : x ≡ value (tested N (tests_taken_of ws) (runs_by_edge ws) t) = took.is ∙ ap (λ (d : Tested). value d) (sym (work-result N t ws work-is)) in
           record {
             answer =
                 ap tested_of
-                (ap₂ (λ (y z : ℕ). Taken y z after.rising after.falling) (omega (arith, grows rising)) (omega (arith, grows falling))
-                ∙ ap₂ (λ (y z : ℕ). Taken (fresh rising) (fresh falling) y z) (held-is rising) (held-is falling))
+                (ap₂ (λ (y z : ℕ). Ok (record { new_rising = y; new_falling = z; held_rising = after.rising; held_falling = after.falling })) (omega (arith, grows rising)) (omega (arith, grows falling))
+                ∙ ap₂ (λ (y z : ℕ). Ok (record { new_rising = (fresh rising); new_falling = (fresh falling); held_rising = y; held_falling = z })) (held-is rising) (held-is falling))
                 ∙ sym (ap returned_by is);
             store = k.stage.store;
             same_length_of = k.stage.same_length_of;

@@ -16,13 +16,14 @@ use Rattle.model.proofs.StoreLaws.{tests-store, length-store}
 use Rattle.store_writing.specs.Writing.{changed, with_runs, StoreHas, Writable, Rewritten}
 use Rattle.store_writing.specs.declared.inner.Change.{Change}
 use Rattle.store_writing.proofs.EdgeWriteCases.{sound-has}
-use Rattle.store_coverage.specs.Both.{both_of, CoversBoth}
-use Rattle.store_coverage.specs.Stage.{MemoryReady, BothMade, SomeBothMade, stage_of, refused_after, store_after, work_stage, StageIs}
-use Rattle.store_coverage.specs.declared.inner.edges.BothAnswer.{BothAnswer}
-use Rattle.store_coverage.specs.declared.inner.edges.BothAnswer.TheVariants.{Fits, WorkOver, StoreOver}
-use Rattle.store_coverage.specs.declared.inner.StageAnswer.{StageAnswer}
-use Rattle.store_coverage.specs.declared.inner.StageAnswer.TheVariants.{Taken, Refused}
+use Rattle.store_coverage.specs.Covers.{fits_of}
+use Rattle.store_coverage.specs.Both.{CoversBoth}
+use Rattle.store_coverage.specs.Stage.{MemoryReady, BothMade, SomeBothMade, refused_after, store_after, work_stage, StageIs}
+use Rattle.store_coverage.specs.declared.inner.edges.Over.{Over}
+use Rattle.store_coverage.specs.declared.inner.edges.Over.TheVariants as over
 use Rattle.store_coverage.proofs.WorkMemory.{then-few}
+use Rattle.std.specs.Prelude.{Result, Ok, Err}
+use Rattle.model.specs.Returned.{answer_of}
 
 store-has : {N : Netlist} {ws work : List ℕ} → MemoryReady N ws work → StoreHas ws (runs_by_edge ws)
 store-has {N = N} {ws = ws} m = sound-has (path_total N) ws m.store_length m.sound
@@ -32,15 +33,15 @@ counted : (n : ℕ) (s : ByEdge (List Run)) → set (store_of n s) tests_word (t
 unfolding store_of
 counted n s = let e : n + 1 ≡ suc n = omega arith in ap (λ (k : ℕ). store_of k s) e
 
-module _ {N : Netlist} {t : Test} {ws work work' : List ℕ} (m : MemoryReady N ws work) (same : length work' ≡ length work) {b : BothAnswer}
+module _ {N : Netlist} {t : Test} {ws work work' : List ℕ} (m : MemoryReady N ws work) (same : length work' ≡ length work) {b : Result (Change × Change) Over}
     (x : CoversBoth N t ws work work' b) where
   -- 86, whatever was made
-  full-stage : ltb (tests_taken_of ws) max_tests ≡ false → StageIs (work_stage N t ws) ws ws work work' (Refused why.TestsFull)
+  full-stage : ltb (tests_taken_of ws) max_tests ≡ false → StageIs (work_stage N t ws) ws ws work work' (Err why.TestsFull)
   unfolding work_stage store_after
   full-stage e = record { answer = rw e refl; store = rw e refl; same_length_of = same; past_work = x.kept work_words_count (omega arith) }
 
   -- 86, or what was made does not fit
-  refused-stage : (w : Refusal) → both_of b ≡ refused (refusal_number_of w) → (r : StageAnswer) → stage_of r ≡ refused_after ws w
+  refused-stage : (w : Refusal) → fits_of b ≡ refused (refusal_number_of w) → (r : Result (Unit {0}) Refusal) → answer_of r ≡ refused_after ws w
       → StageIs (work_stage N t ws) ws ws work work' r
   unfolding work_stage store_after
   refused-stage w q r er =
@@ -63,9 +64,9 @@ module _ {N : Netlist} {t : Test} {ws work work' : List ℕ} (m : MemoryReady N 
       kept_store false d y k e = refl
 
   module _ (more : ltb (tests_taken_of ws) max_tests ≡ true) where
-    module _ {r f : Change} (fits : b ≡ Fits r f) where
+    module _ {r f : Change} (fits : b ≡ Ok (r, f)) where
       passing : checks (work_rules N (runs_by_edge ws) t) ≡ value tt
-      passing = sym x.answers ∙ ap both_of fits
+      passing = sym x.answers ∙ ap fits_of fits
 
       made : work_stage N t ws ≡ value (tested N (tests_taken_of ws) (runs_by_edge ws) t)
       unfolding work_stage
@@ -126,7 +127,7 @@ module _ {N : Netlist} {t : Test} {ws work work' : List ℕ} (m : MemoryReady N 
           room₂ : tests_taken_of ws₂ < max_tests
           room₂ = omega (arith, tests₂, ltb→lt (tests_taken_of ws) max_tests (true→T (ltb (tests_taken_of ws) max_tests) more))
 
-          taken-stage : {ws₃ : List ℕ} → ws₃ ≡ set ws₂ tests_word (tests_taken_of ws₂ + 1) → StageIs (work_stage N t ws) ws ws₃ work work' Taken
+          taken-stage : {ws₃ : List ℕ} → ws₃ ≡ set ws₂ tests_word (tests_taken_of ws₂ + 1) → StageIs (work_stage N t ws) ws ws₃ work work' (Ok tt)
           unfolding work_stage store_after tested
           taken-stage {ws₃ = ws₃} w₃ =
               let c : checks (work_rules N (runs_by_edge ws) t) ≡ value tt = passing in
@@ -138,25 +139,25 @@ one_left : (ws : List ℕ) (a : Bool) → a ≡ ltb (tests_taken_of ws) max_test
 one_left ws a ea n = sym ea ∙ not-false a n
 
 -- The writes, by what was made of both edges, and what they leave for every test that it was made for
-module _ {b : BothAnswer} {ws work : List ℕ} where
+module _ {b : Result (Change × Change) Over} {ws work : List ℕ} where
   pub write_long : SomeBothMade b ws work → length ws ≡ store_words_count
   write_long h = h.made.memory.store_length
 
-  pub write_over : {r : StageAnswer} → b ≡ WorkOver → stage_of r ≡ refused_after ws why.WorkingRuns
+  pub write_over : {r : (Result (Unit {0}) Refusal)} {o : Over} → b ≡ Err o → o ≡ over.Work → answer_of r ≡ refused_after ws why.WorkingRuns
       → (N : Netlist) (t : Test) (found : List ℕ) → BothMade N t ws found work b → StageIs (work_stage N t ws) ws ws found work r
-  write_over e er N t found x = refused-stage x.memory x.same_length_of x.covers why.WorkingRuns (ap both_of e) _ er
+  write_over e i er N t found x = refused-stage x.memory x.same_length_of x.covers why.WorkingRuns (ap fits_of (e ∙ ap Err i)) _ er
 
-  pub write_full : {r : StageAnswer} → b ≡ StoreOver → stage_of r ≡ refused_after ws why.StoreRuns
+  pub write_full : {r : (Result (Unit {0}) Refusal)} {o : Over} → b ≡ Err o → o ≡ over.Store → answer_of r ≡ refused_after ws why.StoreRuns
       → (N : Netlist) (t : Test) (found : List ℕ) → BothMade N t ws found work b → StageIs (work_stage N t ws) ws ws found work r
-  write_full e er N t found x = refused-stage x.memory x.same_length_of x.covers why.StoreRuns (ap both_of e) _ er
+  write_full e i er N t found x = refused-stage x.memory x.same_length_of x.covers why.StoreRuns (ap fits_of (e ∙ ap Err i)) _ er
 
   module _ {a : Bool} (ea : a ≡ ltb (tests_taken_of ws) max_tests) where
     pub write_none : not a ≡ true → (N : Netlist) (t : Test) (found : List ℕ) → BothMade N t ws found work b
-        → StageIs (work_stage N t ws) ws ws found work (Refused why.TestsFull)
+        → StageIs (work_stage N t ws) ws ws found work (Err why.TestsFull)
     write_none n N t found x = full-stage x.memory x.same_length_of x.covers (sym ea ∙ not-true a n)
 
     module _ (n : not a ≡ false) where
-      module _ {r f : Change} (fits : b ≡ Fits r f) where
+      module _ {r f : Change} (fits : b ≡ Ok (r, f)) where
         pub write_first : SomeBothMade b ws work → Writable work (2 * max_runs) r rising ws
         write_first h = first-writable h.made.memory h.made.same_length_of h.made.covers (one_left ws a ea n) fits
 
@@ -171,15 +172,15 @@ module _ {b : BothAnswer} {ws work : List ℕ} where
                 (long₂ k.memory k.same_length_of k.covers (one_left ws a ea n) fits w₁ w₂, room₂ k.memory k.same_length_of k.covers (one_left ws a ea n) fits w₁ w₂)
 
             pub write_taken : {ws₃ : List ℕ} → ws₃ ≡ set ws₂ tests_word (tests_taken_of ws₂ + 1)
-                → (N : Netlist) (t : Test) (found : List ℕ) → BothMade N t ws found work b → StageIs (work_stage N t ws) ws ws₃ found work Taken
+                → (N : Netlist) (t : Test) (found : List ℕ) → BothMade N t ws found work b → StageIs (work_stage N t ws) ws ws₃ found work (Ok tt)
             write_taken w₃ N t found x = taken-stage x.memory x.same_length_of x.covers (one_left ws a ea n) fits w₁ w₂ w₃
 
 -- Why a test is refused that does not fit
 module _ (ws : List ℕ) {a : Bool} (ea : a ≡ ltb (tests_taken_of ws) max_tests) (w : Refusal) where
-  pub refuse_why : a ≡ true → stage_of (Refused w) ≡ refused_after ws w
+  pub refuse_why : a ≡ true → answer_of (Err w) ≡ refused_after ws w
   refuse_why e = rw (sym ea ∙ e) refl
 
-  pub refuse_full : a ≡ false → stage_of (Refused why.TestsFull) ≡ refused_after ws w
+  pub refuse_full : a ≡ false → answer_of (Err why.TestsFull) ≡ refused_after ws w
   refuse_full e = rw (sym ea ∙ e) refl
 
 pub ruleset refuse-cases = (refuse_why, refuse_full, rules)

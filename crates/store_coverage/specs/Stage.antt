@@ -11,9 +11,10 @@ use Rattle.model.specs.declared.Refusal.{Refusal}
 use Rattle.netlist.specs.Tables.{CircuitTables}
 use Rattle.netlist.specs.declared.inner.Shape.{Shape}
 use Rattle.store_coverage.specs.Both.{CoversBoth}
-use Rattle.store_coverage.specs.declared.inner.edges.BothAnswer.{BothAnswer}
-use Rattle.store_coverage.specs.declared.inner.StageAnswer.{StageAnswer}
-use Rattle.store_coverage.specs.declared.inner.StageAnswer.TheVariants as stage
+use Rattle.store_coverage.specs.declared.inner.edges.Over.{Over}
+use Rattle.store_writing.specs.declared.inner.Change.{Change}
+use Rattle.std.specs.Prelude.{Result, Ok, Err}
+use Rattle.model.specs.Returned.{answer_of}
 
 -- a store that no rule refuses, and working memory long enough
 pub record MemoryReady (N : Netlist) (store work : List ℕ) : Type 0 where
@@ -27,13 +28,13 @@ pub record StageReady (netlist positions counts : List ℕ) (shape : Shape) (sto
   pub memory : MemoryReady circuit store work
 
 -- what was made in the words of both edges of a sound store, with words as they were found before
-pub record BothMade (N : Netlist) (t : Test) (ws found work : List ℕ) (b : BothAnswer) : Type 0 where
+pub record BothMade (N : Netlist) (t : Test) (ws found work : List ℕ) (b : Result (Change × Change) Over) : Type 0 where
   pub memory : MemoryReady N ws found
   pub same_length_of : length work ≡ length found
   pub covers : CoversBoth N t ws found work b
 
 -- the same for some test
-pub record SomeBothMade (b : BothAnswer) (ws work : List ℕ) : Type 0 where
+pub record SomeBothMade (b : Result (Change × Change) Over) (ws work : List ℕ) : Type 0 where
   pub circuit : Netlist
   pub test : Test
   pub found : List ℕ
@@ -42,11 +43,6 @@ pub record SomeBothMade (b : BothAnswer) (ws work : List ℕ) : Type 0 where
 -- the rules of the places Test and Store
 abbrev pub place_rules : Netlist → List ℕ → List ℕ → List Rule
 place_rules N rec ws = test_rules N rec ++ store_rules (path_total N) ws
-
--- document 01's number for each case
-abbrev pub stage_of : StageAnswer → Answer (Unit {0})
-stage_of stage.Taken = value tt
-stage_of (stage.Refused why) = refused (refusal_number_of why)
 
 -- 86, or another refusal after it
 abbrev pub refused_after : List ℕ → Refusal → Answer (Unit {0})
@@ -61,8 +57,8 @@ unfoldable pub work_stage : Netlist → Test → List ℕ → Answer Tested
 work_stage N t ws = checks (tests_rule ws ∷ work_rules N (runs_by_edge ws) t) then value (tested N (tests_taken_of ws) (runs_by_edge ws) t)
 
 -- whether it is taken and the store are those of the stage `x`; working memory past its first 8,192 words is as found
-pub record StageIs (x : Answer Tested) (ws ws' work work' : List ℕ) (r : StageAnswer) : Type 0 where
-  pub answer : stage_of r ≡ passes x
+pub record StageIs (x : Answer Tested) (ws ws' work work' : List ℕ) (r : Result (Unit {0}) Refusal) : Type 0 where
+  pub answer : answer_of r ≡ passes x
   pub store : ws' ≡ store_after x ws
   pub same_length_of : length work' ≡ length work
   pub past_work : drop work_words_count work' ≡ drop work_words_count work

@@ -7,12 +7,9 @@ use model::Refusal;
 
 // What a test answers: for each edge the faults new to the store and those then held.
 #[derive(Clone, Copy)]
-pub enum TestAnswer {
-    Taken {
-        new_rising: u64,
-        new_falling: u64,
-        held_rising: u64,
-        held_falling: u64,
-    },
-    Refused(Refusal),
+pub struct TestCounts {
+    pub new_rising: u64,
+    pub new_falling: u64,
+    pub held_rising: u64,
+    pub held_falling: u64,
 }

@@ -12,11 +12,12 @@ use Rattle.path_faults.specs.declared.Edge as Code
 use Rattle.path_faults.specs.declared.Edge.TheVariants as at
 use Rattle.run_lists.specs.RunLists.{Sound, runs_in_words}
 use Rattle.run_lists.proofs.MemberLaws.{sound-mono}
-use Rattle.store_words.specs.WordAnswers.{check_of, totals_both}
+use Rattle.store_words.specs.WordAnswers.{totals_both}
 use Rattle.store_words.specs.Sound.{FewRuns, SoundWords}
-use Rattle.store_words.specs.declared.inner.StoreCheck.{StoreCheck}
-use Rattle.store_words.specs.declared.inner.StoreCheck.TheVariants as check
 use Rattle.store_words.proofs.RunPlaceLaws.{places_of, places-rising, places-falling}
+use Rattle.std.specs.Prelude.{Result, Ok}
+use Rattle.model.specs.declared.Refusal.{Refusal}
+use Rattle.model.specs.Returned.{answer_of}
 
 -- words that pass the checks are sound
 pub sound-words : (paths : ℕ) (ws : List ℕ) → length ws ≡ store_words_count → value tt ≡ checks (store_rules paths ws) → SoundWords paths ws
@@ -52,9 +53,9 @@ sound_more n m ws h s = record {
 }
 
 -- words that the code found sound
-module _ (paths : ℕ) (ws : List ℕ) (r : StoreCheck) (checked : check_of r ≡ checks (store_rules paths ws)) where
-  pub checked_sound : length ws ≡ store_words_count → paths ≤ 2 ^ 62 → r ≡ check.Sound → SoundWords (2 ^ 62) ws
-  checked_sound l h e = sound_more paths (2 ^ 62) ws h (sound-words paths ws l (sym (ap check_of e) ∙ checked))
+module _ (paths : ℕ) (ws : List ℕ) (r : Result (Unit {0}) Refusal) (checked : answer_of r ≡ checks (store_rules paths ws)) where
+  pub checked_sound : length ws ≡ store_words_count → paths ≤ 2 ^ 62 → r ≡ Ok tt → SoundWords (2 ^ 62) ws
+  checked_sound l h e = sound_more paths (2 ^ 62) ws h (sound-words paths ws l (sym (ap answer_of e) ∙ checked))
 
 module _ (ws : List ℕ) (n : ℕ) (s : SoundWords n ws) where
   pub sound-rising : Sound n (runs_in_words (places_of ws) 0 (run_count ws rising - 0))

@@ -94,5 +94,3 @@ pub row-start : (ws : List ℕ) (at : ℕ) → (eqb 0 0 && zero_words_of ws (at 
 row-start ws at = let here : at + 0 ≡ at = omega arith in ap (λ (p : ℕ). zero_words_of ws p row_words) here
 
 pub ruleset row-cases = (row-start, row_more, row-end, rules)
-
-pub ruleset zero-cases = (zeros-none, zeros-first, zeros-more, zeros-end, rows_more, rows_end, rows-not, rules)

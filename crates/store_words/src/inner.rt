@@ -7,8 +7,9 @@ ghost use Rattle.model.specs.Base.{all_of, checks};
 ghost use Rattle.model.specs.Runs.{in_runs, separated_runs_of};
 ghost use Rattle.model.specs.Store.{max_runs, max_tests, store_words_count, both_edges, run_count, tests_taken_of, runs_of_tests_of, store_runs, words_after, store_rules};
 ghost use Rattle.path_faults.specs.Answers.{model_edge};
-ghost use Rattle.store_words.specs.WordAnswers.{check_of, totals_in, totals_both, zero_words_of, row_words};
+ghost use Rattle.store_words.specs.WordAnswers.{totals_in, totals_both, zero_words_of, row_words};
 ghost use Rattle.store_words.specs.Sound.{FewRuns, SoundWords};
+ghost use Rattle.model.specs.Returned.{answer_of};
 
 use model::{HEAD_WORDS, MAX_RUNS, MAX_TESTS, PLACE_WORDS, Refusal, TESTS_WORD};
 use path_faults::{Edge, PathNo};
@@ -25,13 +26,6 @@ pub const FALLING_WORD: usize = HEAD_WORDS + PLACE_WORDS;
 // So many words past the runs are read in a row.
 const ROW_WORDS: usize = 32;
 
-// What the checks of a store's words answer.
-#[derive(Drop)]
-pub enum StoreCheck {
-    Sound,
-    Refused(Refusal),
-}
-
 // The number of faults held of each edge.
 #[derive(Clone, Copy)]
 pub struct StoreTotals {
@@ -45,10 +39,8 @@ fn row_bits(words: &[u64], at: usize) -> u64
     ensures { eqb result 0 ≡ zero_words_of words.now at row_words }
 {
     let mut seen: u64 = 0;
-    let mut i = 0;
-    while i < ROW_WORDS {
+    for i in 0..ROW_WORDS {
         seen = seen | words[at + i];
-        i += 1;
     }
     seen
 }
@@ -58,13 +50,9 @@ fn few_zero(words: &[u64], at: usize, n: usize) -> bool
     requires { at + n ≤ length words.now }
     ensures { result ≡ zero_words_of words.now at n }
 {
-    let mut place = at;
-    let mut left = n;
     let mut seen: u64 = 0;
-    while 0 < left {
+    for place in at..at + n {
         seen = seen | words[place];
-        place += 1;
-        left -= 1;
     }
     seen == 0
 }
@@ -79,17 +67,14 @@ fn zero_words(words: &[u64], at: usize, n: usize) -> bool
         return true;
     }
     let mut seen = words[at];
-    let mut place = at + 1;
-    let mut left = n - 1;
-    while ROW_WORDS <= left {
-        seen = seen | row_bits(words, place);
-        place += ROW_WORDS;
-        left -= ROW_WORDS;
+    let rows = (n - 1) / ROW_WORDS;
+    for row in 0..rows {
+        seen = seen | row_bits(words, at + 1 + ROW_WORDS * row);
     }
     if seen != 0 {
         return false;
     }
-    few_zero(words, place, left)
+    few_zero(words, at + 1 + ROW_WORDS * rows, (n - 1) % ROW_WORDS)
 }
 
 // Whether neither edge has more runs than places.
@@ -145,27 +130,27 @@ fn zeros_after(words: &[u64]) -> bool
 }
 
 // The checks of a store's words, for path numbers 1 to `paths`.
-pub fn check_words(words: &[u64], paths: u64) -> StoreCheck
+pub fn check_words(words: &[u64], paths: u64) -> Result<(), Refusal>
     requires words_len { length words.now ≡ store_words_count }
     requires paths_bound { paths ≤ 2 ^ 62 }
-    ensures { check_of result ≡ checks (store_rules paths words.now) }
+    ensures { answer_of result ≡ checks (store_rules paths words.now) }
 {
     if !few_runs(words) {
-        return StoreCheck::Refused(Refusal::RunCount);
+        return Err(Refusal::RunCount);
     }
     if !few_tests(words) {
-        return StoreCheck::Refused(Refusal::RunCount);
+        return Err(Refusal::RunCount);
     }
     if !separated_runs(words, paths) {
-        return StoreCheck::Refused(Refusal::RunRange);
+        return Err(Refusal::RunRange);
     }
     if !runs_of_tests(words) {
-        return StoreCheck::Refused(Refusal::RunRange);
+        return Err(Refusal::RunRange);
     }
     if !zeros_after(words) {
-        return StoreCheck::Refused(Refusal::WordPastRuns);
+        return Err(Refusal::WordPastRuns);
     }
-    StoreCheck::Sound
+    Ok(())
 }
 
 // The number of faults of each edge that sound words hold.

@@ -23,10 +23,8 @@ fn clear_part(words: &mut [u64], from: usize, to: usize)
     requires { to ≤ length words.old }
     ensures { words.new ≡ zeroed words.old from (to - from) }
 {
-    let mut i = from;
-    while i < to {
+    for i in from..to {
         words[i] = 0;
-        i += 1;
     }
 }
 

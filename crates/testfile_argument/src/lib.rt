@@ -9,10 +9,9 @@ ghost use Rattle.io.specs.Counts.{IsPrefixLen};
 ghost use Rattle.model.specs.Calls.{work_words_count};
 ghost use Rattle.testfile_argument.specs.NamedTests.{FileReported, TestsReported, TestsStored};
 
-use model::{REPORT_BYTES, WORK_WORDS};
+use model::{REPORT_BYTES, Refusal, WORK_WORDS};
 use program_files::{close_file, file_name, open_file};
 pub use refusing::{print_refused, refused_line};
-use report::WriteAnswer;
 use std::fs::File;
 use std::io::Stderr;
 use std::rt::{Env, Files};
@@ -73,10 +72,10 @@ pub fn report_file(
 }
 
 // Says why there is no report.
-fn say_refused(answer: WriteAnswer, taken: usize) {
+fn say_refused(answer: Result<usize, Refusal>, taken: usize) {
     match answer {
-        WriteAnswer::Refused(why) => print_refused(why, taken),
-        WriteAnswer::Written(_) => {}
+        Err(why) => print_refused(why, taken),
+        Ok(_) => {}
     }
 }
 

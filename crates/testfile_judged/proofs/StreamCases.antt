@@ -11,14 +11,11 @@ use Rattle.model.specs.Report.{file_records, whole_records, test_all, writer_cal
 use Rattle.model.specs.Demand3.{Acceptable}
 use Rattle.model.specs.declared.Refusal.{Refusal}
 use Rattle.audit_block.specs.RecordsTaken.{file_of, left_store}
-use Rattle.audit_judging.specs.declared.AuditAnswer.{AuditAnswer}
-use Rattle.audit_judging.specs.declared.AuditAnswer.TheVariants as audit
-use Rattle.report.specs.declared.WriteAnswer.TheVariants as write
 use Rattle.store_coverage.proofs.TestCallLaws.{refused-by}
 use Rattle.audit.proofs.PromisesHold.{calls-true}
-use Rattle.audit_piece_steps.specs.declared.BeginAnswer.TheVariants as beginning
-use Rattle.audit_piece_steps.specs.declared.inner.Begun.{Begun}
-use Rattle.audit_piece_steps.specs.Steps.{begun_of, lent_rules, begin_answer, begin_store, BeginTrue, Ended, with_piece, end_of}
+use Rattle.netlist.specs.declared.inner.Loaded.{Loaded}
+use Rattle.audit_records.specs.FileRecords.{Ready}
+use Rattle.audit_piece_steps.specs.Steps.{lent_rules, begin_answer, begin_store, BeginTrue, Ended, with_piece, end_of}
 use Rattle.audit_judging.specs.FileJudging.{end_by}
 use Rattle.audit_pieces.proofs.TogetherHolds.{begun-ready, begun-empty, begun-lent, begun-known, begun-before, end-answer, end-store, end-work}
 use Rattle.audit_pieces.proofs.PiecesHold.{pieces-true}
@@ -28,6 +25,8 @@ use Rattle.testfile_judged.specs.declared.Judged.{Judged}
 use Rattle.testfile_walk.specs.Walked.{file_taken, Walked}
 use Rattle.testfile_judged.specs.TrueReport.{Wrote, length_in, with_report, writer_after}
 use Rattle.testfile_judged.specs.Streams.{file_call, file_store, true_report, taken_by, StreamRead, StreamAudited, StreamReported}
+use Rattle.std.specs.Prelude.{Result, Ok, Err}
+use Rattle.model.specs.Returned.{answer_of}
 
 -- 33 is checked once or twice
 twice : (b : Bool) (x : Answer (List ℕ)) (f : List ℕ → Answer (List ℕ))
@@ -43,11 +42,14 @@ end-again N c test_file report =
     (λ left. checks (report_rules report (report_record (length test_file / record_length N) (path_total N) (runs_by_edge left))) then value left)
 
 -- A refusal at the beginning: there is no file, and nothing is read
-module _ (netlist : List ℕ) (class : ℕ) (ws ws₀ work : List ℕ) (b : Begun) (t : BeginTrue b netlist class ws ws₀ work)
-    (w : Refusal) (q : b.answer ≡ beginning.Refused w) (truth space : List ℕ) where
+module _ (netlist : List ℕ) (class : ℕ) (ws ws₀ work : List ℕ) (b : Result Loaded Refusal) (t : BeginTrue b netlist class ws ws₀ work)
+    (w : Refusal) (q : b ≡ Err w) (truth space : List ℕ) where
+  refused_begin : BeginTrue (Err w) netlist class ws ws₀ work
+  refused_begin = subst (λ (x : Result Loaded Refusal). BeginTrue x netlist class ws ws₀ work) q t
+
   before-refused : before_test netlist class ws work ≡ refused (refusal_number_of w)
   unfolding begin_answer
-  before-refused = refused-by (before_test netlist class ws work) (refusal_number_of w) (sym (ap begun_of q) ∙ t.answer)
+  before-refused = refused-by (before_test netlist class ws work) (refusal_number_of w) refused_begin.answer
 
   no-file : file_call netlist class [] ws work ≡ refused (refusal_number_of w)
   unfolding file_call
@@ -68,11 +70,11 @@ module _ (netlist : List ℕ) (class : ℕ) (ws ws₀ work : List ℕ) (b : Begu
   }
 
   pub audit_refused : (report : List ℕ)
-      → StreamAudited (record { answer = audit.Refused w; length = 0; bytes = 0; taken = 0; whole = true }) netlist report class truth truth space ws ws₀ work work
-  audit_refused report = record { read = nothing_read; is_audit = pieces-true.refused_at_once netlist class [] report ws ws₀ work b t w q }
+      → StreamAudited (record { answer = Err w; length = 0; bytes = 0; taken = 0; whole = true }) netlist report class truth truth space ws ws₀ work work
+  audit_refused report = record { read = nothing_read; is_audit = pieces-true.refused_at_once netlist class [] report ws ws₀ work w refused_begin }
 
   pub report-refused :
-      StreamReported (record { answer = write.Refused w; length = 0; bytes = 0; taken = 0; whole = true }) netlist class truth truth space ws ws₀ work work
+      StreamReported (record { answer = Err w; length = 0; bytes = 0; taken = 0; whole = true }) netlist class truth truth space ws ws₀ work work
   unfolding file_store begin_store left_store
   report-refused = record {
     read = nothing_read;
@@ -81,78 +83,88 @@ module _ (netlist : List ℕ) (class : ℕ) (ws ws₀ work : List ℕ) (b : Begu
     work_is = record { same_length_of = refl; past_work = refl; not_reached = λ n e. refl };
   }
 
--- A file that was walked over
-module _ (netlist : List ℕ) (class : ℕ) (ws ws₀ work : List ℕ) (b : Begun) (t : BeginTrue b netlist class ws ws₀ work) (q : b.answer ≡ beginning.Ready)
-    (walk : Walk) (space ws₁ work₁ : List ℕ) (v : Walked file_taken walk netlist b.loaded class space ws₁ work work₁)
-    (r : Written) (truth truth' : List ℕ) (y : Wrote r (writer_after netlist (file_of walk.records.answer ws₁) truth) truth truth') where
-  abbrev N : Netlist
-  N = v.ready.circuit
+-- A beginning that passed, then a file that was walked over
+module _ (netlist : List ℕ) (class : ℕ) (ws ws₀ work : List ℕ) (b : Result Loaded Refusal) (t : BeginTrue b netlist class ws ws₀ work)
+    (loaded : Loaded) (q : b ≡ Ok loaded) where
+  begun : BeginTrue (Ok loaded) netlist class ws ws₀ work
+  begun = subst (λ (x : Result Loaded Refusal). BeginTrue x netlist class ws ws₀ work) q t
 
-  abbrev f : List ℕ
-  f = v.test_file
+  pub stream-ready : Ready netlist loaded ws₀ work
+  stream-ready = begun-ready netlist class ws ws₀ work loaded begun
 
-  legal : read_netlist netlist ≡ value N
-  legal = v.ready.tables.legal
+  pub stream-empty : ws₀ ≡ empty_store
+  stream-empty = begun-empty netlist class ws ws₀ work begun.answer begun.store
 
-  lent : lent_rules ws work ≡ value tt
-  lent = begun-lent netlist class ws ws₀ work b.answer t.answer q
+  module _ (walk : Walk) (space ws₁ work₁ : List ℕ) (v : Walked file_taken walk netlist loaded class space ws₁ work work₁)
+      (r : Written) (truth truth' : List ℕ) (y : Wrote r (writer_after netlist (file_of walk.records.answer ws₁) truth) truth truth') where
+    abbrev N : Netlist
+    N = v.ready.circuit
 
-  known : within 1 2 class ≡ true
-  known = begun-known netlist class ws ws₀ work b.answer t.answer q
+    abbrev f : List ℕ
+    f = v.test_file
 
-  before : before_test netlist class ws work ≡ value N
-  before = begun-before netlist class ws ws₀ work b.answer t.answer q N legal
+    legal : read_netlist netlist ≡ value N
+    legal = v.ready.tables.legal
 
-  report-is : writer_after netlist (file_of walk.records.answer ws₁) truth ≡ true_report netlist class f ws work truth
-  unfolding true_report writer_after
-  report-is =
-      ap (λ (x : Answer (List ℕ)). writer_after netlist x truth) (v.answer N legal)
-      ∙ sym (ap (λ (x : Answer Netlist). x into λ M. file_taken M (class_of class) f into λ left. writer_call netlist left truth) before)
+    lent : lent_rules ws work ≡ value tt
+    lent = begun-lent netlist class ws ws₀ work begun.answer
 
-  wrote : Wrote r (true_report netlist class f ws work truth) truth truth'
-  wrote = subst (λ (x : Answer (List ℕ)). Wrote r x truth truth') report-is y
+    known : within 1 2 class ≡ true
+    known = begun-known netlist class ws ws₀ work begun.answer
 
-  abbrev file-read : StreamRead walk.bytes walk.records.taken r.length netlist class truth truth' space ws work
-  file-read = record {
-    test_file = f;
-    bytes_are = v.bytes_are;
-    in_space = v.in_space;
-    taken_are = v.taken N legal ∙ sym (ap (λ (x : Answer Netlist). taken_by x (class_of class) f) before);
-    length_is = wrote.size;
-    truth_is = wrote.bytes;
-  }
+    before : before_test netlist class ws work ≡ value N
+    before = begun-before netlist class ws ws₀ work begun.answer N legal
 
-  pub audit_done : (report : List ℕ) (a : AuditAnswer) (ws₂ : List ℕ) → Ended a netlist walk.records.answer walk.bytes report ws₁ ws₂
-      → StreamAudited (record { answer = a; length = r.length; bytes = walk.bytes; taken = walk.records.taken; whole = walk.whole })
-      netlist report class truth truth' space ws ws₂ work work₁
-  audit_done report a ws₂ d =
-      let s : end_of N walk.bytes report (file_of walk.records.answer ws₁) ≡ end_of N (length f) report (with_piece N (class_of class) f (value empty_store)) =
-      ap (λ (k : ℕ). end_of N k report (file_of walk.records.answer ws₁)) v.bytes_are
-      ∙ ap (λ (x : Answer (List ℕ)). end_of N (length f) report x) (v.answer N legal)
-      ∙ end-again N (class_of class) f report in
-      record {
-        read = file-read;
-        is_audit = record {
-          answer = d.answer N legal ∙ ap (λ (x : Answer (List ℕ)). passes x) s ∙ end-answer netlist class f report ws work N lent before;
-          store = d.store N legal ∙ ap left_store s ∙ end-store netlist class f report ws work N lent before;
-          work = end-work netlist class f report ws work N lent before work₁ v.same_length_of v.past_work;
-        };
-      }
+    report-is : writer_after netlist (file_of walk.records.answer ws₁) truth ≡ true_report netlist class f ws work truth
+    unfolding true_report writer_after
+    report-is =
+        ap (λ (x : Answer (List ℕ)). writer_after netlist x truth) (v.answer N legal)
+        ∙ sym (ap (λ (x : Answer Netlist). x into λ M. file_taken M (class_of class) f into λ left. writer_call netlist left truth) before)
 
-  pub report-done : StreamReported (record { answer = r.answer; length = r.length; bytes = walk.bytes; taken = walk.records.taken; whole = walk.whole })
-      netlist class truth truth' space ws ws₁ work work₁
-  unfolding file_store file_call
-  report-done = record {
-    read = file-read;
-    answer = wrote.answer;
-    store = v.store N legal ∙ rw (lent, legal) (rw known refl);
-    work_is = end-work netlist class f [] ws work N lent before work₁ v.same_length_of v.past_work;
-  }
+    wrote : Wrote r (true_report netlist class f ws work truth) truth truth'
+    wrote = subst (λ (x : Answer (List ℕ)). Wrote r x truth truth') report-is y
+
+    abbrev file-read : StreamRead walk.bytes walk.records.taken r.length netlist class truth truth' space ws work
+    file-read = record {
+      test_file = f;
+      bytes_are = v.bytes_are;
+      in_space = v.in_space;
+      taken_are = v.taken N legal ∙ sym (ap (λ (x : Answer Netlist). taken_by x (class_of class) f) before);
+      length_is = wrote.size;
+      truth_is = wrote.bytes;
+    }
+
+    pub audit_done : (report : List ℕ) (a : Result (Unit {0}) Refusal) (ws₂ : List ℕ) → Ended a netlist walk.records.answer walk.bytes report ws₁ ws₂
+        → StreamAudited (record { answer = a; length = r.length; bytes = walk.bytes; taken = walk.records.taken; whole = walk.whole })
+        netlist report class truth truth' space ws ws₂ work work₁
+    audit_done report a ws₂ d =
+        let s : end_of N walk.bytes report (file_of walk.records.answer ws₁) ≡ end_of N (length f) report (with_piece N (class_of class) f (value empty_store)) =
+        ap (λ (k : ℕ). end_of N k report (file_of walk.records.answer ws₁)) v.bytes_are
+        ∙ ap (λ (x : Answer (List ℕ)). end_of N (length f) report x) (v.answer N legal)
+        ∙ end-again N (class_of class) f report in
+        record {
+          read = file-read;
+          is_audit = record {
+            answer = d.answer N legal ∙ ap (λ (x : Answer (List ℕ)). passes x) s ∙ end-answer netlist class f report ws work N lent before;
+            store = d.store N legal ∙ ap left_store s ∙ end-store netlist class f report ws work N lent before;
+            work = end-work netlist class f report ws work N lent before work₁ v.same_length_of v.past_work;
+          };
+        }
+
+    pub report-done : StreamReported (record { answer = r.answer; length = r.length; bytes = walk.bytes; taken = walk.records.taken; whole = walk.whole })
+        netlist class truth truth' space ws ws₁ work work₁
+    unfolding file_store file_call
+    report-done = record {
+      read = file-read;
+      answer = wrote.answer;
+      store = v.store N legal ∙ rw (lent, legal) (rw known refl);
+      work_is = end-work netlist class f [] ws work N lent before work₁ v.same_length_of v.past_work;
+    }
 
 -- Accepted: there is a test file whose true report this is
 pub stream_accepts : (r : Judged) (netlist report : List ℕ) (class : ℕ) (truth truth' space ws ws' work work' : List ℕ)
-    (s : StreamAudited r netlist report class truth truth' space ws ws' work work') → (r.answer ≡ audit.Accepted) ↔ Acceptable netlist class s.read.test_file report ws work
+    (s : StreamAudited r netlist report class truth truth' space ws ws' work work') → (r.answer ≡ Ok tt) ↔ Acceptable netlist class s.read.test_file report ws work
 stream_accepts r netlist report class truth truth' space ws ws' work work' s =
     calls-true.audits r.answer netlist class s.read.test_file report ws ws' work work' s.is_audit
 
-pub ruleset stream-cases = (begun-ready, begun-empty, audit_refused, audit_done, report-refused, report-done, rules)
+pub ruleset stream-cases = (stream-ready, stream-empty, audit_refused, audit_done, report-refused, report-done, rules)

@@ -4,28 +4,26 @@ use Rattle.model.specs.Base.{Answer, refused, value, ◌into◌}
 use Rattle.model.specs.Report.{writer_answer, writer_buffer}
 use Rattle.model.specs.declared.Refusal.{Refusal}
 use Rattle.testfile_reading.proofs.ReadPieceLaws.{part_length}
-use Rattle.report.specs.Answers.{written_of, WriteTrue}
+use Rattle.report.specs.Answers.{WriteTrue}
 use Rattle.audit_block.specs.RecordsTaken.{file_of}
-use Rattle.report.specs.declared.WriteAnswer.{WriteAnswer}
-use Rattle.report.specs.declared.WriteAnswer.TheVariants as write
-use Rattle.store_coverage.specs.declared.inner.StageAnswer.{StageAnswer}
-use Rattle.store_coverage.specs.declared.inner.StageAnswer.TheVariants as stage
 use Rattle.testfile_judged.specs.declared.writing.Written.{Written}
 use Rattle.testfile_judged.specs.TrueReport.{Wrote, length_in, with_report, writer_after}
+use Rattle.std.specs.Prelude.{Result, Ok, Err}
+use Rattle.model.specs.Returned.{answer_of}
 
 -- an answer with its length
-module _ (a : WriteAnswer) where
-  pub same-refused : (w : Refusal) → a ≡ write.Refused w → write.Refused w ≡ a
+module _ (a : Result ℕ Refusal) where
+  pub same-refused : (w : Refusal) → a ≡ Err w → Err w ≡ a
   same-refused w q = sym q
 
-  pub length-refused : (w : Refusal) → a ≡ write.Refused w → 0 ≡ length_in (written_of a)
-  length-refused w q = sym (ap (λ (x : WriteAnswer). length_in (written_of x)) q)
+  pub length-refused : (w : Refusal) → a ≡ Err w → 0 ≡ length_in (answer_of a)
+  length-refused w q = sym (ap (λ (x : Result ℕ Refusal). length_in (answer_of x)) q)
 
-  pub same-written : (n : ℕ) → a ≡ write.Written n → write.Written n ≡ a
+  pub same-written : (n : ℕ) → a ≡ Ok n → Ok n ≡ a
   same-written n q = sym q
 
-  pub length-written : (n : ℕ) → a ≡ write.Written n → n ≡ length_in (written_of a)
-  length-written n q = sym (ap (λ (x : WriteAnswer). length_in (written_of x)) q)
+  pub length-written : (n : ℕ) → a ≡ Ok n → n ≡ length_in (answer_of a)
+  length-written n q = sym (ap (λ (x : Result ℕ Refusal). length_in (answer_of x)) q)
 
 pub ruleset answer-cases = (same-refused, length-refused, same-written, length-written, rules)
 
@@ -37,31 +35,31 @@ within (value w) found = omega (arith, length-append w (drop (length w) found))
 wrote-within : (r : Written) (x : Answer (List ℕ)) (found left : List ℕ) → Wrote r x found left → r.length ≤ length left
 wrote-within r x found left t = subst (λ (l : List ℕ). r.length ≤ length l) (sym t.bytes) (omega (arith, t.size, within x found))
 
-module _ (netlist ws : List ℕ) (answer : StageAnswer) (r : Written) (truth : List ℕ) where
-  pub wrote_none : (w : Refusal) → answer ≡ stage.Refused w → r.answer ≡ write.Refused w → r.length ≡ length_in (written_of (write.Refused w))
+module _ (netlist ws : List ℕ) (answer : Result (Unit {0}) Refusal) (r : Written) (truth : List ℕ) where
+  pub wrote_none : (w : Refusal) → answer ≡ Err w → r.answer ≡ Err w → r.length ≡ length_in (answer_of (Err w))
       → Wrote r (writer_after netlist (file_of answer ws) truth) truth truth
   unfolding writer_after
   wrote_none w q a l = record {
-    answer = rw q (ap written_of a);
+    answer = rw q (ap answer_of a);
     size = rw q l;
     bytes = rw q refl;
   }
 
-  pub wrote-some : (truth' : List ℕ) (a : WriteAnswer) → answer ≡ stage.Taken → WriteTrue a netlist ws truth truth' → r.answer ≡ a
-      → r.length ≡ length_in (written_of a) → Wrote r (writer_after netlist (file_of answer ws) truth) truth truth'
+  pub wrote-some : (truth' : List ℕ) (a : Result ℕ Refusal) → answer ≡ Ok tt → WriteTrue a netlist ws truth truth' → r.answer ≡ a
+      → r.length ≡ length_in (answer_of a) → Wrote r (writer_after netlist (file_of answer ws) truth) truth truth'
   unfolding writer_after writer_answer writer_buffer
   wrote-some truth' a q t s l = record {
-    answer = rw q (ap written_of s ∙ t.answer);
+    answer = rw q (ap answer_of s ∙ t.answer);
     size = rw q (l ∙ ap length_in t.answer);
     bytes = rw q t.buffer;
   }
 
-  pub none_within : (w : Refusal) → answer ≡ stage.Refused w → r.answer ≡ write.Refused w → r.length ≡ length_in (written_of (write.Refused w))
+  pub none_within : (w : Refusal) → answer ≡ Err w → r.answer ≡ Err w → r.length ≡ length_in (answer_of (Err w))
       → r.length ≤ length truth
   none_within w q a l = wrote-within r (writer_after netlist (file_of answer ws) truth) truth truth (wrote_none w q a l)
 
-  pub some-within : (truth' : List ℕ) (a : WriteAnswer) → answer ≡ stage.Taken → WriteTrue a netlist ws truth truth' → r.answer ≡ a
-      → r.length ≡ length_in (written_of a) → r.length ≤ length truth'
+  pub some-within : (truth' : List ℕ) (a : Result ℕ Refusal) → answer ≡ Ok tt → WriteTrue a netlist ws truth truth' → r.answer ≡ a
+      → r.length ≡ length_in (answer_of a) → r.length ≤ length truth'
   some-within truth' a q t s l = wrote-within r (writer_after netlist (file_of answer ws) truth) truth truth' (wrote-some truth' a q t s l)
 
 pub ruleset wrote-cases = (wrote_none, wrote-some, none_within, some-within, part_length, rules)

@@ -7,7 +7,6 @@ use Rattle.model.specs.Read.{class_of}
 use Rattle.model.specs.Store.{empty_store}
 use Rattle.model.specs.Calls.{before_test, WorkAfter}
 use Rattle.model.specs.Report.{file_records, writer_call}
-use Rattle.report.specs.Answers.{written_of}
 use Rattle.audit.specs.Answers.{AuditTrue}
 use Rattle.audit_block.specs.RecordsTaken.{left_store, taken_of}
 use Rattle.audit_piece_steps.specs.Steps.{lent_rules}
@@ -16,6 +15,7 @@ use Rattle.testfile_walk.specs.Walked.{file_taken}
 use Rattle.testfile_judged.specs.declared.Judged.{Judged}
 use Rattle.testfile_judged.specs.declared.Reported.{Reported}
 use Rattle.testfile_judged.specs.TrueReport.{length_in, with_report}
+use Rattle.model.specs.Returned.{answer_of}
 
 -- The store that a test file leaves in a class: lent memory, netlist, class, 33, its records
 unfoldable pub file_call : List ℕ → ℕ → List ℕ → List ℕ → List ℕ → Answer (List ℕ)
@@ -58,6 +58,6 @@ pub record StreamAudited (r : Judged) (netlist report : List ℕ) (class : ℕ) 
 -- The report: the answer is its length, or the first refusal; the store is as the file leaves it
 pub record StreamReported (r : Reported) (netlist : List ℕ) (class : ℕ) (truth truth' space ws ws' work work' : List ℕ) : Type 0 where
   pub read : StreamRead r.bytes r.taken r.length netlist class truth truth' space ws work
-  pub answer : written_of r.answer ≡ true_length netlist class read.test_file ws work truth
+  pub answer : answer_of r.answer ≡ true_length netlist class read.test_file ws work truth
   pub store : ws' ≡ file_store netlist class read.test_file ws work
   pub work_is : WorkAfter netlist class ws work work'

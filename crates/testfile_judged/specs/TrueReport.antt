@@ -2,8 +2,8 @@
 use Rattle.std.specs.Prelude.{◌≡◌, List, ◌++◌, ℕ, length, drop}
 use Rattle.model.specs.Base.{Answer, refused, value, ◌into◌, after}
 use Rattle.model.specs.Report.{writer_call}
-use Rattle.report.specs.Answers.{written_of}
 use Rattle.testfile_judged.specs.declared.writing.Written.{Written}
+use Rattle.model.specs.Returned.{answer_of}
 
 -- the length of a report, 0 where there is none
 abbrev pub length_in : Answer ℕ → ℕ
@@ -20,6 +20,6 @@ writer_after netlist x found = x into λ ws. writer_call netlist ws found
 
 -- A report, or a refusal: the answer, the report's length, and the bytes of the buffer
 pub record Wrote (r : Written) (report : Answer (List ℕ)) (found left : List ℕ) : Type 0 where
-  pub answer : written_of r.answer ≡ (report into λ written. value (length written))
+  pub answer : answer_of r.answer ≡ (report into λ written. value (length written))
   pub size : r.length ≡ length_in (report into λ written. value (length written))
   pub bytes : left ≡ with_report report found

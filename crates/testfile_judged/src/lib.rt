@@ -7,11 +7,9 @@ ghost use Rattle.io.specs.Counts.{IsPrefixLen};
 ghost use Rattle.testfile_judged.specs.Streams.{StreamAudited, StreamReported};
 
 use crate::writing::true_report;
-use audit_judging::AuditAnswer;
-use audit_piece_steps::BeginAnswer;
 use audit_piece_steps::inner::{begin, finish};
+use model::Refusal;
 use program_files::Opened;
-use report::WriteAnswer;
 use std::io::Stderr;
 use testfile_walk::inner::walk_file;
 pub use writing::Written;
@@ -20,7 +18,7 @@ pub use writing::Written;
 // one, and whether the file was read whole.
 #[derive(Drop)]
 pub struct Judged {
-    pub answer: AuditAnswer,
+    pub answer: Result<(), Refusal>,
     pub length: usize,
     pub bytes: u64,
     pub taken: usize,
@@ -30,7 +28,7 @@ pub struct Judged {
 // What the writer answers, or the first refusal before it; the rest as for the audit.
 #[derive(Drop)]
 pub struct Reported {
-    pub answer: WriteAnswer,
+    pub answer: Result<usize, Refusal>,
     pub length: usize,
     pub bytes: u64,
     pub taken: usize,
@@ -54,17 +52,15 @@ pub fn audit_stream(
         space.new store.old store.new work.old work.new × IsPrefixLen result.length truth.new }
 {
     let begun = begin(netlist, test_class, store, work);
-    let beginning = begun.answer;
-    let loaded = begun.loaded;
-    match beginning {
-        BeginAnswer::Refused(why) => Judged {
-            answer: AuditAnswer::Refused(why),
+    match begun {
+        Err(why) => Judged {
+            answer: Err(why),
             length: 0,
             bytes: 0,
             taken: 0,
             whole: true,
         },
-        BeginAnswer::Ready => {
+        Ok(loaded) => {
             let walk = walk_file(
                 opened, stderr, netlist, loaded, test_class, space, store, work,
             );
@@ -98,17 +94,15 @@ pub fn report_stream(
         space.new store.old store.new work.old work.new × IsPrefixLen result.length truth.new }
 {
     let begun = begin(netlist, test_class, store, work);
-    let beginning = begun.answer;
-    let loaded = begun.loaded;
-    match beginning {
-        BeginAnswer::Refused(why) => Reported {
-            answer: WriteAnswer::Refused(why),
+    match begun {
+        Err(why) => Reported {
+            answer: Err(why),
             length: 0,
             bytes: 0,
             taken: 0,
             whole: true,
         },
-        BeginAnswer::Ready => {
+        Ok(loaded) => {
             let walk = walk_file(
                 opened, stderr, netlist, loaded, test_class, space, store, work,
             );

@@ -1,32 +1,32 @@
 // The true report of a test file that was walked over.
 ghost use Rattle.std.specs.Prelude.{◌≡◌};
 ghost use Rattle.io.specs.Counts.{IsPrefixLen};
-ghost use Rattle.report.specs.Answers.{written_of};
 ghost use Rattle.audit_block.specs.RecordsTaken.{file_of};
 ghost use Rattle.testfile_judged.specs.TrueReport.{Wrote, writer_after, length_in};
+ghost use Rattle.model.specs.Returned.{answer_of};
 
 use audit_block::inner::TakenRecords;
-use report::{WriteAnswer, write_report};
-use store_coverage::inner::StageAnswer;
+use model::Refusal;
+use report::write_report;
 
 // What the writer answers, and the length of the report, 0 where it is refused.
 #[derive(Drop)]
 pub struct Written {
-    pub answer: WriteAnswer,
+    pub answer: Result<usize, Refusal>,
     pub length: usize,
 }
 
 // An answer with its length.
-fn with_length(answer: WriteAnswer) -> Written
-    ensures { (result.answer ≡ answer) × (result.length ≡ length_in (written_of answer)) }
+fn with_length(answer: Result<usize, Refusal>) -> Written
+    ensures { (result.answer ≡ answer) × (result.length ≡ length_in (answer_of answer)) }
 {
     match answer {
-        WriteAnswer::Refused(why) => Written {
-            answer: WriteAnswer::Refused(why),
+        Err(why) => Written {
+            answer: Err(why),
             length: 0,
         },
-        WriteAnswer::Written(length) => Written {
-            answer: WriteAnswer::Written(length),
+        Ok(length) => Written {
+            answer: Ok(length),
             length,
         },
     }
@@ -45,7 +45,7 @@ pub(crate) fn true_report(
 {
     let answer = records.answer;
     match answer {
-        StageAnswer::Refused(why) => with_length(WriteAnswer::Refused(why)),
-        StageAnswer::Taken => with_length(write_report(netlist, store, truth)),
+        Err(why) => with_length(Err(why)),
+        Ok(()) => with_length(write_report(netlist, store, truth)),
     }
 }

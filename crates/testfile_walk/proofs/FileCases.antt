@@ -12,11 +12,11 @@ use Rattle.netlist.specs.declared.inner.Loaded.{Loaded}
 use Rattle.store_coverage.specs.Stage.{MemoryReady}
 use Rattle.audit_block.specs.RecordsTaken.{left_store}
 use Rattle.audit_judging.specs.FileJudging.{whole_length_of}
-use Rattle.store_coverage.specs.declared.inner.StageAnswer.TheVariants as stage
 use Rattle.audit_block.proofs.MemoryLaws.{emptied, empty-memory}
 use Rattle.audit_records.proofs.ReadyLaws.{ready-inputs}
 use Rattle.testfile_walk.specs.declared.inner.Walk.{Walk}
 use Rattle.testfile_walk.specs.Walked.{records_taken, file_taken, Walked}
+use Rattle.std.specs.Prelude.{Err}
 
 whole-call : (N : Netlist) (c : Class) (test_file : List ℕ) → whole_records N test_file ≡ true → records_taken N c test_file ≡ file_taken N c test_file
 unfolding records_taken file_taken
@@ -54,7 +54,7 @@ module _ (walk : Walk) (netlist : List ℕ) (loaded : Loaded) (class : ℕ) (spa
     }
 
     pub file-cut : b ≡ false → (ws' : List ℕ) → ws' ≡ replicate (length ws) 0
-        → Walked file_taken (record { bytes = walk.bytes; records = record { taken = walk.records.taken; answer = stage.Refused why.TestFileLength }; whole = walk.whole })
+        → Walked file_taken (record { bytes = walk.bytes; records = record { taken = walk.records.taken; answer = Err why.TestFileLength }; whole = walk.whole })
         netlist loaded class space ws' work work'
     unfolding left_store
     file-cut q ws' z =

@@ -10,8 +10,6 @@ use Rattle.model.specs.Calls.{work_words_count}
 use Rattle.model.specs.Report.{file_records}
 use Rattle.netlist.specs.declared.inner.Loaded.{Loaded}
 use Rattle.audit_block.specs.RecordsTaken.{file_of, left_store, taken_of}
-use Rattle.store_coverage.specs.declared.inner.StageAnswer.{StageAnswer}
-use Rattle.store_coverage.specs.declared.inner.StageAnswer.TheVariants as stage
 use Rattle.audit_block.specs.declared.inner.TakenRecords.{TakenRecords}
 use Rattle.audit_records.specs.FileRecords.{Ready}
 use Rattle.audit_piece_steps.specs.Steps.{PieceTaken, with_piece, taken_with, piece_store}
@@ -21,13 +19,15 @@ use Rattle.audit_piece_steps.proofs.JoinedPieceLaws.{no_bytes, piece_then}
 use Rattle.audit_pieces.proofs.TakenLaws.{taken_none, taken-both}
 use Rattle.testfile_walk.specs.Walked.{most_bytes, records_taken, Walked}
 use Rattle.testfile_reading.proofs.ReadPieceLaws.{FileSoFar, file-start, file-more, file-over, file-next, file-last}
+use Rattle.std.specs.Prelude.{Result, Ok, Err}
+use Rattle.model.specs.declared.Refusal.{Refusal}
 
 -- the store after a piece, by the state before it
-store-with : (N : Netlist) (c : Class) (a : StageAnswer) (piece ws : List ℕ) → ws ≡ left_store (file_of a ws)
+store-with : (N : Netlist) (c : Class) (a : Result (Unit {0}) Refusal) (piece ws : List ℕ) → ws ≡ left_store (file_of a ws)
     → piece_store N c a piece ws ≡ left_store (with_piece N c piece (file_of a ws))
 unfolding piece_store with_piece left_store
-store-with N c stage.Taken piece ws e = refl
-store-with N c (stage.Refused w) piece ws e = e
+store-with N c (Ok tt) piece ws e = refl
+store-with N c (Err w) piece ws e = e
 
 -- the number of records taken from an empty store, and none before
 taken-from : (N : Netlist) (c : Class) (test_file : List ℕ) → taken_with N c test_file (value empty_store) 0 ≡ taken_of N c (file_records N test_file) empty_store

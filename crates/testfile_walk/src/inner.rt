@@ -12,7 +12,6 @@ use netlist::inner::Loaded;
 use program_files::{Opened, at_end, end_progress, file_size, show_progress};
 use record_test::inner::record_length;
 use std::io::Stderr;
-use store_coverage::inner::StageAnswer;
 use store_writing::inner::clear;
 use testfile_reading::inner::{full_piece, read_part, whole_part};
 
@@ -51,7 +50,7 @@ fn apply_pieces(
     let size = file_size(opened);
     let mut records = TakenRecords {
         taken: 0,
-        answer: StageAnswer::Taken,
+        answer: Ok(()),
     };
     let mut so_far: u64 = 0;
     while so_far <= MAX_BYTES {
@@ -97,7 +96,7 @@ pub fn walk_file(
     clear(store);
     let records = TakenRecords {
         taken: walk.records.taken,
-        answer: StageAnswer::Refused(Refusal::TestFileLength),
+        answer: Err(Refusal::TestFileLength),
     };
     Walk {
         bytes: walk.bytes,

@@ -1,7 +1,9 @@
--- Lines: what `with_text` has done so far, from its start to its end; two texts one after the other; a text put into a buffer byte by byte.
+-- Lines: what `with_text` has done so far, from its start to its end; two texts one after the other; a text put into a part of a buffer.
 use Rattle.model.proofs.Prelude.{ℕ, ◌≤◌, ◌<◌, ◌+◌, suc, zero, min, ◌≡◌, ◌∙◌, ap, refl, sym, ⊎_elim, List, [], ◌∷◌, ◌++◌, append_assoc, append-nil}
 use Rattle.model.proofs.Prelude.{length, get_or, drop, take, set, drop_of_length-le, sets, length-take-le, drop-cons, take_all, take_at, min-eq_left}
 use Rattle.model.proofs.Prelude.{min-eq_right, add-one, arith}
+use Rattle.model.proofs.Prelude.{drop-drop, sets-eq}
+use borrow.Rule.Slice.PartMut.{put_mid}
 use lib.Seq.{take-suc-set, append_snoc}
 use Rattle.model.proofs.BoolLaws.{le_or_lt}
 use Rattle.text_line.specs.Lines.{on_line}
@@ -68,10 +70,10 @@ pub on_line-alone : (a : List ℕ) → length a ≤ 128 → on_line [] a ≡ a
 unfolding on_line
 on_line-alone a h = take_all 128 a h
 
--- A text put into a buffer byte by byte: what is left to write, written, gives the whole
-module _ (out text : List ℕ) (place i : ℕ) where
-  pub put_step : i < length text → sets (set out place (get_or text i 0)) (place + 1) (drop (i + 1) text) ≡ sets out place (drop i text)
-  put_step h = rw (add-one place, add-one i) (ap (λ (t : List ℕ). sets out place t) (sym (drop-cons text i 0 h)))
-
-  pub put-end : length text ≤ i → sets out place (drop i text) ≡ out
-  put-end h = ap (λ (t : List ℕ). sets out place t) (drop_of_length-le text {i = i} h)
+-- a list with a part of it replaced, from a place on
+pub put-part : (to : List ℕ) (at k : ℕ) (part items : List ℕ) → part ≡ items → k ≡ length items → at + length items ≤ length to
+    → put_mid at k to part ≡ sets to at items
+put-part to at k part items p e h =
+    let d : drop k (drop at to) ≡ drop (at + length items) to = drop-drop k at to ∙ ap (λ (n : ℕ). drop (at + n) to) e in
+    ap (put_mid at k to) p ∙ sym (append_assoc (take at to) items (drop k (drop at to))) ∙ ap (λ (rest : List ℕ). take at to ++ items ++ rest) d
+    ∙ sym (sets-eq items to at h)

@@ -8,14 +8,9 @@ pub fn put_text(out: &mut [u8], at: usize, text: &[u8]) -> usize
     requires { at + length text.now ≤ length out.old }
     ensures { (out.new ≡ sets out.old at text.now) × (result ≡ at + length text.now) }
 {
-    let mut place = at;
-    let mut i = 0;
-    while i < text.len() {
-        out[place] = text[i];
-        place += 1;
-        i += 1;
-    }
-    place
+    let end = at + text.len();
+    out[at..end].copy_from_slice(text);
+    end
 }
 
 // Writes a number in decimal digits from a place on; the place after it. No number has over 20 digits.

@@ -48,14 +48,12 @@ pub fn with_text(line: Line, text: &[u8]) -> Line
 {
     let mut longer = line;
     let mut at = end_of(longer.length);
-    let mut i = 0;
-    while i < text.len() {
+    for byte in text {
         if LINE_BYTES <= at {
             break;
         }
-        longer.bytes[at] = text[i];
+        longer.bytes[at] = *byte;
         at += 1;
-        i += 1;
     }
     longer.length = at;
     longer

@@ -12,9 +12,7 @@ pub fn thousandths(part: u64, whole: u64) -> u64
 {
     let mut quotient: u64 = 0;
     let mut rest: u64 = 0;
-    let mut left: u64 = 1000;
-    while 0 < left {
-        left -= 1;
+    for _ in 0..1000u64 {
         if rest < whole - part {
             rest += part;
         } else {

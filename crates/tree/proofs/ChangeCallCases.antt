@@ -10,10 +10,10 @@ use Rattle.model.proofs.AnswerLaws.{not_refused, value_inj}
 use Rattle.tree_words.specs.TreeLayout.{tree_runs, sound_words_of}
 use Rattle.tree_words.specs.Calls.{run_of, run_legal_of, run_rule, length_rule, words_rule, insert_call, delete_call, runs_with, runs_without, stored}
 use Rattle.tree_change.specs.Changing.{Inserts, Deletes, Rebuilt}
-use Rattle.tree.specs.declared.TreeChanged.TheVariants as changed
 use Rattle.tree.specs.Answers.{ChangedTrue}
 use Rattle.tree.proofs.TreeCallCases.{then-short, then-bad, then-pass}
 use Rattle.tree.proofs.SearchCases.{legal-low, legal-both, legal-high}
+use Rattle.std.specs.Prelude.{Ok, Err}
 
 -- ---- what a call leaves
 
@@ -23,7 +23,7 @@ past_words ws ws' e h =
     (λ i q. get_or-drop 32768 ws' i 0 ∙ h (32768 + i) (omega arith) ∙ sym (get_or-drop 32768 ws i 0))
 
 module _ (call : Answer (List Run)) (ws : List ℕ) where
-  change_refused : (w : Refusal) → call ≡ refused (refusal_number_of w) → ChangedTrue call (changed.Refused w) ws ws
+  change_refused : (w : Refusal) → call ≡ refused (refusal_number_of w) → ChangedTrue call (Err w) ws ws
   change_refused w e = record {
     answer = sym (ap passes e);
     holding = record {
@@ -35,7 +35,7 @@ module _ (call : Answer (List Run)) (ws : List ℕ) where
     };
   }
 
-  change_taken : (rs : List Run) (ws' : List ℕ) → call ≡ value rs → Rebuilt ws ws' rs → ChangedTrue call changed.Changed ws ws'
+  change_taken : (rs : List Run) (ws' : List ℕ) → call ≡ value rs → Rebuilt ws ws' rs → ChangedTrue call (Ok tt) ws ws'
   change_taken rs ws' e b = record {
     answer = sym (ap passes e);
     holding = record {
@@ -89,19 +89,19 @@ module _ (ws : List ℕ) (low high : ℕ) where
   unfolding insert_call
   insert_is = refl
 
-  pub insert_short : length ws < 32768 → ChangedTrue (insert_call ws (run_of low high)) (changed.Refused why.TreeLength) ws ws
+  pub insert_short : length ws < 32768 → ChangedTrue (insert_call ws (run_of low high)) (Err why.TreeLength) ws ws
   insert_short q = change_refused (insert_call ws (run_of low high)) ws why.TreeLength (insert_is ∙ whole-short ws low high 51 fits with q)
 
   module _ (p : 32768 ≤ length ws) (t : Bool) (e : t ≡ sound_words_of ws) where
-    pub insert_bad : not t ≡ true → ChangedTrue (insert_call ws (run_of low high)) (changed.Refused why.TreeWords) ws ws
+    pub insert_bad : not t ≡ true → ChangedTrue (insert_call ws (run_of low high)) (Err why.TreeWords) ws ws
     insert_bad q = change_refused (insert_call ws (run_of low high)) ws why.TreeWords (insert_is ∙ whole-bad ws low high 51 fits with p t e q)
 
     module _ (q : not t ≡ false) (u : Bool) (eu : u ≡ run_legal_of (run_of low high)) where
-      pub insert_range : not u ≡ true → ChangedTrue (insert_call ws (run_of low high)) (changed.Refused why.RunRange) ws ws
+      pub insert_range : not u ≡ true → ChangedTrue (insert_call ws (run_of low high)) (Err why.RunRange) ws ws
       insert_range n = change_refused (insert_call ws (run_of low high)) ws why.RunRange (insert_is ∙ whole-range ws low high 51 fits with p t e q u eu n)
 
       module _ (n : not u ≡ false) (f : Bool) (ef : f ≡ not (leb (length (runs_with (tree_runs ws) (run_of low high))) 1024)) where
-        pub insert_full : f ≡ true → ChangedTrue (insert_call ws (run_of low high)) (changed.Refused why.StoreRuns) ws ws
+        pub insert_full : f ≡ true → ChangedTrue (insert_call ws (run_of low high)) (Err why.StoreRuns) ws ws
         insert_full y =
             change_refused (insert_call ws (run_of low high)) ws why.StoreRuns
             (insert_is ∙ whole-last ws low high 51 fits with p t e q u eu n (not-true fits (sym ef ∙ y)))
@@ -116,7 +116,7 @@ module _ (ws : List ℕ) (low high : ℕ) where
         }
 
         pub insert_taken : f ≡ false → (ws' : List ℕ) → Rebuilt ws ws' (runs_with (tree_runs ws) (run_of low high))
-            → ChangedTrue (insert_call ws (run_of low high)) changed.Changed ws ws'
+            → ChangedTrue (insert_call ws (run_of low high)) (Ok tt) ws ws'
         insert_taken y ws' b =
             change_taken (insert_call ws (run_of low high)) ws with ws'
             (insert_is ∙ whole-taken ws low high 51 fits with p t e q u eu n (not-false fits (sym ef ∙ y))) b
@@ -134,19 +134,19 @@ module _ (ws : List ℕ) (low high : ℕ) where
   unfolding delete_call
   delete_is = refl
 
-  pub delete_short : length ws < 32768 → ChangedTrue (delete_call ws (run_of low high)) (changed.Refused why.TreeLength) ws ws
+  pub delete_short : length ws < 32768 → ChangedTrue (delete_call ws (run_of low high)) (Err why.TreeLength) ws ws
   delete_short q = change_refused (delete_call ws (run_of low high)) ws why.TreeLength (delete_is ∙ whole-short ws low high 60 there without q)
 
   module _ (p : 32768 ≤ length ws) (t : Bool) (e : t ≡ sound_words_of ws) where
-    pub delete_bad : not t ≡ true → ChangedTrue (delete_call ws (run_of low high)) (changed.Refused why.TreeWords) ws ws
+    pub delete_bad : not t ≡ true → ChangedTrue (delete_call ws (run_of low high)) (Err why.TreeWords) ws ws
     delete_bad q = change_refused (delete_call ws (run_of low high)) ws why.TreeWords (delete_is ∙ whole-bad ws low high 60 there without p t e q)
 
     module _ (q : not t ≡ false) (u : Bool) (eu : u ≡ run_legal_of (run_of low high)) where
-      pub delete_range : not u ≡ true → ChangedTrue (delete_call ws (run_of low high)) (changed.Refused why.RunRange) ws ws
+      pub delete_range : not u ≡ true → ChangedTrue (delete_call ws (run_of low high)) (Err why.RunRange) ws ws
       delete_range n = change_refused (delete_call ws (run_of low high)) ws why.RunRange (delete_is ∙ whole-range ws low high 60 there without p t e q u eu n)
 
       module _ (n : not u ≡ false) (f : Bool) (ef : f ≡ stored (tree_runs ws) (run_of low high)) where
-        pub delete_absent : not f ≡ true → ChangedTrue (delete_call ws (run_of low high)) (changed.Refused why.NoSuchNumber) ws ws
+        pub delete_absent : not f ≡ true → ChangedTrue (delete_call ws (run_of low high)) (Err why.NoSuchNumber) ws ws
         delete_absent y =
             change_refused (delete_call ws (run_of low high)) ws why.NoSuchNumber
             (delete_is ∙ whole-last ws low high 60 there without p t e q u eu n (sym ef ∙ not-true f y))
@@ -155,7 +155,7 @@ module _ (ws : List ℕ) (low high : ℕ) where
         delete_deletes y = record { tree = record { long = p; sound = sym e ∙ not-false t q }; held = sym ef ∙ not-false f y }
 
         pub delete_taken : not f ≡ false → (ws' : List ℕ) → Rebuilt ws ws' (runs_without (tree_runs ws) (run_of low high))
-            → ChangedTrue (delete_call ws (run_of low high)) changed.Changed ws ws'
+            → ChangedTrue (delete_call ws (run_of low high)) (Ok tt) ws ws'
         delete_taken y ws' b =
             change_taken (delete_call ws (run_of low high)) ws without ws'
             (delete_is ∙ whole-taken ws low high 60 there without p t e q u eu n (sym ef ∙ not-false f y)) b

@@ -1,5 +1,5 @@
 -- A tree filled with the runs of a store's edge holds exactly these runs: its leaves are the store's runs.
-use Rattle.model.proofs.Prelude.{ℕ, ◌≤◌, ◌+◌, ◌^◌, ◌≡◌, ◌∙◌, ap, refl, sym, subst, ⊎_elim, inl, inr, true, ◌||◌, List, [], ◌∷◌, ◌++◌, append_assoc}
+use Rattle.model.proofs.Prelude.{ℕ, ◌≤◌, ◌^◌, ◌≡◌, ◌∙◌, ap, refl, sym, subst, ⊎_elim, inl, inr, true, ◌||◌, List, [], ◌∷◌, ◌++◌, append_assoc}
 use Rattle.model.proofs.Prelude.{append-nil, length, drop, length-append, length-drop, leb, T, leb→le, le→leb, arith, le-leb}
 use Rattle.model.specs.Base.{value}
 use Rattle.model.specs.Path.{Edge}

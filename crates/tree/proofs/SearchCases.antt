@@ -1,7 +1,7 @@
 -- Cases of `tree_search` and of the run that a call is handed.
 use Rattle.model.proofs.Prelude.{ℕ, ◌≤◌, ◌<◌, ◌^◌, ◌≡◌, ◌∙◌, ap, refl, sym, subst, ap₂, true, Bool, false, ◌&&◌, not, List, [], ◌∷◌, length, leb, T}
 use Rattle.model.proofs.Prelude.{le-leb, lt-leb, not-true, not-false, leb-true}
-use Rattle.model.specs.Base.{Answer, refused, value, ◌then◌, checks}
+use Rattle.model.specs.Base.{refused, value, ◌then◌, checks}
 use Rattle.model.specs.Runs.{Run}
 use Rattle.tree_words.specs.TreeLayout.{run_in_of, tree_runs, sound_words_of}
 use Rattle.tree_words.specs.Calls.{Found, none, found, first_run_of, or_else, overlaps, adjacent, search_runs_of, search_call, run_legal_of, run_rule, run_of}
@@ -12,21 +12,21 @@ use Rattle.tree.proofs.TreeCallCases.{then-short, then-bad, then-pass}
 
 module _ (ws : List ℕ) (x : Run) where
   module _ (r : ℕ) (a : FoundAt ws (first_run_of (overlaps x) (tree_runs ws)) r) where
-    pub search_over : (r ≡ 0 → ⊥) → (v : Answer Found) → v ≡ value (found (run_in_of ws r)) → v ≡ value (search_runs_of (tree_runs ws) x)
+    pub search_over : (r ≡ 0 → ⊥) → (v : Run) → v ≡ run_in_of ws r → found v ≡ search_runs_of (tree_runs ws) x
     unfolding search_runs_of
-    search_over n v e = e ∙ sym (ap value (ap (λ (f : Found). or_else f (first_run_of (adjacent x) (tree_runs ws))) (a.present n)))
+    search_over n v e = ap found e ∙ sym (ap (λ (f : Found). or_else f (first_run_of (adjacent x) (tree_runs ws))) (a.present n))
 
     pub search_clear : r ≡ 0 → first_run_of (overlaps x) (tree_runs ws) ≡ none
     search_clear z = a.absent z
 
     module _ (z : r ≡ 0) (q : ℕ) (b : FoundAt ws (first_run_of (adjacent x) (tree_runs ws)) q) where
-      pub search_near : (q ≡ 0 → ⊥) → (v : Answer Found) → v ≡ value (found (run_in_of ws q)) → v ≡ value (search_runs_of (tree_runs ws) x)
+      pub search_near : (q ≡ 0 → ⊥) → (v : Run) → v ≡ run_in_of ws q → found v ≡ search_runs_of (tree_runs ws) x
       unfolding search_runs_of
-      search_near n v e = e ∙ sym (ap value (ap₂ (λ (f g : Found). or_else f g) (a.absent z) (b.present n)))
+      search_near n v e = ap found e ∙ sym (ap₂ (λ (f g : Found). or_else f g) (a.absent z) (b.present n))
 
-      pub search_none : q ≡ 0 → value none ≡ value (search_runs_of (tree_runs ws) x)
+      pub search_none : q ≡ 0 → none ≡ search_runs_of (tree_runs ws) x
       unfolding search_runs_of
-      search_none y = sym (ap value (ap₂ (λ (f g : Found). or_else f g) (a.absent z) (b.absent y)))
+      search_none y = sym (ap₂ (λ (f g : Found). or_else f g) (a.absent z) (b.absent y))
 
 -- ---- the call
 
@@ -82,5 +82,5 @@ module _ (ws : List ℕ) (x : Run) where
       pub search_range : not u ≡ true → refused 41 ≡ search_call ws x
       search_range z = let w = sym eu ∙ not-true u z in sym (passed ∙ rw w refl)
 
-      pub search_taken : not u ≡ false → (v : Answer Found) → v ≡ value (search_runs_of (tree_runs ws) x) → v ≡ search_call ws x
-      search_taken z v f = let w = sym eu ∙ not-false u z in f ∙ sym (passed ∙ rw w refl)
+      pub search_taken : not u ≡ false → (v : Found) → v ≡ search_runs_of (tree_runs ws) x → value v ≡ search_call ws x
+      search_taken z v f = let w = sym eu ∙ not-false u z in ap value f ∙ sym (passed ∙ rw w refl)

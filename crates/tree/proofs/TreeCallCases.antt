@@ -130,15 +130,9 @@ module _ (ws : List ℕ) (k : ℕ) where
         holds-high z = let w = le-leb 1 k one in let v = lt-leb k (2 ^ 62) z in sym (passed ∙ rw (w, v) refl)
 
         module _ (high : k ≤ 2 ^ 62) (b : Bool) (n : ℕ) (eb : b ≡ in_runs (tree_runs ws) k) (en : n ≡ length (way_to ws k)) where
-          taken : holds_call ws k ≡ value (record { held = b; visited = n })
+          pub holds-taken : value (record { held = b; visited = n }) ≡ holds_call ws k
           unfolding asked
-          taken =
+          holds-taken =
               let w = le-leb 1 k one in
               let v = le-leb k (2 ^ 62) high in
-              passed ∙ rw (w, v) (λ i. value (record { held = sym eb i; visited = sym en i }))
-
-          pub holds-yes : b ≡ true → value (record { held = true; visited = n }) ≡ holds_call ws k
-          holds-yes z = sym (taken ∙ ap (λ (x : Bool). value (record { held = x; visited = n })) z)
-
-          pub holds-no : b ≡ false → value (record { held = false; visited = n }) ≡ holds_call ws k
-          holds-no z = sym (taken ∙ ap (λ (x : Bool). value (record { held = x; visited = n })) z)
+              sym (passed ∙ rw (w, v) (λ i. value (record { held = sym eb i; visited = sym en i })))

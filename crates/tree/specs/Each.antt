@@ -1,12 +1,12 @@
 -- Many questions with one check of the words: each number has an answer word of its own.
 use Rattle.std.specs.Prelude.{◌≡◌, true, false, ◌&&◌, List, [], ◌∷◌, ℕ, leb}
-use Rattle.model.specs.Base.{Answer, refused, value, ◌then◌, checks, after}
-use Rattle.model.specs.Refusals.{refusal_number_of}
+use Rattle.model.specs.Base.{Answer, value, ◌then◌, checks, after}
 use Rattle.model.specs.Runs.{Run, in_runs}
 use Rattle.tree_words.specs.TreeLayout.{levels_in, tree_runs}
 use Rattle.tree_words.specs.Calls.{max_number, length_rule, words_rule}
-use Rattle.tree.specs.declared.TreeAsked.{TreeAsked}
-use Rattle.tree.specs.declared.TreeAsked.TheVariants as each
+use Rattle.std.specs.Prelude.{Result}
+use Rattle.model.specs.declared.Refusal.{Refusal}
+use Rattle.model.specs.Returned.{answer_of}
 
 -- the answer word of a number: 1 where it is held, 0 where it is not, 60 where it is no path number
 unfoldable pub held_word_of : List Run → ℕ → ℕ
@@ -22,11 +22,7 @@ held_words rs (k ∷ ks) (a ∷ os) = held_word_of rs k ∷ held_words rs ks os
 unfoldable pub each_call : List ℕ → Answer ℕ
 each_call ws = checks (length_rule ws ∷ words_rule ws ∷ []) then value (levels_in ws)
 
-abbrev pub each_of : TreeAsked → Answer ℕ
-each_of (each.Levels n) = value n
-each_of (each.Refused w) = refused (refusal_number_of w)
-
 -- its answer, and the answer words afterwards
-pub record EachTrue (r : TreeAsked) (ws ks os os' : List ℕ) : Type 0 where
-  pub answer : each_of r ≡ each_call ws
+pub record EachTrue (r : Result ℕ Refusal) (ws ks os os' : List ℕ) : Type 0 where
+  pub answer : answer_of r ≡ each_call ws
   pub words : os' ≡ after (each_call ws) os (λ n. held_words (tree_runs ws) ks os)

@@ -1,13 +1,12 @@
 // What sound words answer.
 ghost use Rattle.std.specs.Prelude.{◌≡◌, ◌+◌, ◌≤◌, ◌^◌, length};
 ghost use Rattle.model.specs.Runs.{size};
-ghost use Rattle.model.specs.Base.{value};
 ghost use Rattle.tree_words.specs.TreeLayout.{tree_runs, run_in_of};
-ghost use Rattle.tree.specs.Answers.{search_of};
-ghost use Rattle.tree_words.specs.Calls.{run_of, found, overlaps, adjacent, search_runs_of};
+ghost use Rattle.tree.specs.Answers.{found_in};
+ghost use Rattle.tree_words.specs.Calls.{run_of, overlaps, adjacent, search_runs_of};
 ghost use Rattle.tree_words.specs.Nodes.{SoundTree};
 
-use crate::TreeFound;
+use crate::TreeRun;
 use tree_lookup::inner::{neighbour, overlapping};
 use tree_words::inner::{total_at, word};
 
@@ -25,28 +24,28 @@ pub(crate) fn total_of(words: &[u64]) -> u64
 }
 
 // The run of a leaf.
-fn run_at(words: &[u64], at: usize) -> TreeFound
+fn run_at(words: &[u64], at: usize) -> TreeRun
     requires { at + 3 ≤ length words.now }
-    ensures { search_of result ≡ value (found (run_in_of words.now at)) }
+    ensures { run_of result.low result.high ≡ run_in_of words.now at }
 {
-    TreeFound::Run {
+    TreeRun {
         low: words[at],
         high: words[at + 1],
     }
 }
 
 // The least run that overlaps low..high, else the adjacent one with the least low.
-pub(crate) fn search_runs(words: &[u64], low: u64, high: u64) -> TreeFound
+pub(crate) fn search_runs(words: &[u64], low: u64, high: u64) -> Option<TreeRun>
     requires { SoundTree words.now × (1 ≤ low) × (low ≤ high) × (high ≤ 2 ^ 62) }
-    ensures { search_of result ≡ value (search_runs_of (tree_runs words.now) (run_of low high)) }
+    ensures { found_in result ≡ search_runs_of (tree_runs words.now) (run_of low high) }
 {
     let over = overlapping(words, low, high);
     if over != 0 {
-        return run_at(words, over);
+        return Some(run_at(words, over));
     }
     let near = neighbour(words, low, high);
     if near != 0 {
-        return run_at(words, near);
+        return Some(run_at(words, near));
     }
-    TreeFound::Nothing
+    None
 }

@@ -42,9 +42,7 @@ pub(crate) fn answer_each(words: &[u64], numbers: &[u64], answers: &mut [u64])
     ensures { answers.new ≡ held_words (tree_runs words.now) numbers.now answers.old }
 {
     let count = shorter(numbers.len(), answers.len());
-    let mut i = 0;
-    while i < count {
+    for i in 0..count {
         answers[i] = held_word(words, numbers[i]);
-        i += 1;
     }
 }

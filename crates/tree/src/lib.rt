@@ -8,7 +8,8 @@ pub mod inner;
 ghost use Rattle.std.specs.Prelude.{◌≡◌};
 ghost use Rattle.tree_words.specs.Calls.{total_call, holds_call, run_legal_of, search_call, insert_call, delete_call, run_of};
 ghost use Rattle.tree.specs.Each.{EachTrue};
-ghost use Rattle.tree.specs.Answers.{EmptiedTrue, ChangedTrue, total_in, holds_of, search_of};
+ghost use Rattle.tree.specs.Answers.{EmptiedTrue, ChangedTrue, holds_of, search_of};
+ghost use Rattle.model.specs.Returned.{answer_of};
 
 use crate::asking::{search_runs, total_of};
 use crate::each::answer_each;
@@ -17,117 +18,83 @@ use model::{MAX_COUNT, Refusal};
 use path_faults::PathNo;
 use tree_change::inner::{delete_run, insert_run};
 use tree_check::inner::sound_words;
+pub use tree_descent::inner::Visit;
 use tree_lookup::inner::{is_full, is_stored};
 use tree_words::inner::{TREE_WORDS, word};
 
+// A run that a tree holds.
 #[derive(Drop)]
-pub enum TreeEmptied {
-    Emptied,
-    Refused(Refusal),
-}
-
-#[derive(Drop)]
-pub enum TreeTotal {
-    Total(u64),
-    Refused(Refusal),
-}
-
-// Whether a path number is held, with the nodes visited for the answer.
-#[derive(Drop)]
-pub enum TreeHolds {
-    Held(usize),
-    NotHeld(usize),
-    Refused(Refusal),
-}
-
-// The run found.
-#[derive(Drop)]
-pub enum TreeFound {
-    Run { low: u64, high: u64 },
-    Nothing,
-    Refused(Refusal),
-}
-
-// What many questions answer together: the tree's levels, as many as the nodes visited for each answer, or why none is answered.
-#[derive(Drop)]
-pub enum TreeAsked {
-    Levels(usize),
-    Refused(Refusal),
-}
-
-// What insert and delete answer.
-#[derive(Drop)]
-pub enum TreeChanged {
-    Changed,
-    Refused(Refusal),
+pub struct TreeRun {
+    pub low: u64,
+    pub high: u64,
 }
 
 // Empties a tree, of any words.
-pub fn tree_empty(words: &mut [u64]) -> TreeEmptied
+pub fn tree_empty(words: &mut [u64]) -> Result<(), Refusal>
     ensures { EmptiedTrue result words.old words.new }
 {
     if words.len() < TREE_WORDS {
-        return TreeEmptied::Refused(Refusal::TreeLength);
+        return Err(Refusal::TreeLength);
     }
     words[0] = 0;
     words[1] = 0;
     words[2] = 0;
-    TreeEmptied::Emptied
+    Ok(())
 }
 
 // How many numbers a tree holds.
-pub fn tree_total(words: &[u64]) -> TreeTotal
-    ensures { total_in result ≡ total_call words.now }
+pub fn tree_total(words: &[u64]) -> Result<u64, Refusal>
+    ensures { answer_of result ≡ total_call words.now }
 {
     if words.len() < TREE_WORDS {
-        return TreeTotal::Refused(Refusal::TreeLength);
+        return Err(Refusal::TreeLength);
     }
     if !sound_words(words) {
-        return TreeTotal::Refused(Refusal::TreeWords);
+        return Err(Refusal::TreeWords);
     }
     let total = total_of(words);
-    TreeTotal::Total(total)
+    Ok(total)
 }
 
 // Whether a tree holds a path number, with the nodes visited for the answer, root and leaf included.
-pub fn tree_holds(words: &[u64], path: PathNo) -> TreeHolds
+pub fn tree_holds(words: &[u64], path: PathNo) -> Result<Visit, Refusal>
     ensures { holds_of result ≡ holds_call words.now path.0 }
 {
     let number = path.0;
     if words.len() < TREE_WORDS {
-        return TreeHolds::Refused(Refusal::TreeLength);
+        return Err(Refusal::TreeLength);
     }
     if !sound_words(words) {
-        return TreeHolds::Refused(Refusal::TreeWords);
+        return Err(Refusal::TreeWords);
     }
     if number < 1 {
-        return TreeHolds::Refused(Refusal::NoSuchNumber);
+        return Err(Refusal::NoSuchNumber);
     }
     if MAX_COUNT < number {
-        return TreeHolds::Refused(Refusal::NoSuchNumber);
+        return Err(Refusal::NoSuchNumber);
     }
     let v = visit_root(words, number);
-    let visited = v.visited;
-    if v.held {
-        return TreeHolds::Held(visited);
-    }
-    TreeHolds::NotHeld(visited)
+    Ok(v)
 }
 
 // Whether a tree holds each of the numbers, with one check of its words: 1 where it is held, 0 where it is not, 60 where it is no path number. As many
 // numbers are answered as there are places for answers.
-pub fn tree_holds_each(words: &[u64], numbers: &[u64], answers: &mut [u64]) -> TreeAsked
+pub fn tree_holds_each(
+    words: &[u64],
+    numbers: &[u64],
+    answers: &mut [u64],
+) -> Result<usize, Refusal>
     ensures { EachTrue result words.now numbers.now answers.old answers.new }
 {
     if words.len() < TREE_WORDS {
-        return TreeAsked::Refused(Refusal::TreeLength);
+        return Err(Refusal::TreeLength);
     }
     if !sound_words(words) {
-        return TreeAsked::Refused(Refusal::TreeWords);
+        return Err(Refusal::TreeWords);
     }
     answer_each(words, numbers, answers);
     let levels = word(words, 0);
-    TreeAsked::Levels(levels)
+    Ok(levels)
 }
 
 // Whether low..high is a run of path numbers.
@@ -144,57 +111,58 @@ fn run_legal(low: u64, high: u64) -> bool
 }
 
 // The least run that overlaps low..high, else the adjacent one with the least low.
-pub fn tree_search(words: &[u64], low: u64, high: u64) -> TreeFound
+pub fn tree_search(words: &[u64], low: u64, high: u64) -> Result<Option<TreeRun>, Refusal>
     ensures { search_of result ≡ search_call words.now (run_of low high) }
 {
     if words.len() < TREE_WORDS {
-        return TreeFound::Refused(Refusal::TreeLength);
+        return Err(Refusal::TreeLength);
     }
     if !sound_words(words) {
-        return TreeFound::Refused(Refusal::TreeWords);
+        return Err(Refusal::TreeWords);
     }
     if !run_legal(low, high) {
-        return TreeFound::Refused(Refusal::RunRange);
+        return Err(Refusal::RunRange);
     }
-    search_runs(words, low, high)
+    let found = search_runs(words, low, high);
+    Ok(found)
 }
 
 // Inserts the run low..high, merged with the runs that overlap it or are adjacent.
-pub fn tree_insert(words: &mut [u64], low: u64, high: u64) -> TreeChanged
+pub fn tree_insert(words: &mut [u64], low: u64, high: u64) -> Result<(), Refusal>
     ensures { ChangedTrue (insert_call words.old (run_of low high)) result words.old words.new }
 {
     if words.len() < TREE_WORDS {
-        return TreeChanged::Refused(Refusal::TreeLength);
+        return Err(Refusal::TreeLength);
     }
     if !sound_words(words) {
-        return TreeChanged::Refused(Refusal::TreeWords);
+        return Err(Refusal::TreeWords);
     }
     if !run_legal(low, high) {
-        return TreeChanged::Refused(Refusal::RunRange);
+        return Err(Refusal::RunRange);
     }
     if is_full(words, low, high) {
-        return TreeChanged::Refused(Refusal::StoreRuns);
+        return Err(Refusal::StoreRuns);
     }
     insert_run(words, low, high);
-    TreeChanged::Changed
+    Ok(())
 }
 
 // Deletes the stored run low..high.
-pub fn tree_delete(words: &mut [u64], low: u64, high: u64) -> TreeChanged
+pub fn tree_delete(words: &mut [u64], low: u64, high: u64) -> Result<(), Refusal>
     ensures { ChangedTrue (delete_call words.old (run_of low high)) result words.old words.new }
 {
     if words.len() < TREE_WORDS {
-        return TreeChanged::Refused(Refusal::TreeLength);
+        return Err(Refusal::TreeLength);
     }
     if !sound_words(words) {
-        return TreeChanged::Refused(Refusal::TreeWords);
+        return Err(Refusal::TreeWords);
     }
     if !run_legal(low, high) {
-        return TreeChanged::Refused(Refusal::RunRange);
+        return Err(Refusal::RunRange);
     }
     if !is_stored(words, low, high) {
-        return TreeChanged::Refused(Refusal::NoSuchNumber);
+        return Err(Refusal::NoSuchNumber);
     }
     delete_run(words, low, high);
-    TreeChanged::Changed
+    Ok(())
 }

@@ -8,28 +8,24 @@ use Rattle.model.specs.Read.{read_netlist}
 use Rattle.model.specs.Refusals.{refusal_number_of}
 use Rattle.model.specs.Runs.{Run}
 use Rattle.model.specs.Store.{store_words_count, store_runs, store_rules, run_count}
-use Rattle.model.specs.Calls.{store_rule}
+use Rattle.model.specs.Calls.{store_rule, survey_call}
 use Rattle.model.specs.declared.Refusal.{Refusal}
 use Rattle.model.specs.declared.Refusal.TheVariants as why
 use Rattle.model.proofs.AnswerLaws.{not_refused, value_inj, then-first, then-second, steps, checks→}
 use Rattle.model.proofs.ReadLaws.{limits}
-use Rattle.netlist.specs.Answers.{SurveyTrue}
-use Rattle.netlist.specs.declared.SurveyAnswer.TheVariants as survey
-use Rattle.netlist.specs.declared.Surveyed.{Surveyed}
+use Rattle.netlist.specs.Answers.{surveyed_of}
+use Rattle.netlist.specs.declared.NetlistSurvey.{NetlistSurvey}
 use Rattle.netlist.proofs.LoadLaws.{legal-survey, refused-survey, paths-fit}
 use Rattle.run_lists.specs.RunLists.{runs_in_words}
 use Rattle.store_words.specs.Sound.{SoundWords, FewRuns, edge_words}
-use Rattle.store_words.specs.WordAnswers.{check_of}
-use Rattle.store_words.specs.declared.inner.StoreCheck.{StoreCheck}
-use Rattle.store_words.specs.declared.inner.StoreCheck.TheVariants as check
 use Rattle.store_words.proofs.RunPlaceLaws.{edge-words-runs, edge-words-fit}
 use Rattle.store_words.proofs.SoundLaws.{checked_sound, edge-sound, edge_few}
 use Rattle.tree_words.specs.TreeLayout.{tree_words_count, tree_runs}
 use Rattle.tree_words.specs.Calls.{length_rule, Holding}
 use Rattle.tree_words.specs.Nodes.{Sep, SoundTree}
-use Rattle.tree_filling.specs.TreesOfStore.{filled_of, fill_on, fill_call, FilledBy, FillTrue, Fillable, TreesReady}
-use Rattle.tree_filling.specs.declared.FillAnswer.{FillAnswer}
-use Rattle.tree_filling.specs.declared.FillAnswer.TheVariants as fill
+use Rattle.tree_filling.specs.TreesOfStore.{fill_on, fill_call, FilledBy, FillTrue, Fillable, TreesReady}
+use Rattle.std.specs.Prelude.{Result, Ok, Err}
+use Rattle.model.specs.Returned.{answer_of}
 
 -- ---- a refusal leaves the words
 
@@ -42,7 +38,7 @@ as_found call n ws e = record {
   refusal = λ k q. refl;
 }
 
-refused-by : (call : Answer ℕ) (w : Refusal) (store up down : List ℕ) → call ≡ refused (refusal_number_of w) → FilledBy call (fill.Refused w) store up up down down
+refused-by : (call : Answer ℕ) (w : Refusal) (store up down : List ℕ) → call ≡ refused (refusal_number_of w) → FilledBy call (Err w) store up up down down
 refused-by call w store up down e = record {
   answer = sym e;
   on_rising = as_found (call then value (store_runs store rising)) (refusal_number_of w) up (ap (λ (x : Answer ℕ). x then value (store_runs store rising)) e);
@@ -59,12 +55,12 @@ part-runs {store} {part} few e q =
     ∙ ap (λ (l : List ℕ). runs_in_words l 0 (run_count store e)) q
     ∙ edge-words-runs store e
 
-module _ (paths : ℕ) (store : List ℕ) (l : length store ≡ store_words_count) (c : StoreCheck) (checked : check_of c ≡ checks (store_rules paths store)) where
-  pub both-refused : (up down : List ℕ) (w : Refusal) → c ≡ check.Refused w → FilledBy (fill_on paths store) (fill.Refused w) store up up down down
+module _ (paths : ℕ) (store : List ℕ) (l : length store ≡ store_words_count) (c : Result (Unit {0}) Refusal) (checked : answer_of c ≡ checks (store_rules paths store)) where
+  pub both-refused : (up down : List ℕ) (w : Refusal) → c ≡ Err w → FilledBy (fill_on paths store) (Err w) store up up down down
   unfolding fill_on
-  both-refused up down w e = refused-by (fill_on paths store) w store up down (rw (sym checked ∙ ap check_of e) refl)
+  both-refused up down w e = refused-by (fill_on paths store) w store up down (rw (sym checked ∙ ap answer_of e) refl)
 
-  module _ (fits : paths ≤ 2 ^ 62) (k : c ≡ check.Sound) where
+  module _ (fits : paths ≤ 2 ^ 62) (k : c ≡ Ok tt) where
     sound : SoundWords (2 ^ 62) store
     sound = checked_sound paths store c checked l fits k
 
@@ -86,7 +82,7 @@ module _ (paths : ℕ) (store : List ℕ) (l : length store ≡ store_words_coun
 
     taken : fill_on paths store ≡ value paths
     unfolding fill_on
-    taken = rw (sym checked ∙ ap check_of k) refl
+    taken = rw (sym checked ∙ ap answer_of k) refl
 
     leaves : (e : Edge) {part ws ws' : List ℕ} → part ≡ edge_words store e → Holding (value (runs_in_words part 0 (length part / 2))) ws ws'
         → Holding (fill_on paths store then value (store_runs store e)) ws ws'
@@ -98,7 +94,7 @@ module _ (paths : ℕ) (store : List ℕ) (l : length store ≡ store_words_coun
         → Holding (value (runs_in_words partUp 0 (length partUp / 2))) up up'
         → partDown ≡ edge_words store falling
         → Holding (value (runs_in_words partDown 0 (length partDown / 2))) down down'
-        → FilledBy (fill_on paths store) (fill.Filled paths) store up up' down down'
+        → FilledBy (fill_on paths store) (Ok paths) store up up' down down'
     both-filled qu hu qd hd = record { answer = sym taken; on_rising = leaves rising qu hu; on_falling = leaves falling qd hd }
 
 pub ruleset both-cases = (both-refused, few_words, rising-fillable, falling-fillable, both-filled, rules)
@@ -106,38 +102,38 @@ pub ruleset both-cases = (both-refused, few_words, rising-fillable, falling-fill
 -- ---- the call
 
 module _ (netlist store up down : List ℕ) where
-  pub trees-store : (length store ≡ store_words_count → ⊥) → FillTrue (fill.Refused why.StoreLength) netlist store up up down down
+  pub trees-store : (length store ≡ store_words_count → ⊥) → FillTrue (Err why.StoreLength) netlist store up up down down
   unfolding fill_call
   trees-store d = refused-by (fill_call netlist store up down) why.StoreLength store up down (rw (ne_eqb (length store) store_words_count d) refl)
 
   module _ (l : length store ≡ store_words_count) where
-    pub trees-up : length up < tree_words_count → FillTrue (fill.Refused why.TreeLength) netlist store up up down down
+    pub trees-up : length up < tree_words_count → FillTrue (Err why.TreeLength) netlist store up up down down
     unfolding fill_call
     trees-up h =
         refused-by (fill_call netlist store up down) why.TreeLength store up down (rw (eq-eqb (length store) store_words_count l, lt-leb tree_words_count (length up) h) refl)
 
     module _ (p : tree_words_count ≤ length up) where
-      pub trees-down : length down < tree_words_count → FillTrue (fill.Refused why.TreeLength) netlist store up up down down
+      pub trees-down : length down < tree_words_count → FillTrue (Err why.TreeLength) netlist store up up down down
       unfolding fill_call
       trees-down h =
           refused-by (fill_call netlist store up down) why.TreeLength store up down
           (rw (eq-eqb (length store) store_words_count l, le-leb tree_words_count (length up) p, lt-leb tree_words_count (length down) h) refl)
 
-      module _ (q : tree_words_count ≤ length down) (r : Surveyed) (t : SurveyTrue r netlist) where
+      module _ (q : tree_words_count ≤ length down) (r : Result NetlistSurvey Refusal) (t : surveyed_of r ≡ survey_call netlist) where
         passed : fill_call netlist store up down ≡ (read_netlist netlist into λ N. fill_on (path_total N) store)
         unfolding fill_call
         passed = rw (eq-eqb (length store) store_words_count l, le-leb tree_words_count (length up) p, le-leb tree_words_count (length down) q) refl
 
-        pub trees-netlist : (w : Refusal) → r.answer ≡ survey.Refused w → FillTrue (fill.Refused w) netlist store up up down down
+        pub trees-netlist : (w : Refusal) → r ≡ Err w → FillTrue (Err w) netlist store up up down down
         trees-netlist w e =
             refused-by (fill_call netlist store up down) w store up down
-            (passed ∙ rw (refused-survey netlist r.answer t.answer w e) refl)
+            (passed ∙ rw (refused-survey netlist r t w e) refl)
 
-        pub trees-legal : r.answer ≡ survey.Legal → {a : FillAnswer} {up' down' : List ℕ} → FilledBy (fill_on r.survey.total store) a store up up' down down'
+        pub trees-legal : (d : NetlistSurvey) → r ≡ Ok d → {a : (Result ℕ Refusal)} {up' down' : List ℕ} → FilledBy (fill_on d.total store) a store up up' down down'
             → FillTrue a netlist store up up' down down'
-        trees-legal e {a} {up'} {down'} f =
-            let s = legal-survey netlist r.survey r.answer t.answer t.survey e in
-            let call : fill_on r.survey.total store ≡ fill_call netlist store up down =
+        trees-legal d e {a} {up'} {down'} f =
+            let s = legal-survey netlist r t d e in
+            let call : fill_on d.total store ≡ fill_call netlist store up down =
             ap (λ (n : ℕ). fill_on n store) s.total_is ∙ sym (passed ∙ rw s.is_read refl) in
             subst (λ (x : Answer ℕ). FilledBy x a store up up' down down') call f
 
@@ -182,10 +178,10 @@ module _ {call : Answer ℕ} {paths : ℕ} (e : call ≡ value paths) (rs : List
   pub filled_runs : tree_runs ws' ≡ rs
   filled_runs = h.held rs held-call
 
-pub trees-ready : (r : FillAnswer) (netlist store up up' down down' : List ℕ) → FillTrue r netlist store up up' down down' → (paths : ℕ) → r ≡ fill.Filled paths
+pub trees-ready : (r : Result ℕ Refusal) (netlist store up up' down down' : List ℕ) → FillTrue r netlist store up up' down down' → (paths : ℕ) → r ≡ Ok paths
     → TreesReady paths up' down'
 trees-ready r netlist store up up' down down' f paths k =
-    let e : fill_call netlist store up down ≡ value paths = sym f.answer ∙ ap filled_of k in
+    let e : fill_call netlist store up down ≡ value paths = sym f.answer ∙ ap answer_of k in
     let found = found_all netlist store up down e in
     record {
       few = omega (arith, found.total, (limits netlist found.circuit found.is_read).total_fits);

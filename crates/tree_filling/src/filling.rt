@@ -7,10 +7,10 @@ ghost use Rattle.tree_words.specs.TreeLayout.{tree_words_count};
 ghost use Rattle.tree_words.specs.Calls.{Holding};
 ghost use Rattle.tree_filling.specs.TreesOfStore.{FilledBy, fill_on, Fillable};
 
-use crate::FillAnswer;
+use model::Refusal;
 use path_faults::Edge;
+use store_words::inner::check_words;
 use store_words::inner::parts::edge_runs;
-use store_words::inner::{StoreCheck, check_words};
 use tree::tree_empty;
 use tree_change::inner::insert_run;
 
@@ -19,12 +19,11 @@ fn fill(runs: &[u64], words: &mut [u64])
     requires { Fillable runs.now words.old }
     ensures { Holding (value (runs_in_words runs.now 0 (length runs.now / 2))) words.old words.new }
 {
-    tree_empty(words);
+    // The tree has its words, so that emptying it is never refused.
+    let _ = tree_empty(words);
     let count = runs.len() / 2;
-    let mut i = 0;
-    while i < count {
+    for i in 0..count {
         insert_run(words, runs[2 * i], runs[2 * i + 1]);
-        i += 1;
     }
 }
 
@@ -34,20 +33,15 @@ pub(crate) fn fill_both(
     paths: u64,
     rising: &mut [u64],
     falling: &mut [u64],
-) -> FillAnswer
+) -> Result<u64, Refusal>
     requires { (length store.now ≡ store_words_count) × (paths ≤ 2 ^ 62) × (tree_words_count ≤ length rising.old) × (tree_words_count ≤ length falling.old) }
     ensures { FilledBy (fill_on paths store.now) result store.now rising.old rising.new
         falling.old falling.new }
 {
-    let checked = check_words(store, paths);
-    match checked {
-        StoreCheck::Refused(why) => FillAnswer::Refused(why),
-        StoreCheck::Sound => {
-            let up = edge_runs(store, Edge::Rising);
-            fill(up, rising);
-            let down = edge_runs(store, Edge::Falling);
-            fill(down, falling);
-            FillAnswer::Filled(paths)
-        }
-    }
+    check_words(store, paths)?;
+    let up = edge_runs(store, Edge::Rising);
+    fill(up, rising);
+    let down = edge_runs(store, Edge::Falling);
+    fill(down, falling);
+    Ok(paths)
 }

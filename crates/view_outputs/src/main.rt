@@ -15,8 +15,7 @@ use std::fs::File;
 use std::io::Stderr;
 use std::rt::{Env, Files};
 use testfile_argument::store_of_tests;
-use viewer::ViewAnswer;
-use viewer_place_lines::{PlacesAnswer, read_places};
+use viewer_place_lines::read_places;
 use viewer_text::put_view;
 
 fn print_usage(fd: i32) {
@@ -49,8 +48,8 @@ fn print_view(netlist: &[u8], store: &[u64], places: &[u16]) {
     let length = view.length;
     print(STDOUT_FILENO, &text[..length]);
     match answer {
-        ViewAnswer::Refused(why) => print_why(why),
-        ViewAnswer::Written => {}
+        Err(why) => print_why(why),
+        Ok(()) => {}
     }
 }
 
@@ -94,8 +93,8 @@ fn view_listed<R: Env + Files<File = File>>(
     let places = list.places;
     let count = list.count;
     match answer {
-        PlacesAnswer::BadLine(line) => print_bad_line(name, line),
-        PlacesAnswer::Listed => view_tests(rt, stderr, netlist, class, &places[..count]),
+        Err(line) => print_bad_line(name, line),
+        Ok(()) => view_tests(rt, stderr, netlist, class, &places[..count]),
     }
 }
 

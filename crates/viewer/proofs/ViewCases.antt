@@ -19,10 +19,8 @@ use Rattle.viewer_runs.specs.ViewRuns.{both_runs}
 use Rattle.viewer_places.specs.Viewer.{seen, seen_runs, viewer_totals_call, viewer_runs_call, viewer_runs_answer, viewer_runs_store, viewer_fault_call}
 use Rattle.viewer_ranges.specs.Ranges.{most_places}
 use Rattle.viewer.specs.ViewAnswers.{ViewTrue, looked, Looked, LookTrue, asked_on}
-use Rattle.viewer.specs.declared.ViewAnswer.TheVariants as view
-use Rattle.viewer.specs.declared.looking.LookAnswer.{LookAnswer}
-use Rattle.viewer.specs.declared.looking.LookAnswer.TheVariants as look
 use Rattle.viewer.proofs.LookLaws.{totals-as, runs_as, fault-as, look_sound, paths-fit, ranges-sound, own-seen, seen-meets, seen-total}
+use Rattle.std.specs.Prelude.{Result, Ok, Err}
 
 -- A store of another length
 module _ (file ws places : List ℕ) (d : length ws ≡ store_words_count → ⊥) where
@@ -36,23 +34,23 @@ module _ (file ws places : List ℕ) (d : length ws ≡ store_words_count → �
 
 -- a refused call leaves the second store
 view-refused : (w : Refusal) (file ws places second : List ℕ) → viewer_runs_call file ws second places ≡ refused (refusal_number_of w)
-    → ViewTrue (view.Refused w) file ws places second second
+    → ViewTrue (Err w) file ws places second second
 unfolding viewer_runs_answer viewer_runs_store
 view-refused w file ws places second e = record { answer = rw e refl; words = rw e refl }
 
-pub view-short : (file ws places second : List ℕ) → (length ws ≡ store_words_count → ⊥) → ViewTrue (view.Refused why.StoreLength) file ws places second second
+pub view-short : (file ws places second : List ℕ) → (length ws ≡ store_words_count → ⊥) → ViewTrue (Err why.StoreLength) file ws places second second
 unfolding viewer_runs_call
 view-short file ws places second d = view-refused why.StoreLength file ws places second (rw (ne_eqb (length ws) store_words_count d) refl)
 
 pub view-second : (file ws places second : List ℕ) → length ws ≡ store_words_count → (length second ≡ store_words_count → ⊥)
-    → ViewTrue (view.Refused why.StoreLength) file ws places second second
+    → ViewTrue (Err why.StoreLength) file ws places second second
 unfolding viewer_runs_call
 view-second file ws places second l d =
     view-refused why.StoreLength file ws places second (rw (eq-eqb (length ws) store_words_count l, ne_eqb (length second) store_words_count d) refl)
 
-module _ (file ws places words : List ℕ) (l : length ws ≡ store_words_count) (a : LookAnswer) (t : LookTrue a file ws places words) where
+module _ (file ws places words : List ℕ) (l : length ws ≡ store_words_count) (a : Result (ℕ × ℕ) Refusal) (t : LookTrue a file ws places words) where
   -- What looking refuses
-  module _ (w : Refusal) (e : a ≡ look.Refused w) where
+  module _ (w : Refusal) (e : a ≡ Err w) where
     no : looked file ws places ≡ refused (refusal_number_of w)
     no = rw e at t
 
@@ -62,10 +60,10 @@ module _ (file ws places words : List ℕ) (l : length ws ≡ store_words_count)
     pub fault-refused : (fault : ℕ) → refused (refusal_number_of w) ≡ viewer_fault_call file ws places fault
     fault-refused fault = sym (fault-as file ws places l fault ∙ rw no refl)
 
-    pub runs-refused : (second : List ℕ) → length second ≡ store_words_count → ViewTrue (view.Refused w) file ws places second second
+    pub runs-refused : (second : List ℕ) → length second ≡ store_words_count → ViewTrue (Err w) file ws places second second
     runs-refused second m = view-refused w file ws places second (runs_as file ws places l second m ∙ rw no refl)
 
-  module _ {n total : ℕ} (e : a ≡ look.Seen n total) where
+  module _ {n total : ℕ} (e : a ≡ Ok (n, total)) where
     is : Looked file ws places words n total
     is = rw e at t
 
@@ -137,14 +135,14 @@ module _ (file ws places words : List ℕ) (l : length ws ≡ store_words_count)
           runs_as file ws places l second m ∙ rw is.passes
           (ap₂ (λ (x y : ℕ). checks ((51, leb x max_runs && leb y max_runs) ∷ []) then value (by_edge (seen_runs N places ws))) up-many down-many)
 
-      pub rising-over : max_runs < r → ViewTrue (view.Refused why.StoreRuns) file ws places second second
+      pub rising-over : max_runs < r → ViewTrue (Err why.StoreRuns) file ws places second second
       rising-over h = view-refused why.StoreRuns file ws places second (call ∙ rw (lt-leb r max_runs h) refl)
 
-      pub falling-over : max_runs < f → ViewTrue (view.Refused why.StoreRuns) file ws places second second
+      pub falling-over : max_runs < f → ViewTrue (Err why.StoreRuns) file ws places second second
       falling-over h = view-refused why.StoreRuns file ws places second (call ∙ rw (lt-leb f max_runs h, and-false (leb r max_runs)) refl)
 
       pub view-written : {second' : List ℕ} {tests : ℕ} → r ≤ max_runs → f ≤ max_runs → tests ≡ tests_taken_of ws
-          → second' ≡ store_of tests (both_runs (runs_in_words up 0 r) (runs_in_words down 0 f)) → ViewTrue view.Written file ws places second second'
+          → second' ≡ store_of tests (both_runs (runs_in_words up 0 r) (runs_in_words down 0 f)) → ViewTrue (Ok tt) file ws places second second'
       unfolding viewer_runs_answer viewer_runs_store
       view-written {second'} {tests} h g p q =
           let taken : viewer_runs_call file ws second places ≡ value (by_edge (seen_runs N places ws)) =

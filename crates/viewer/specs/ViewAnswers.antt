@@ -12,19 +12,13 @@ use Rattle.netlist.specs.declared.inner.Shape.{Shape}
 use Rattle.run_lists.specs.RunLists.{runs_in_words}
 use Rattle.viewer_places.specs.Viewer.{places_rule, seen, viewer_runs_answer, viewer_runs_store}
 use Rattle.viewer_ranges.specs.Ranges.{most_places}
-use Rattle.viewer.specs.declared.ViewAnswer.{ViewAnswer}
-use Rattle.viewer.specs.declared.ViewAnswer.TheVariants as view
-use Rattle.viewer.specs.declared.looking.LookAnswer.{LookAnswer}
-use Rattle.viewer.specs.declared.looking.LookAnswer.TheVariants as look
-
--- the number of a refusal, or that there is none
-abbrev pub view_of : ViewAnswer → Answer (Unit {0})
-view_of view.Written = value tt
-view_of (view.Refused w) = refused (refusal_number_of w)
+use Rattle.std.specs.Prelude.{Result, Ok, Err}
+use Rattle.model.specs.declared.Refusal.{Refusal}
+use Rattle.model.specs.Returned.{answer_of}
 
 -- Runs for a viewer: the answer and the words of the second store are those of the definition
-pub record ViewTrue (r : ViewAnswer) (netlist ws places second second' : List ℕ) : Type 0 where
-  pub answer : view_of r ≡ viewer_runs_answer netlist ws second places
+pub record ViewTrue (r : Result (Unit {0}) Refusal) (netlist ws places second second' : List ℕ) : Type 0 where
+  pub answer : answer_of r ≡ viewer_runs_answer netlist ws second places
   pub words : second' ≡ viewer_runs_store netlist ws second places
 
 -- the rules of a store's words and of the places
@@ -51,9 +45,9 @@ pub record Looked (file ws places words : List ℕ) (n total : ℕ) : Type 0 whe
   pub runs : runs_in_words words 0 n ≡ runs_among (seen circuit places) (path_total circuit)
   pub few : n ≤ most_places
 
-abbrev pub LookTrue : LookAnswer → List ℕ → List ℕ → List ℕ → List ℕ → Type 0
-LookTrue (look.Seen n total) file ws places words = Looked file ws places words n total
-LookTrue (look.Refused w) file ws places words = looked file ws places ≡ refused (refusal_number_of w)
+abbrev pub LookTrue : Result (ℕ × ℕ) Refusal → List ℕ → List ℕ → List ℕ → List ℕ → Type 0
+LookTrue (Ok (n, total)) file ws places words = Looked file ws places words n total
+LookTrue (Err w) file ws places words = looked file ws places ≡ refused (refusal_number_of w)
 
 -- the question for a fault of path numbers 1 to `paths`, of which those in `own` may be asked
 unfoldable pub asked_on : (ℕ → Bool) → List ℕ → ℕ → ℕ → Answer Bool

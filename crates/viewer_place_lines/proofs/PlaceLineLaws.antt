@@ -5,7 +5,7 @@ use Rattle.model.specs.Base.{all_of}
 use Rattle.bench_lines.proofs.BytePartLaws.{drop-next}
 use Rattle.viewer_place_lines.specs.Places.{is_digit_of, number_from, number_of, is_place_line}
 use Rattle.viewer_place_lines.specs.PlaceReading.{LineTrue}
-use Rattle.viewer_place_lines.specs.declared.reading.PlaceLine.TheVariants as line
+use Rattle.std.specs.Prelude.{Some, None}
 
 -- more digits make no smaller number
 grows : (n : ℕ) (bs : List ℕ) → n ≤ number_from n bs
@@ -13,7 +13,7 @@ unfolding number_from
 grows n [] = omega arith
 grows n (b ∷ bs) = omega (arith, grows (10 * n + (b - 0x30)) bs)
 
-pub none-there : (bytes : List ℕ) → length bytes ≡ 0 → LineTrue line.Other bytes
+pub none-there : (bytes : List ℕ) → length bytes ≡ 0 → LineTrue None bytes
 unfolding is_place_line
 none-there bytes h = rw (lt-leb 1 (length bytes) (omega arith)) refl
 
@@ -28,11 +28,11 @@ module _ (bytes : List ℕ) where
   pub number-start : NumberSoFar 0 0
   number-start = record { digits = refl; number = refl; few = omega arith; inside = omega arith }
 
-  no_digit : all_of is_digit_of bytes ≡ false → LineTrue line.Other bytes
+  no_digit : all_of is_digit_of bytes ≡ false → LineTrue None bytes
   unfolding is_place_line
   no_digit e = rw (e, and-false (leb 1 (length bytes))) refl
 
-  too_large : 65535 < number_of bytes → LineTrue line.Other bytes
+  too_large : 65535 < number_of bytes → LineTrue None bytes
   unfolding is_place_line
   too_large h = rw (lt-leb (number_of bytes) 65535 h) (and-false (leb 1 (length bytes) && all_of is_digit_of bytes))
 
@@ -44,17 +44,17 @@ module _ (bytes : List ℕ) where
       digits-next : all_of is_digit_of bytes ≡ is_digit_of (get_or bytes i 0) && all_of is_digit_of (drop (i + 1) bytes)
       digits-next = s.digits ∙ ap (all_of is_digit_of) (drop-next i bytes h)
 
-      pub digit_low : get_or bytes i 0 < 0x30 → LineTrue line.Other bytes
+      pub digit_low : get_or bytes i 0 < 0x30 → LineTrue None bytes
       digit_low l = no_digit (digits-next ∙ rw (lt-leb 0x30 (get_or bytes i 0) l) refl)
 
-      pub digit-high : 0x39 < get_or bytes i 0 → LineTrue line.Other bytes
+      pub digit-high : 0x39 < get_or bytes i 0 → LineTrue None bytes
       digit-high l = no_digit (digits-next ∙ rw (lt-leb (get_or bytes i 0) 0x39 l, and-false (leb 0x30 (get_or bytes i 0))) refl)
 
       number-next : number_of bytes ≡ number_from (10 * n + (get_or bytes i 0 - 0x30)) (drop (i + 1) bytes)
       unfolding number_from
       number-next = s.number ∙ ap (number_from n) (drop-next i bytes h)
 
-      pub number-over : 65535 < 10 * n + (get_or bytes i 0 - 0x30) → LineTrue line.Other bytes
+      pub number-over : 65535 < 10 * n + (get_or bytes i 0 - 0x30) → LineTrue None bytes
       number-over l = too_large (omega (arith, number-next, grows (10 * n + (get_or bytes i 0 - 0x30)) (drop (i + 1) bytes)))
 
       pub number-again : 0x30 ≤ get_or bytes i 0 → get_or bytes i 0 ≤ 0x39 → 10 * n + (get_or bytes i 0 - 0x30) ≤ 65535
@@ -66,7 +66,7 @@ module _ (bytes : List ℕ) where
         inside = omega arith;
       }
 
-    pub number-there : (length bytes ≡ 0 → ⊥) → length bytes ≤ i → LineTrue (line.Place n) bytes
+    pub number-there : (length bytes ≡ 0 → ⊥) → length bytes ≤ i → LineTrue (Some n) bytes
     unfolding is_place_line number_from
     number-there some h =
         let none : drop i bytes ≡ [] = drop_of_length-le bytes {i = i} h in

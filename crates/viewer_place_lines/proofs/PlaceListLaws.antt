@@ -9,10 +9,8 @@ use Rattle.bench_lines.specs.LineReading.{part, LineIs}
 use Rattle.bench_lines.specs.declared.inner.lines.LineEnds.{LineEnds}
 use Rattle.viewer_place_lines.specs.Places.{number_of, is_place_line, listed, bad_line, places_from, places_in, most_kept, kept}
 use Rattle.viewer_place_lines.specs.PlaceReading.{LineTrue, places_of, ListFits, told_by}
-use Rattle.viewer_place_lines.specs.declared.reading.PlaceLine.{PlaceLine}
-use Rattle.viewer_place_lines.specs.declared.reading.PlaceLine.TheVariants as line
 use Rattle.viewer_place_lines.specs.declared.PlaceList.{PlaceList}
-use Rattle.viewer_place_lines.specs.declared.PlacesAnswer.TheVariants as answer
+use Rattle.std.specs.Prelude.{Option, Ok, Err, Some, None}
 
 -- A place more in the words of a list
 module _ (l : PlaceList) (place : ℕ) (fits : ListFits l) where
@@ -74,7 +72,7 @@ module _ (text : List ℕ) where
     pub places-counted : IsPrefixLen list.count list.places
     places-counted = (omega (arith, s.fits), sym (length-take-le list.count list.places (omega (arith, s.fits))))
 
-    pub places-end : length text ≤ at → told_by answer.Listed list ≡ kept (places_in text)
+    pub places-end : length text ≤ at → told_by (Ok tt) list ≡ kept (places_in text)
     unfolding lines_from last_line_of places_from
     places-end h =
         let none : drop at text ≡ [] = drop_of_length-le text {i = at} h in
@@ -85,15 +83,15 @@ module _ (text : List ℕ) where
       next-line : places_in text ≡ places_from (before + 1) s.places (part at ends.stop text ∷ lines_from [] (drop ends.next text))
       next-line = s.left ∙ ap (places_from (before + 1) s.places) e.lines
 
-      pub places-bad : (r : PlaceLine) → LineTrue r (part at ends.stop text) → r ≡ line.Other → told_by (answer.BadLine (before + 1)) list ≡ kept (places_in text)
+      pub places-bad : (r : Option ℕ) → LineTrue r (part at ends.stop text) → r ≡ None → told_by (Err (before + 1)) list ≡ kept (places_in text)
       places-bad r t q =
           let no : is_place_line (part at ends.stop text) ≡ false = rw q at t in
           sym (ap kept (next-line ∙ line-bad (before + 1) s.places (part at ends.stop text) (lines_from [] (drop ends.next text)) no))
 
-      pub places-again : (r : PlaceLine) → LineTrue r (part at ends.stop text) → {place : ℕ} {list' : PlaceList} → r ≡ line.Place place
+      pub places-again : (r : Option ℕ) → LineTrue r (part at ends.stop text) → {place : ℕ} {list' : PlaceList} → r ≡ Some place
           → (places_of list' ≡ take most_kept (places_of list ++ (place ∷ []))) × ListFits list' → PlacesSoFar list' (before + 1) ends.next
       places-again r t {place} {list'} q k =
-          let there : LineTrue (line.Place place) (part at ends.stop text) = rw q at t in
+          let there : LineTrue (Some place) (part at ends.stop text) = rw q at t in
           let number : number_of (part at ends.stop text) ≡ place = sym there.number in
           record {
             places = s.places ++ (place ∷ []);

@@ -8,7 +8,7 @@ ghost use Rattle.io.specs.Counts.{IsPrefixLen};
 ghost use Rattle.viewer_place_lines.specs.Places.{places_in, kept};
 ghost use Rattle.viewer_place_lines.specs.PlaceReading.{told_by};
 
-use crate::reading::{PlaceLine, keep, no_places, place_in};
+use crate::reading::{keep, no_places, place_in};
 use bench_lines::inner::lines::next_line;
 
 // The first places of a text and their number. One more is kept than any netlist has outputs.
@@ -18,17 +18,10 @@ pub struct PlaceList {
     pub count: usize,
 }
 
-// Whether each line of a text is a place, or the number, counted from 1, of the first that is none.
-#[derive(Drop)]
-pub enum PlacesAnswer {
-    Listed,
-    BadLine(usize),
-}
-
 // A text that was read.
 #[derive(Drop)]
 pub struct PlacesRead {
-    pub answer: PlacesAnswer,
+    pub answer: Result<(), usize>,
     pub list: PlaceList,
 }
 
@@ -45,13 +38,13 @@ pub fn read_places(text: &[u8]) -> PlacesRead
         let stop = ends.stop;
         let line = place_in(&text[at..stop]);
         match line {
-            PlaceLine::Other => {
+            None => {
                 return PlacesRead {
-                    answer: PlacesAnswer::BadLine(before + 1),
+                    answer: Err(before + 1),
                     list,
                 };
             }
-            PlaceLine::Place(place) => {
+            Some(place) => {
                 list = keep(list, place);
             }
         }
@@ -59,7 +52,7 @@ pub fn read_places(text: &[u8]) -> PlacesRead
         before += 1;
     }
     PlacesRead {
-        answer: PlacesAnswer::Listed,
+        answer: Ok(()),
         list,
     }
 }

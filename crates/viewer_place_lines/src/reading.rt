@@ -11,37 +11,28 @@ const MAX_PLACE: u32 = 65535;
 // The places that are kept.
 const MOST_KEPT: usize = 65;
 
-// What a line says.
-#[derive(Drop)]
-pub(crate) enum PlaceLine {
-    Place(u16),
-    Other,
-}
-
 // The place on a line: digits alone, at least one.
-pub(crate) fn place_in(line: &[u8]) -> PlaceLine
+pub(crate) fn place_in(line: &[u8]) -> Option<u16>
     ensures { LineTrue result line.now }
 {
     if line.len() == 0 {
-        return PlaceLine::Other;
+        return None;
     }
     let mut number: u32 = 0;
-    let mut i = 0;
-    while i < line.len() {
-        let byte = line[i];
+    for byte in line {
+        let byte = *byte;
         if byte < b'0' {
-            return PlaceLine::Other;
+            return None;
         }
         if b'9' < byte {
-            return PlaceLine::Other;
+            return None;
         }
         number = 10 * number + ((byte - b'0') as u32);
         if MAX_PLACE < number {
-            return PlaceLine::Other;
+            return None;
         }
-        i += 1;
     }
-    PlaceLine::Place(number as u16)
+    Some(number as u16)
 }
 
 // A list without places.

@@ -1,5 +1,5 @@
 -- A viewer's answers come from the inputs from which his outputs can be reached, and from no other.
-use Rattle.model.proofs.Prelude.{ℕ, ◌≤◌, ◌+◌, ◌*◌, suc, ◌≡◌, ◌∙◌, ap, refl, sym, ap₂, ⊎_elim, true, Bool, false, ◌&&◌, ◌||◌, List, [], ◌∷◌, ◌++◌}
+use Rattle.model.proofs.Prelude.{ℕ, ◌≤◌, ◌*◌, suc, ◌≡◌, ◌∙◌, ap, refl, sym, ap₂, ⊎_elim, true, Bool, false, ◌&&◌, ◌||◌, List, [], ◌∷◌, ◌++◌}
 use Rattle.model.proofs.Prelude.{length, leb, T, leb→le, arith}
 use Rattle.model.specs.Base.{Answer, refused, value, ◌into◌, ◌then◌, Rule, checks, passes, after}
 use Rattle.model.specs.Netlist.{Netlist, path_total, output_net}

@@ -9,10 +9,9 @@ pub fn places_fit(places: &[u16], outputs: usize) -> bool
     if places.len() < 1 {
         return false;
     }
-    let mut i = 0;
     let mut least: usize = 0;
-    while i < places.len() {
-        let place = places[i] as usize;
+    for place in places {
+        let place = *place as usize;
         if place < least {
             return false;
         }
@@ -20,7 +19,6 @@ pub fn places_fit(places: &[u16], outputs: usize) -> bool
             return false;
         }
         least = place + 1;
-        i += 1;
     }
     true
 }

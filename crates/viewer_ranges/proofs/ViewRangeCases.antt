@@ -16,12 +16,11 @@ use Rattle.path_step.proofs.OutputPicks.{counts-before}
 use Rattle.path_step.proofs.WalkTableLaws.{outputs-before, output-counts}
 use Rattle.run_lists.specs.RunLists.{add_run, add_runs, runs_in_words}
 use Rattle.run_lists.specs.Answers.{Adds, Room}
-use Rattle.run_lists.specs.declared.inner.Added.{Added}
-use Rattle.run_lists.specs.declared.inner.Added.TheVariants.{Count, Full}
 use Rattle.run_union.proofs.Adding.{Adding, as_rest, answer-over, adding-start, adding-length, adding-done, part-full, part-more, adds-count}
 use Rattle.viewer_places.specs.Viewer.{ascending_places, seen}
 use Rattle.viewer_ranges.specs.Ranges.{most_places, range, ranges, Viewable}
 use Rattle.viewer_ranges.proofs.ViewRangeLaws.{range-some, range_none, total-few, ranges-seen}
+use Rattle.std.specs.Prelude.{Option, Some, None}
 
 -- One range
 module _ (part : List ℕ) (place inputs : ℕ) (cs : List ℕ) where
@@ -32,12 +31,12 @@ module _ (part : List ℕ) (place inputs : ℕ) (cs : List ℕ) where
   sum-fewer h = omega (arith, (counts-before part (place + 1) inputs cs place (omega arith)).1)
 
 module _ (ws : List ℕ) (n : ℕ) (room : Room ws 0 n most_places) {b l : ℕ} {before last : ℕ} (eb : before ≡ b) (el : last ≡ l) where
-  pub nothing-added : last ≤ before → Adds ws ws 0 most_places (add_runs (runs_in_words ws 0 n) (range b l)) (Count n)
+  pub nothing-added : last ≤ before → Adds ws ws 0 most_places (add_runs (runs_in_words ws 0 n) (range b l)) (Some n)
   nothing-added h =
-      subst (λ (s : List Run). Adds ws ws 0 most_places (add_runs (runs_in_words ws 0 n) s) (Count n)) (sym (range_none b l (omega arith)))
+      subst (λ (s : List Run). Adds ws ws 0 most_places (add_runs (runs_in_words ws 0 n) s) (Some n)) (sym (range_none b l (omega arith)))
       (adding-done ws ws 0 most_places n (runs_in_words ws 0 n) (adding-start ws 0 most_places n [] room.fits))
 
-  pub range-added : (ws' : List ℕ) (r : Added) → before < last → Adds ws ws' 0 most_places (add_run (runs_in_words ws 0 n) (run (before + 1) last)) r
+  pub range-added : (ws' : List ℕ) (r : Option ℕ) → before < last → Adds ws ws' 0 most_places (add_run (runs_in_words ws 0 n) (run (before + 1) last)) r
       → Adds ws ws' 0 most_places (add_runs (runs_in_words ws 0 n) (range b l)) r
   range-added ws' r h d =
       subst (λ (s : List Run). Adds ws ws' 0 most_places (add_runs (runs_in_words ws 0 n) s) r)
@@ -107,7 +106,7 @@ module _ {file cs : List ℕ} {shape : Shape} {places part : List ℕ} where
       ended =
           let none : ranges N (drop i places) ≡ [] = ap (ranges N) (drop_of_length-le places {i = i} h) in
           let d = adding-done ws₀ ws 0 most_places n total (as_rest none v.adding) in
-          let e = adds-count ws₀ ws 0 most_places n total (Count n) v.room refl d in
+          let e = adds-count ws₀ ws 0 most_places n total (Some n) v.room refl d in
           (e.1, e.2)
 
       pub viewing_end : (M : Netlist) → read_netlist file ≡ value M → runs_in_words ws 0 n ≡ runs_among (seen M places) (path_total M)
@@ -144,7 +143,7 @@ module _ {file cs : List ℕ} {shape : Shape} {places part : List ℕ} where
       pub place-small : sum_to (place + 1) ≤ 2 ^ 62
       place-small = omega (arith, (sum_is (place + 1) (omega (arith, there))).1, (limits file N v.known.tables.legal).total_fits)
 
-      module _ {ws' : List ℕ} {q : Added} (d : Adds ws ws' 0 most_places (add_runs (runs_in_words ws 0 n) (range (sum_to place) (sum_to (place + 1)))) q) where
+      module _ {ws' : List ℕ} {q : (Option ℕ)} (d : Adds ws ws' 0 most_places (add_runs (runs_in_words ws 0 n) (range (sum_to place) (sum_to (place + 1)))) q) where
         abbrev piece : List Run
         piece = range (sum_to place) (sum_to (place + 1))
 
@@ -161,18 +160,18 @@ module _ {file cs : List ℕ} {shape : Shape} {places part : List ℕ} where
         now : Adding ws₀ ws 0 most_places n (piece ++ after) total
         now = as_rest split v.adding
 
-        never : q ≡ Full → ⊥
+        never : q ≡ None → ⊥
         never e =
             let f = part-full ws₀ ws 0 most_places n total ws' piece after now q e d in
             omega (arith, answer-over most_places total f.answers, total-fits v.known)
 
-        pub full_runs : (c : ℕ) → q ≡ Full → (M : Netlist) → read_netlist file ≡ value M → runs_in_words ws' 0 c ≡ runs_among (seen M places) (path_total M)
+        pub full_runs : (c : ℕ) → q ≡ None → (M : Netlist) → read_netlist file ≡ value M → runs_in_words ws' 0 c ≡ runs_among (seen M places) (path_total M)
         full_runs c e M r = absurd (never e)
 
-        pub full-few : (c : ℕ) → q ≡ Full → c ≤ most_places
+        pub full-few : (c : ℕ) → q ≡ None → c ≤ most_places
         full-few c e = absurd (never e)
 
-        pub viewing_next : {c : ℕ} → q ≡ Count c → Viewing file cs shape places part ws₀ ws' (i + 1) c
+        pub viewing_next : {c : ℕ} → q ≡ Some c → Viewing file cs shape places part ws₀ ws' (i + 1) c
         viewing_next {c} e = record {
           known = v.known;
           part_is = v.part_is;

@@ -13,7 +13,6 @@ ghost use Rattle.viewer_ranges.specs.Ranges.{most_places, range, Viewable};
 use netlist::inner::{Shape, outputs_part};
 use path_step::inner::outputs::outputs_before;
 use record_bytes::inner::wide_word;
-use run_lists::inner::Added;
 use run_union::inner::append;
 
 // The most places of a viewer, one for each output, and the most ranges.
@@ -27,7 +26,7 @@ fn add_range(
     place: usize,
     words: &mut [u64],
     count: usize,
-) -> Added
+) -> Option<usize>
     requires records_of_outputs { RecordsOfOutputs part.now (place + 1) × (sum_of (output_counts_in part.now (place + 1) inputs counts.now) ≤ 2 ^ 62) }
     requires room { Room words.old 0 count most_places }
     ensures { Adds words.old words.new 0 most_places (add_runs (runs_in_words words.old 0 count)
@@ -37,7 +36,7 @@ fn add_range(
     let before = outputs_before(part, counts, inputs, place);
     let last = outputs_before(part, counts, inputs, place + 1);
     if last <= before {
-        return Added::Count(count);
+        return Some(count);
     }
     append(words, 0, count, MOST_PLACES, before + 1, last)
 }
@@ -55,15 +54,13 @@ pub fn view_ranges(
         → runs_in_words words.new 0 result ≡ runs_among (seen N places.now) (path_total N)) × (result ≤ most_places) }
 {
     let part = outputs_part(netlist, shape.outputs);
-    let mut i = 0;
     let mut count = 0;
-    while i < places.len() {
+    for i in 0..places.len() {
         let place = wide_word(places[i]);
-        let Added::Count(more) = add_range(part, counts, shape.inputs, place, words, count) else {
+        let Some(more) = add_range(part, counts, shape.inputs, place, words, count) else {
             return count;
         };
         count = more;
-        i += 1;
     }
     count
 }

@@ -6,12 +6,12 @@ use Rattle.model.specs.Runs.{Run}
 use Rattle.model.specs.Store.{ByEdge, empty_store}
 use Rattle.model.specs.Refusals.{refusal_number_of}
 use Rattle.viewer_places.specs.Viewer.{viewer_totals_call, viewer_runs_call}
-use Rattle.viewer.specs.declared.ViewAnswer.{ViewAnswer}
-use Rattle.viewer.specs.declared.ViewAnswer.TheVariants as view
 use Rattle.text_buffer.specs.Written.{Written, in_room}
 use Rattle.listing_lines.specs.ListingLines.{numbered, refused_line_of}
 use Rattle.listing_text.specs.Listing.{rising_word, falling_word, rising_letter, falling_letter, run_lines, store_lines}
 use Rattle.listing_text.specs.StoreText.{out_bytes}
+use Rattle.std.specs.Prelude.{Result, Ok, Err}
+use Rattle.model.specs.declared.Refusal.{Refusal}
 
 -- `R low high` for each rising run, `F low high` for each falling one, then the totals `rising` and `falling`
 unfoldable pub view_lines : ByEdge (List Run) → ByEdge ℕ → List ℕ
@@ -32,9 +32,9 @@ unfoldable pub view_text : List ℕ → List ℕ → List ℕ → List ℕ
 view_text netlist ws places = shown (viewer_runs_call netlist ws empty_store places) (viewer_totals_call netlist ws places)
 
 -- the lines of an answer and of the second store that it left
-unfoldable pub answer_text : ViewAnswer → List ℕ → List ℕ
-answer_text view.Written second = store_lines second
-answer_text (view.Refused w) second = refused_line_of (refusal_number_of w)
+unfoldable pub answer_text : Result (Unit {0}) Refusal → List ℕ → List ℕ
+answer_text (Ok tt) second = store_lines second
+answer_text (Err w) second = refused_line_of (refusal_number_of w)
 
 -- A text at the start of a buffer and nothing else changed; nothing at all in one that is too short
 pub record Shown (out out' text : List ℕ) (n : ℕ) : Type 0 where

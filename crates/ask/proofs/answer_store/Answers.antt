@@ -5,5 +5,5 @@ use Rattle.ask.proofs.answer_store.Goals as goal
 
 pub answer_input-requires : goal.answer_input-requires
 answer_input-requires c =
-    let trees = trees-ready _ _ _ _ _ _ _ c.fill_trees-filled.ensures _ c.in-Filled.is in
+    let trees = trees-ready _ _ _ _ _ _ _ c.fill_trees-filled.ensures _ c.in-Ok.is in
     (trees, omega (arith, c.no_questions-space.ensures), omega (arith, c.large_buffer-out.ensures))

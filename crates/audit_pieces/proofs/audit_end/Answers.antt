@@ -5,8 +5,8 @@ use Rattle.audit_pieces.proofs.audit_end.Goals as goal
 pub returns-then-store-ne-STORE_WORDS : goal.returns-then-store-ne-STORE_WORDS
 returns-then-store-ne-STORE_WORDS c = search call-end-cases
 
-pub returns-in-Accepted : goal.returns-in-Accepted
-returns-in-Accepted c = search call-end-cases
+pub returns-in-Ok : goal.returns-in-Ok
+returns-in-Ok c = search call-end-cases
 
-pub returns-in-Refused : goal.returns-in-Refused
-returns-in-Refused c = search call-end-cases
+pub returns-in-Err : goal.returns-in-Err
+returns-in-Err c = search call-end-cases

@@ -15,10 +15,10 @@ returns-then-not-known c = search call-piece-cases
 pub piece_on-requires : goal.piece_on-requires
 piece_on-requires c = search call-piece-cases
 
-pub returns-in-Refused : goal.returns-in-Refused
-returns-in-Refused c = search call-piece-cases
+pub returns-in-Err : goal.returns-in-Err
+returns-in-Err c = search call-piece-cases
 
 pub returns-else-not-known : goal.returns-else-not-known
 returns-else-not-known c =
-    piece-done _ _ _ _ _ (omega arith) (omega arith) _ c.load_by_value-loaded.ensures c.in-Legal.is _ _ _ _ c.known_class-known.ensures (ap not c.if-not-known.false)
+    piece-done _ _ _ _ _ (omega arith) (omega arith) _ c.load_by_value-legal.ensures _ c.in-Ok.is _ _ _ _ c.known_class-known.ensures (ap not c.if-not-known.false)
     c.piece_on.ensures

@@ -6,8 +6,8 @@ use Rattle.audit_pieces.proofs.end_on.Goals as goal
 pub end_legal-requires : goal.end_legal-requires
 end_legal-requires c = (search Stage-cases, search Stage-cases, search rules)
 
-pub returns-in-Refused : goal.returns-in-Refused
-returns-in-Refused c = search Stage-cases
+pub returns-in-Err : goal.returns-in-Err
+returns-in-Err c = search Stage-cases
 
-pub returns-in-Legal : goal.returns-in-Legal
-returns-in-Legal c = search Stage-cases
+pub returns-in-Ok : goal.returns-in-Ok
+returns-in-Ok c = search Stage-cases

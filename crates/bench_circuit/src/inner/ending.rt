@@ -3,18 +3,11 @@ ghost use Rattle.std.specs.Prelude.{◌≡◌, ◌*◌, ◌≤◌, length};
 ghost use Rattle.bench_names.specs.NameNets.{NamesRoom};
 ghost use Rattle.bench_circuit.specs.Ending.{pairs_known, OutputTold, LineTold, TextHeld, EndTrue};
 
-use crate::inner::judging::NameCounts;
+use crate::inner::judging::{LineRefusal, NameCounts};
 use bench_lines::inner::lines::next_line;
 use bench_lines::inner::statements::{LineStatement, read_statement};
 use bench_names::inner::{net_at, net_of_key};
 use model::Refusal;
-
-// Whether a text is sound at its end; or why not, and the line that is refused, 0 where it is no line.
-#[derive(Drop)]
-pub enum EndAnswer {
-    Sound,
-    Refused { why: Refusal, line: usize },
-}
 
 // Whether the names of all outputs are defined.
 fn outputs_known(
@@ -31,17 +24,13 @@ fn outputs_known(
         outputs.now output_count 0 }
 {
     let nets = input_count + gate_count;
-    let mut left = output_count;
-    let mut at: usize = 0;
-    while 0 < left {
-        let low = outputs[at];
-        let high = outputs[at + 1];
+    for k in 0..output_count {
+        let low = outputs[2 * k];
+        let high = outputs[2 * k + 1];
         let net = net_of_key(low, high, inputs, input_count, gates, gate_count);
         if nets <= net {
             return false;
         }
-        at += 2;
-        left -= 1;
     }
     true
 }
@@ -106,7 +95,7 @@ pub fn check_end(
     gates: &[u64],
     outputs: &[u64],
     counts: NameCounts,
-) -> EndAnswer
+) -> Result<(), LineRefusal>
     requires { TextHeld text.now inputs.now gates.now outputs.now counts }
     ensures { EndTrue result text.now inputs.now gates.now outputs.now
         counts }
@@ -117,22 +106,22 @@ pub fn check_end(
     let known = outputs_known(inputs, i, gates, g, outputs, o);
     if !known {
         let line = undefined_line(text, inputs, i, gates, g);
-        return EndAnswer::Refused {
+        return Err(LineRefusal {
             why: Refusal::BenchName,
             line,
-        };
+        });
     }
     if i < 1 {
-        return EndAnswer::Refused {
+        return Err(LineRefusal {
             why: Refusal::BenchCount,
             line: 0,
-        };
+        });
     }
     if o < 1 {
-        return EndAnswer::Refused {
+        return Err(LineRefusal {
             why: Refusal::BenchCount,
             line: 0,
-        };
+        });
     }
-    EndAnswer::Sound
+    Ok(())
 }

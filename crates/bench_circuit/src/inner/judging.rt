@@ -20,23 +20,11 @@ pub struct NameCounts {
     pub outputs: usize,
 }
 
-#[derive(Drop)]
-pub enum NameAnswer {
-    Added,
-    Refused(Refusal),
-}
-
-#[derive(Drop)]
-pub enum LineAnswer {
-    Taken(NameCounts),
-    Refused(Refusal),
-}
-
 // The lines of a text: how many names they define, or why the first bad one is refused, and its number from 1.
 #[derive(Drop)]
-pub enum TextAnswer {
-    Taken(NameCounts),
-    Refused { why: Refusal, line: usize },
+pub struct LineRefusal {
+    pub why: Refusal,
+    pub line: usize,
 }
 
 // Adds an input, unless its line is refused.
@@ -48,7 +36,7 @@ fn add_input(
     input_count: usize,
     gates: &[u64],
     gate_count: usize,
-) -> NameAnswer
+) -> Result<(), Refusal>
     requires name_in { NameIn from to line.now }
     requires names_room { NamesRoom inputs.old input_count gates.now gate_count }
     ensures { InputJudged result (part from to line.now) inputs.old inputs.new
@@ -56,17 +44,17 @@ fn add_input(
 {
     let net = net_at(line, from, to, inputs, input_count, gates, gate_count);
     if net < input_count + gate_count {
-        return NameAnswer::Refused(Refusal::BenchName);
+        return Err(Refusal::BenchName);
     }
     if 64 <= input_count {
-        return NameAnswer::Refused(Refusal::BenchCount);
+        return Err(Refusal::BenchCount);
     }
     if 512 <= input_count + gate_count {
-        return NameAnswer::Refused(Refusal::BenchCount);
+        return Err(Refusal::BenchCount);
     }
     let key = key_at(line, from, to);
     put_key(inputs, input_count, key.low, key.high);
-    NameAnswer::Added
+    Ok(())
 }
 
 // Adds an output, unless its line is refused.
@@ -76,7 +64,7 @@ fn add_output(
     to: usize,
     outputs: &mut [u64],
     output_count: usize,
-) -> NameAnswer
+) -> Result<(), Refusal>
     requires name_in { NameIn from to line.now }
     requires outputs_len { (length outputs.old ≡ 128) × (output_count ≤ 64) }
     ensures { OutputJudged result (part from to line.now) outputs.old outputs.new
@@ -85,13 +73,13 @@ fn add_output(
     let key = key_at(line, from, to);
     let place = find_key(outputs, output_count, key.low, key.high);
     if place < output_count {
-        return NameAnswer::Refused(Refusal::BenchName);
+        return Err(Refusal::BenchName);
     }
     if 64 <= output_count {
-        return NameAnswer::Refused(Refusal::BenchCount);
+        return Err(Refusal::BenchCount);
     }
     put_key(outputs, output_count, key.low, key.high);
-    NameAnswer::Added
+    Ok(())
 }
 
 // Adds a gate, unless its line is refused.
@@ -102,7 +90,7 @@ fn add_gate(
     input_count: usize,
     gates: &mut [u64],
     gate_count: usize,
-) -> NameAnswer
+) -> Result<(), Refusal>
     requires name_in { NameIn gate.from gate.to line.now }
     requires at_in_bounds { gate.at ≤ length line.now }
     requires names_room { NamesRoom inputs.now input_count gates.old gate_count }
@@ -113,39 +101,42 @@ fn add_gate(
     let to = gate.to;
     let net = net_at(line, from, to, inputs, input_count, gates, gate_count);
     if net < input_count + gate_count {
-        return NameAnswer::Refused(Refusal::BenchName);
+        return Err(Refusal::BenchName);
     }
     let known = pins_known(line, gate.at, inputs, input_count, gates, gate_count);
     if !known {
-        return NameAnswer::Refused(Refusal::BenchName);
+        return Err(Refusal::BenchName);
     }
     if 511 <= gate_count {
-        return NameAnswer::Refused(Refusal::BenchCount);
+        return Err(Refusal::BenchCount);
     }
     if 512 <= input_count + gate_count {
-        return NameAnswer::Refused(Refusal::BenchCount);
+        return Err(Refusal::BenchCount);
     }
     let fits = pin_count_fits(gate.kind, gate.pins);
     if !fits {
-        return NameAnswer::Refused(Refusal::BenchCount);
+        return Err(Refusal::BenchCount);
     }
     let key = key_at(line, from, to);
     put_key(gates, gate_count, key.low, key.high);
-    NameAnswer::Added
+    Ok(())
 }
 
 // A line's answer by that to its name, and how many there are if it was added.
-fn counted(answer: NameAnswer, inputs: usize, gates: usize, outputs: usize) -> LineAnswer
+fn counted(
+    answer: Result<(), Refusal>,
+    inputs: usize,
+    gates: usize,
+    outputs: usize,
+) -> Result<NameCounts, Refusal>
     ensures { result ≡ counted_as answer inputs gates outputs }
 {
-    match answer {
-        NameAnswer::Refused(why) => LineAnswer::Refused(why),
-        NameAnswer::Added => LineAnswer::Taken(NameCounts {
-            inputs,
-            gates,
-            outputs,
-        }),
-    }
+    answer?;
+    Ok(NameCounts {
+        inputs,
+        gates,
+        outputs,
+    })
 }
 
 // Judges a line, and adds what it defines.
@@ -155,7 +146,7 @@ fn judge_line(
     gates: &mut [u64],
     outputs: &mut [u64],
     counts: NameCounts,
-) -> LineAnswer
+) -> Result<NameCounts, Refusal>
     requires { HeldRoom inputs.old gates.old outputs.old counts }
     ensures { LineTrue result line.now counts inputs.old gates.old
         outputs.old inputs.new gates.new outputs.new }
@@ -165,8 +156,8 @@ fn judge_line(
     let output_count = counts.outputs;
     let statement = read_statement(line);
     match statement {
-        LineStatement::Blank => LineAnswer::Taken(counts),
-        LineStatement::Other => LineAnswer::Refused(Refusal::BenchLine),
+        LineStatement::Blank => Ok(counts),
+        LineStatement::Other => Err(Refusal::BenchLine),
         LineStatement::Input { from, to } => {
             let answer = add_input(line, from, to, inputs, input_count, gates, gate_count);
             counted(answer, input_count + 1, gate_count, output_count)
@@ -188,7 +179,7 @@ pub fn judge_text(
     inputs: &mut [u64],
     gates: &mut [u64],
     outputs: &mut [u64],
-) -> TextAnswer
+) -> Result<NameCounts, LineRefusal>
     requires { WordsRoom inputs.old gates.old outputs.old }
     ensures { TextTrue result text.now inputs.new gates.new outputs.new }
 {
@@ -205,18 +196,18 @@ pub fn judge_text(
         let line = &text[at..stop];
         let answer = judge_line(line, inputs, gates, outputs, counts);
         match answer {
-            LineAnswer::Refused(why) => {
-                return TextAnswer::Refused {
+            Err(why) => {
+                return Err(LineRefusal {
                     why,
                     line: before + 1,
-                };
+                });
             }
-            LineAnswer::Taken(next) => {
+            Ok(next) => {
                 counts = next;
             }
         }
         at = ends.next;
         before += 1;
     }
-    TextAnswer::Taken(counts)
+    Ok(counts)
 }

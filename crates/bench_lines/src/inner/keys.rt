@@ -16,10 +16,8 @@ fn bytes_value(line: &[u8], from: usize, to: usize) -> u64
     requires { (from ≤ to) × (to ≤ length line.now) × (to ≤ from + 8) }
     ensures { result ≡ from_little_endian (part from to line.now) }
 {
-    let mut at = to;
     let mut value: u64 = 0;
-    while from < at {
-        at -= 1;
+    for at in (from..to).rev() {
         let byte = line[at] as u64;
         value = 256 * value + byte;
     }
@@ -57,13 +55,11 @@ pub fn find_key(words: &[u64], n: usize, low: u64, high: u64) -> usize
     requires { 2 * n ≤ length words.now }
     ensures { result ≡ key_place low high n 0 words.now }
 {
-    let mut i = 0;
-    while i < n {
+    for i in 0..n {
         let same = same_key(words, 2 * i, low, high);
         if same {
             return i;
         }
-        i += 1;
     }
     n
 }

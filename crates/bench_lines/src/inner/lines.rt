@@ -14,14 +14,12 @@ fn line_end(text: &[u8], at: usize) -> usize
     requires { at ≤ length text.now }
     ensures { EndIs result at text.now }
 {
-    let mut i = at;
-    while i < text.len() {
+    for i in at..text.len() {
         if text[i] == 0x0A {
             return i;
         }
-        i += 1;
     }
-    i
+    text.len()
 }
 
 // The line that begins at a position.

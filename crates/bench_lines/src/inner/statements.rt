@@ -30,14 +30,11 @@ pub enum LineStatement {
 
 // A pin's name, with the position after the sign that follows it, and whether that is a comma.
 #[derive(Drop)]
-pub enum PinRead {
-    Pin {
-        from: usize,
-        to: usize,
-        next: usize,
-        more: bool,
-    },
-    Other,
+pub struct PinPart {
+    pub from: usize,
+    pub to: usize,
+    pub next: usize,
+    pub more: bool,
 }
 
 // Whether nothing but spaces is left.
@@ -54,49 +51,49 @@ fn at_end(line: &[u8], at: usize) -> bool
 }
 
 // The sign after the name of a pin.
-fn pin_sign(line: &[u8], from: usize, to: usize) -> PinRead
+fn pin_sign(line: &[u8], from: usize, to: usize) -> Option<PinPart>
     requires { NameIn from to line.now }
     ensures { NamedThen result from to line.now }
 {
     let token = next_token(line, to);
     match token {
-        NextToken::End => PinRead::Other,
-        NextToken::Name { from: _, to: _ } => PinRead::Other,
+        NextToken::End => None,
+        NextToken::Name { from: _, to: _ } => None,
         NextToken::Sign { byte, next } => {
             if byte == 0x2C {
-                return PinRead::Pin {
+                return Some(PinPart {
                     from,
                     to,
                     next,
                     more: true,
-                };
+                });
             }
             if byte != 0x29 {
-                return PinRead::Other;
+                return None;
             }
             let ended = at_end(line, next);
             if !ended {
-                return PinRead::Other;
+                return None;
             }
-            PinRead::Pin {
+            Some(PinPart {
                 from,
                 to,
                 next,
                 more: false,
-            }
+            })
         }
     }
 }
 
 // One pin, from a position on.
-pub fn read_pin(line: &[u8], at: usize) -> PinRead
+pub fn read_pin(line: &[u8], at: usize) -> Option<PinPart>
     requires { at ≤ length line.now }
     ensures { PinIs result at line.now }
 {
     let token = next_token(line, at);
     match token {
-        NextToken::End => PinRead::Other,
-        NextToken::Sign { byte: _, next: _ } => PinRead::Other,
+        NextToken::End => None,
+        NextToken::Sign { byte: _, next: _ } => None,
         NextToken::Name { from, to } => pin_sign(line, from, to),
     }
 }
@@ -113,15 +110,17 @@ fn read_pins(line: &[u8], from: usize, to: usize, kind: usize, at: usize) -> Lin
     while more {
         let pin = read_pin(line, place);
         match pin {
-            PinRead::Other => {
+            None => {
                 return LineStatement::Other;
             }
-            PinRead::Pin {
-                from: _,
-                to: _,
-                next,
-                more: again,
-            } => {
+            Some(
+                PinPart {
+                    from: _,
+                    to: _,
+                    next,
+                    more: again,
+                },
+            ) => {
                 place = next;
                 more = again;
             }

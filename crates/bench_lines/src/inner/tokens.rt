@@ -41,14 +41,12 @@ fn skip_spaces(line: &[u8], at: usize) -> usize
     requires { at ≤ length line.now }
     ensures { SpacesEnd result at line.now }
 {
-    let mut i = at;
-    while i < line.len() {
+    for i in at..line.len() {
         if line[i] != 0x20 {
             return i;
         }
-        i += 1;
     }
-    i
+    line.len()
 }
 
 // The position after the word that begins at a position.
@@ -56,15 +54,13 @@ fn word_end(line: &[u8], at: usize) -> usize
     requires { at ≤ length line.now }
     ensures { WordEnd result at line.now }
 {
-    let mut i = at;
-    while i < line.len() {
+    for i in at..line.len() {
         let named = is_name_byte(line[i]);
         if !named {
             return i;
         }
-        i += 1;
     }
-    i
+    line.len()
 }
 
 // The token at a position.

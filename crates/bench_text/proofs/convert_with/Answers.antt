@@ -6,5 +6,5 @@ use Rattle.bench_text.proofs.convert_with.Goals as goal
 pub finish-requires : goal.finish-requires
 finish-requires c = search (held-text, rules)
 
-pub returns-in-Refused : goal.returns-in-Refused
-returns-in-Refused c = search (text-refused, rules)
+pub returns-in-Err : goal.returns-in-Err
+returns-in-Err c = search (text-refused, rules)

@@ -6,5 +6,5 @@ use Rattle.bench_text.proofs.finish.Goals as goal
 pub put_netlist-length-requires : goal.put_netlist-length-requires
 put_netlist-length-requires c = search (end-told, rules)
 
-pub returns-in-Refused : goal.returns-in-Refused
-returns-in-Refused c = search (end_refused, rules)
+pub returns-in-Err : goal.returns-in-Err
+returns-in-Err c = search (end_refused, rules)

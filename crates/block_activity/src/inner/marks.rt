@@ -47,11 +47,9 @@ fn live_outputs(
     ensures { OutsAre offsets.now inputs outputs (plane edge words.now) result }
 {
     let mut outs = [0u64; 64];
-    let mut o = 0;
-    while o < outputs {
+    for o in 0..outputs {
         let word = gate_word(words, inputs, offsets[OUTPUT_NETS_AT + o] as usize, edge);
         flip(&mut outs, word, 1u64 << (o as u64));
-        o += 1;
     }
     outs
 }
@@ -68,13 +66,11 @@ fn write_marks(
     requires { (records ≤ 64) × (first ≤ 64) × (length marks.old ≡ marks_size) × ((t : ℕ) → t < 64 → get_or lens.now t 0 ≤ 512) }
     ensures { EdgeWritten vectors.now records first outs.now lens.now marks.old marks.new }
 {
-    let mut t = 0;
-    while t < records {
+    for t in 0..records {
         let to = vectors[64 - first + t];
         marks[first + t] = (vectors[first + t] ^ to) & to;
         marks[UP_OUTS_AT + first + t] = outs[t];
         marks[UP_LENGTHS_AT + first + t] = lens[t] as u64;
-        t += 1;
     }
 }
 

@@ -26,11 +26,9 @@ fn pin_offsets(
 {
     let pins = wide_word(table[PIN_COUNTS_AT + net]);
     let mut offset: u64 = 0;
-    let mut p = 0;
-    while p < pins {
+    for p in 0..pins {
         offsets[8 * net + p] = offset;
         offset += counts[wide_word(table[8 * net + p])];
-        p += 1;
     }
 }
 
@@ -45,10 +43,8 @@ fn gate_offsets(
     requires { GatesFit counts.now table.now low high × (length offsets.old ≡ offset_table_size) }
     ensures { GatesPlaced counts.now table.now low high offsets.new }
 {
-    let mut net = low;
-    while net < high {
+    for net in low..high {
         pin_offsets(counts, table, net, offsets);
-        net += 1;
     }
 }
 
@@ -64,13 +60,11 @@ fn output_offsets(
     ensures { OutputsPlaced part.now inputs outputs counts.now offsets.old offsets.new }
 {
     let mut offset: u64 = 0;
-    let mut o = 0;
-    while o < outputs {
+    for o in 0..outputs {
         let net = output_net(&part[4 * o..]);
         offsets[OUTPUT_OFFSETS_AT + o] = offset;
         offsets[OUTPUT_NETS_AT + o] = net as u64;
         offset += output_paths(counts, inputs, net);
-        o += 1;
     }
 }
 

@@ -4,7 +4,7 @@ ghost use Rattle.model.specs.Netlist.{Netlist};
 ghost use Rattle.block_activity.specs.Marks.{BlockRead};
 
 use crate::inner::ReadRecords;
-use record_test::inner::{RecordAnswer, check_record, read_vectors, record_length};
+use record_test::inner::{check_record, read_vectors, record_length};
 
 // Reads the vectors of up to 64 records, V1 of record t at place t and V2 at place 64 + t, up to the first that its checks refuse.
 pub fn read_block(tests: &[u8], inputs: usize, vectors: &mut [u64; 128]) -> ReadRecords
@@ -14,28 +14,26 @@ pub fn read_block(tests: &[u8], inputs: usize, vectors: &mut [u64; 128]) -> Read
 {
     let bytes = record_length(inputs);
     let mut at = 0;
-    let mut records = 0;
-    while records < 64 {
+    for records in 0..64 {
         if tests.len() - at < bytes {
-            let after = RecordAnswer::Legal;
+            let after = Ok(());
             return ReadRecords { records, after };
         }
         let test = &tests[at..at + bytes];
         let answer = check_record(test, inputs);
         match answer {
-            RecordAnswer::Refused(why) => {
-                let after = RecordAnswer::Refused(why);
+            Err(why) => {
+                let after = Err(why);
                 return ReadRecords { records, after };
             }
-            RecordAnswer::Legal => {
+            Ok(()) => {
                 let read = read_vectors(test, inputs);
                 vectors[records] = read.v1;
                 vectors[64 + records] = read.v2;
                 at += bytes;
-                records += 1;
             }
         }
     }
-    let after = RecordAnswer::Legal;
-    ReadRecords { records, after }
+    let after = Ok(());
+    ReadRecords { records: 64, after }
 }

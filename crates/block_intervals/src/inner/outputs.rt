@@ -6,7 +6,6 @@ ghost use Rattle.block_intervals.specs.LiveOutputs.{OutputsReady, runs_of_output
 use crate::layout::{ENDS_AT, SHIFTS_AT, SPANS_SIZE};
 use block_activity::inner::layout::{OFFSET_TABLE_SIZE, OUTPUT_NETS_AT, OUTPUT_OFFSETS_AT};
 use model::MAX_RUNS;
-use run_lists::inner::Added;
 use run_union::inner::append_shifted;
 
 // Makes the runs of the detected path numbers, output by output, in the second quarter of the words. `outs` has a bit for each output at a live gate's net.
@@ -15,7 +14,7 @@ pub fn out_runs(
     outs: u64,
     spans: &[u64; SPANS_SIZE],
     words: &mut [u64],
-) -> Added
+) -> Option<usize>
     requires { OutputsReady offsets.now outs spans.now words.old }
     ensures { Adds words.old words.new max_runs max_runs
         (runs_of_outputs offsets.now outs spans.now words.old) result }
@@ -25,7 +24,7 @@ pub fn out_runs(
     while left != 0 {
         let output = u64::trailing_zeros(left) as usize;
         let net = offsets[OUTPUT_NETS_AT + output] as usize;
-        match append_shifted(
+        count = append_shifted(
             words,
             spans[net] as usize,
             spans[ENDS_AT + net] as usize,
@@ -33,15 +32,8 @@ pub fn out_runs(
             count,
             MAX_RUNS,
             spans[SHIFTS_AT + net] + offsets[OUTPUT_OFFSETS_AT + output],
-        ) {
-            Added::Count(c) => {
-                count = c;
-            }
-            Added::Full => {
-                return Added::Full;
-            }
-        }
+        )?;
         left = left & (left - 1);
     }
-    Added::Count(count)
+    Some(count)
 }

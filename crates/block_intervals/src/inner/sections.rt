@@ -19,10 +19,8 @@ pub(crate) fn clear_sections(spans: &mut [u64; SPANS_SIZE])
     requires { length spans.old ≡ spans_size }
     ensures { (length spans.new ≡ spans_size) × Ascending spans.new rising_sections × Ascending spans.new falling_sections }
 {
-    let mut o = 0;
-    while o < SECTIONS_SIZE {
+    for o in 0..SECTIONS_SIZE {
         spans[RISING_SECTIONS + o] = 0;
-        o += 1;
     }
 }
 
@@ -43,11 +41,12 @@ fn section_begin(
         return count;
     }
     let low = offsets[OUTPUT_OFFSETS_AT + output];
-    let mut at = before;
-    while at < count && held[2 * at + 1] < low {
-        at += 1;
+    for at in before..count {
+        if low <= held[2 * at + 1] {
+            return at;
+        }
     }
-    at
+    count
 }
 
 // A bit for each of the first outputs that the first held run may hold wholly: those whose numbers end before an output that begins in it. What is found is
@@ -58,13 +57,11 @@ fn whole_outputs(offsets: &[u64; OFFSET_TABLE_SIZE], outputs: usize, held: &[u64
     }
     let high = held[1];
     let mut whole: u64 = 0;
-    let mut output = 1;
-    while output < 64 && offsets[OUTPUT_OFFSETS_AT + output] <= high {
-        if outputs <= output {
+    for output in 1..outputs.min(64) {
+        if high < offsets[OUTPUT_OFFSETS_AT + output] {
             return whole;
         }
         whole = whole | (1u64 << ((output - 1) as u64));
-        output += 1;
     }
     whole
 }
@@ -83,11 +80,9 @@ pub fn find_sections(
 {
     spans[base + 65] = whole_outputs(offsets, outputs, held);
     let mut at = 0;
-    let mut output = 0;
-    while output < 64 {
+    for output in 0..64 {
         at = section_begin(offsets, outputs, output, held, at);
         spans[base + output] = at as u64;
-        output += 1;
     }
     spans[base + 64] = (held.len() / 2) as u64;
 }
@@ -121,8 +116,7 @@ fn span_inside(
     requires sound { Sound (2 ^ 62) (runs_in_words words.now from (to - from)) }
     ensures { result ≡ true → SpanHeld words.now from to shift held.now }
 {
-    let mut i = from;
-    while i < to {
+    for i in from..to {
         if !run_inside(
             held,
             begin,
@@ -132,7 +126,6 @@ fn span_inside(
         ) {
             return false;
         }
-        i += 1;
     }
     true
 }

@@ -12,10 +12,12 @@ use crate::inner::spans::renew_sections;
 use block_activity::inner::layout::{DOWN_OUTS_AT, MARKS_SIZE, OFFSET_TABLE_SIZE, UP_OUTS_AT};
 use block_intervals::layout::{FALLING_SECTIONS, RISING_SECTIONS, SPANS_SIZE};
 use block_words::inner::layout::GATE_TABLE_SIZE;
+use model::Refusal;
 use path_faults::Edge;
-use store_coverage::inner::edges::{BothAnswer, FALLING_UNION, RISING_UNION, join_answers};
-use store_coverage::inner::{StageAnswer, write_both};
+use store_coverage::inner::edges::{FALLING_UNION, Over, RISING_UNION, join_answers};
+use store_coverage::inner::write_both;
 use store_words::inner::parts::edge_runs;
+use store_writing::inner::Change;
 
 // The marks of one record: a bit for each input that rises or falls, a bit for each live output of the rising and of the falling edge, the numbers of inputs and
 // outputs.
@@ -54,7 +56,7 @@ pub fn cover_listed(
     store: &[u64],
     spans: &mut [u64; SPANS_SIZE],
     words: &mut [u64],
-) -> BothAnswer
+) -> Result<(Change, Change), Over>
     requires { SomeListedBoth table.now offsets.now rising_list.now falling_list.now edges store.now spans.old words.old }
     ensures { InputSpans spans.new edges.inputs
         × ((N : Netlist) (t : Test)
@@ -107,7 +109,7 @@ pub(crate) fn apply_listed(
     store: &mut [u64],
     spans: &mut [u64; SPANS_SIZE],
     work: &mut [u64],
-) -> StageAnswer
+) -> Result<(), Refusal>
     requires { SomeListedBoth table.now offsets.now rising_list.now falling_list.now edges store.old spans.old work.old }
     ensures { InputSpans spans.new edges.inputs
         × ((N : Netlist) (t : Test)

@@ -10,7 +10,7 @@ use block_intervals::inner::input_spans;
 use block_intervals::inner::sections::find_sections;
 use block_intervals::layout::{FALLING_SECTIONS, RISING_SECTIONS, SPANS_SIZE};
 use path_faults::Edge;
-use store_coverage::inner::edges::BothAnswer;
+use store_coverage::inner::edges::Over;
 use store_words::inner::parts::edge_runs;
 use store_writing::inner::Change;
 
@@ -65,21 +65,17 @@ fn renew_edge(
 pub fn renew_sections(
     offsets: &[u64; OFFSET_TABLE_SIZE],
     outputs: usize,
-    answer: BothAnswer,
+    answer: Result<(Change, Change), Over>,
     store: &[u64],
     spans: &mut [u64; SPANS_SIZE],
 )
     requires { FewRuns store.now × (length spans.old ≡ spans_size) }
     ensures { (inputs : ℕ) → inputs ≤ 64 → InputSpans spans.old inputs → InputSpans spans.new inputs }
 {
-    match answer {
-        BothAnswer::Fits(rising, falling) => {
-            let up = edge_runs(store, Edge::Rising);
-            renew_edge(offsets, outputs, rising, up, spans, RISING_SECTIONS);
-            let down = edge_runs(store, Edge::Falling);
-            renew_edge(offsets, outputs, falling, down, spans, FALLING_SECTIONS);
-        }
-        BothAnswer::WorkOver => {}
-        BothAnswer::StoreOver => {}
+    if let Ok((rising, falling)) = answer {
+        let up = edge_runs(store, Edge::Rising);
+        renew_edge(offsets, outputs, rising, up, spans, RISING_SECTIONS);
+        let down = edge_runs(store, Edge::Falling);
+        renew_edge(offsets, outputs, falling, down, spans, FALLING_SECTIONS);
     }
 }

@@ -97,9 +97,7 @@ pub fn scan_pins(table: &[u16; GATE_TABLE_SIZE], gate: Gate, words: &[u64]) -> P
     let mut unsteady = nothing;
     let mut steady_controlling: u64 = 0;
     let noncontrolling = gate.noncontrolling_mask;
-    let mut k = gate.pins;
-    while 0 < k {
-        k -= 1;
+    for k in (0..gate.pins).rev() {
         let at = pin_place(table, gate, k);
         let v2 = words[at + 1];
         let steady = words[at + 2];

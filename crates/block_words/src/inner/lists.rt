@@ -25,9 +25,7 @@ fn byte_of(rows: &[u64; 8], pins: usize, place: u64) -> u32
         return bit_of(rows[0], place) + 2 * bit_of(rows[1], place);
     }
     let mut byte: u32 = 0;
-    let mut k = pins;
-    while 0 < k {
-        k -= 1;
+    for k in (0..pins).rev() {
         byte = 2 * byte + bit_of(rows[k], place);
     }
     byte

@@ -79,9 +79,7 @@ pub fn active_words(
 {
     let mut up: u64 = 0;
     let mut down: u64 = 0;
-    let mut k = gate.pins;
-    while 0 < k {
-        k -= 1;
+    for k in (0..gate.pins).rev() {
         let at = gates::pin_place(table, gate, k);
         let open = pin_word(class, gate, scan, words[at], words[at + 1], words[at + 2]);
         let rises = open & words[at + 3];

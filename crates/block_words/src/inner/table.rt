@@ -16,9 +16,7 @@ fn fill_pins(part: &[u8], pins: usize, first: usize, table: &mut [u16; GATE_TABL
     requires { NetsIn part.now pins × (first + 8 ≤ kinds_at) × (length table.old ≡ gate_table_size) }
     ensures { Filled first pins (λ p w. w ≡ pin_in part.now p) table.old table.new }
 {
-    let mut k = pins;
-    while 0 < k {
-        k -= 1;
+    for k in (0..pins).rev() {
         table[first + k] = pin_net(part, k) as u16;
     }
 }
@@ -34,14 +32,12 @@ pub fn fill_table(
     ensures { (length table.new ≡ gate_table_size)
         × ((N : Netlist) (cs : List ℕ) → CircuitTables N netlist.now positions.now cs shape → CircuitTable N table.new shape.inputs shape.nets) }
 {
-    let mut net = shape.inputs;
-    while net < shape.nets {
+    for net in shape.inputs..shape.nets {
         let part = gate_part(netlist, positions, net);
         let kind = part[2];
         let pins = part[3];
         table[KINDS_AT + net] = kind as u16;
         table[PIN_COUNTS_AT + net] = pins as u16;
         fill_pins(part, inner::wide(pins), 8 * net, table);
-        net += 1;
     }
 }

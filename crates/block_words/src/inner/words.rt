@@ -52,8 +52,7 @@ pub fn input_words(
     ensures { InputWords firsts.now lasts.now inputs n words.old words.new }
 {
     let within = masks::first_records(n);
-    let mut input = 0;
-    while input < inputs {
+    for input in 0..inputs {
         let first = firsts[input];
         let last = lasts[input];
         let moved = first ^ last;
@@ -65,7 +64,6 @@ pub fn input_words(
             falls: (moved & first) & within,
         };
         put_net(words, input, state);
-        input += 1;
     }
 }
 
@@ -105,8 +103,7 @@ pub fn gate_lists(
 {
     let mut rising_rows = [0u64; 8];
     let mut falling_rows = [0u64; 8];
-    let mut net = shape.inputs;
-    while net < shape.nets {
+    for net in shape.inputs..shape.nets {
         let gate = gates::gate_at(table, net);
         let scan = gates::scan_pins(table, gate, words);
         let live = robust::active_words(
@@ -135,6 +132,5 @@ pub fn gate_lists(
             gate.pins,
         );
         put_net(words, net, net_state(gate, scan, live));
-        net += 1;
     }
 }

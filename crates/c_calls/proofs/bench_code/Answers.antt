@@ -2,8 +2,8 @@
 use Rattle.c_calls.proofs.AnswerCases.{bench-cases}
 use Rattle.c_calls.proofs.bench_code.Goals as goal
 
-pub returns-in-Refused : goal.returns-in-Refused
-returns-in-Refused c = search bench-cases
+pub returns-in-Err : goal.returns-in-Err
+returns-in-Err c = search bench-cases
 
-pub returns-in-Written : goal.returns-in-Written
-returns-in-Written c = search bench-cases
+pub returns-in-Ok : goal.returns-in-Ok
+returns-in-Ok c = search bench-cases

@@ -2,8 +2,8 @@
 use Rattle.c_calls.proofs.AnswerCases.{fault-cases}
 use Rattle.c_calls.proofs.fault_code.Goals as goal
 
-pub returns-in-Refused : goal.returns-in-Refused
-returns-in-Refused c = search fault-cases
+pub returns-in-Err : goal.returns-in-Err
+returns-in-Err c = search fault-cases
 
-pub returns-in-Fault : goal.returns-in-Fault
-returns-in-Fault c = search fault-cases
+pub returns-in-Ok : goal.returns-in-Ok
+returns-in-Ok c = search fault-cases

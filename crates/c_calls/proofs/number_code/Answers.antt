@@ -2,8 +2,8 @@
 use Rattle.c_calls.proofs.AnswerCases.{number-cases}
 use Rattle.c_calls.proofs.number_code.Goals as goal
 
-pub returns-in-Refused : goal.returns-in-Refused
-returns-in-Refused c = search number-cases
+pub returns-in-Err : goal.returns-in-Err
+returns-in-Err c = search number-cases
 
-pub returns-in-Number : goal.returns-in-Number
-returns-in-Number c = search number-cases
+pub returns-in-Ok : goal.returns-in-Ok
+returns-in-Ok c = search number-cases

@@ -2,8 +2,8 @@
 use Rattle.c_calls.proofs.AnswerCases.{survey-cases}
 use Rattle.c_calls.proofs.survey_code.Goals as goal
 
-pub returns-in-Refused : goal.returns-in-Refused
-returns-in-Refused c = search survey-cases
+pub returns-in-Err : goal.returns-in-Err
+returns-in-Err c = search survey-cases
 
-pub returns-in-Legal : goal.returns-in-Legal
-returns-in-Legal c = search survey-cases
+pub returns-in-Ok : goal.returns-in-Ok
+returns-in-Ok c = search survey-cases

@@ -2,8 +2,8 @@
 use Rattle.c_store.proofs.StoreAnswerCases.{totals-cases}
 use Rattle.c_store.proofs.totals_code.Goals as goal
 
-pub returns-in-Refused : goal.returns-in-Refused
-returns-in-Refused c = search totals-cases
+pub returns-in-Err : goal.returns-in-Err
+returns-in-Err c = search totals-cases
 
-pub returns-in-Totals : goal.returns-in-Totals
-returns-in-Totals c = search totals-cases
+pub returns-in-Ok : goal.returns-in-Ok
+returns-in-Ok c = search totals-cases

@@ -1,9 +1,9 @@
 -- `c_tree::total_code` meets its contract.
-use Rattle.c_tree.proofs.TreeAnswerCases.{total-cases}
+use Rattle.c_answer_words.proofs.CodeLaws.{number-cases}
 use Rattle.c_tree.proofs.total_code.Goals as goal
 
-pub returns-in-Refused : goal.returns-in-Refused
-returns-in-Refused c = search total-cases
+pub returns-in-Err : goal.returns-in-Err
+returns-in-Err c = search number-cases
 
-pub returns-in-Total : goal.returns-in-Total
-returns-in-Total c = search total-cases
+pub returns-in-Ok : goal.returns-in-Ok
+returns-in-Ok c = search number-cases

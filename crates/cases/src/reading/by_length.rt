@@ -3,7 +3,7 @@ use crate::names::{FALLING, HELD, PATHS, RISING};
 use case_script::answers::{Answer, accepted, refused_by, unknown};
 use case_script::cells;
 use case_script::words::{after_word, key_of};
-use length_coverage::{LengthRows, LengthsAnswer, coverage_by_length, falling_rows, rising_rows};
+use length_coverage::{LengthRows, coverage_by_length, falling_rows, rising_rows};
 
 // A question as about memory, of a row.
 fn ask_cells(question: &[u8], row: [u64; 64]) -> Answer {
@@ -35,10 +35,8 @@ fn ask_edge(rows: LengthRows, what: &[u8]) -> Answer {
 
 // `lengths`, alone or with an edge, a row and a question.
 pub(crate) fn ask_lengths(what: &[u8], netlist: &[u8], store: &[u64]) -> Answer {
-    let rows = coverage_by_length(netlist, store);
-    let answer = rows.answer;
-    match answer {
-        LengthsAnswer::Refused(why) => refused_by(why),
-        LengthsAnswer::Counted => ask_edge(rows, what),
+    match coverage_by_length(netlist, store) {
+        Err(why) => refused_by(why),
+        Ok(rows) => ask_edge(rows, what),
     }
 }

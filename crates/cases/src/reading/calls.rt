@@ -1,19 +1,15 @@
 // The public calls that only read, each with its answer as numbers.
-use case_script::answers::{Answer, four, one, refused_by, two};
+use case_script::answers::{Answer, answered_one, four, one, refused_by, two};
 use case_script::cells;
-use netlist::SurveyAnswer;
-use path_faults::{Edge, FaultAnswer, FaultNo, PathNo};
-use path_to_number::NumberAnswer;
-use store::{HeldAnswer, TotalsAnswer};
+use model::Refusal;
+use path_faults::{Edge, FaultNo, PathNo};
+use store::StoreTotals;
 
 // The survey: the numbers of inputs, gates and outputs, and the total.
 pub(crate) fn survey(netlist: &[u8]) -> Answer {
-    let surveyed = netlist::survey(netlist);
-    let answer = surveyed.answer;
-    let survey = surveyed.survey;
-    match answer {
-        SurveyAnswer::Refused(why) => refused_by(why),
-        SurveyAnswer::Legal => four(
+    match netlist::survey(netlist) {
+        Err(why) => refused_by(why),
+        Ok(survey) => four(
             survey.inputs as u64,
             survey.gates as u64,
             survey.outputs as u64,
@@ -22,18 +18,19 @@ pub(crate) fn survey(netlist: &[u8]) -> Answer {
     }
 }
 
-// The survey: its counts of 512 nets, asked for as a memory is.
+// The survey: its counts of 512 nets, asked for as a memory is. Those of a refused netlist are zeros.
 pub(crate) fn counts(netlist: &[u8], what: &[u8]) -> Answer {
-    let surveyed = netlist::survey(netlist);
-    let counts = surveyed.survey.counts;
-    cells::ask(what, &counts)
+    match netlist::survey(netlist) {
+        Err(_) => cells::ask(what, &[0u64; 512]),
+        Ok(survey) => cells::ask(what, &survey.counts),
+    }
 }
 
 // Totals: rising faults, falling faults.
-pub(crate) fn totals_answer(answer: TotalsAnswer) -> Answer {
+pub(crate) fn totals_answer(answer: Result<StoreTotals, Refusal>) -> Answer {
     match answer {
-        TotalsAnswer::Totals { rising, falling } => two(rising, falling),
-        TotalsAnswer::Refused(why) => refused_by(why),
+        Ok(StoreTotals { rising, falling }) => two(rising, falling),
+        Err(why) => refused_by(why),
     }
 }
 
@@ -44,11 +41,11 @@ pub(crate) fn totals(netlist: &[u8], store: &[u64]) -> Answer {
 }
 
 // Whether a fault is held: 1 or 0.
-pub(crate) fn held_answer(answer: HeldAnswer) -> Answer {
+pub(crate) fn held_answer(answer: Result<bool, Refusal>) -> Answer {
     match answer {
-        HeldAnswer::Held => one(1),
-        HeldAnswer::NotHeld => one(0),
-        HeldAnswer::Refused(why) => refused_by(why),
+        Ok(true) => one(1),
+        Ok(false) => one(0),
+        Err(why) => refused_by(why),
     }
 }
 
@@ -61,19 +58,13 @@ pub(crate) fn holds(netlist: &[u8], store: &[u64], fault: u64) -> Answer {
 // Path to number.
 pub(crate) fn number(netlist: &[u8], path: &[u16]) -> Answer {
     let answer = path_to_number::path_to_number(netlist, path);
-    match answer {
-        NumberAnswer::Number(number) => one(number.0),
-        NumberAnswer::Refused(why) => refused_by(why),
-    }
+    answered_one(answer.map(|number| number.0))
 }
 
 // The fault of a path and an edge.
 fn fault_of(path: u64, edge: Edge) -> Answer {
     let answer = path_faults::fault_of(PathNo(path), edge);
-    match answer {
-        FaultAnswer::Fault(fault) => one(fault.0),
-        FaultAnswer::Refused(why) => refused_by(why),
-    }
+    answered_one(answer.map(|fault| fault.0))
 }
 
 // The rising fault of a path.

@@ -1,10 +1,7 @@
 // The public calls that write a store, each with its answer as numbers.
-use audit_judging::AuditAnswer;
-use case_script::answers::{Answer, accepted, four, refused_by, two};
-use exhaust::ExhaustAnswer;
+use crate::reading::calls::totals_answer;
+use case_script::answers::{Answer, answered, four, refused_by};
 use single_call::apply_test;
-use store::EmptyAnswer;
-use store_coverage::TestAnswer;
 
 // The test call in a class: new rising, new falling, held rising, held falling.
 pub(crate) fn test(
@@ -16,23 +13,20 @@ pub(crate) fn test(
 ) -> Answer {
     let answer = apply_test(netlist, test, class, store, work);
     match answer {
-        TestAnswer::Refused(why) => refused_by(why),
-        TestAnswer::Taken {
-            new_rising,
-            new_falling,
-            held_rising,
-            held_falling,
-        } => four(new_rising, new_falling, held_rising, held_falling),
+        Err(why) => refused_by(why),
+        Ok(counts) => four(
+            counts.new_rising,
+            counts.new_falling,
+            counts.held_rising,
+            counts.held_falling,
+        ),
     }
 }
 
 // Emptying a store.
 pub(crate) fn empty(store: &mut [u64]) -> Answer {
     let answer = store::empty(store);
-    match answer {
-        EmptyAnswer::Emptied => accepted(),
-        EmptyAnswer::Refused(why) => refused_by(why),
-    }
+    answered(answer)
 }
 
 // The audit in a class.
@@ -45,17 +39,11 @@ pub(crate) fn audit(
     work: &mut [u64],
 ) -> Answer {
     let answer = audit::audit(netlist, tests, report, class, store, work);
-    match answer {
-        AuditAnswer::Accepted => accepted(),
-        AuditAnswer::Refused(why) => refused_by(why),
-    }
+    answered(answer)
 }
 
 // All pairs of vectors in a class: rising faults, falling faults.
 pub(crate) fn exhaust(netlist: &[u8], class: u32, store: &mut [u64], work: &mut [u64]) -> Answer {
     let answer = exhaust::exhaust(netlist, class, store, work);
-    match answer {
-        ExhaustAnswer::Totals { rising, falling } => two(rising, falling),
-        ExhaustAnswer::Refused(why) => refused_by(why),
-    }
+    totals_answer(answer)
 }

@@ -4,4 +4,4 @@ use Rattle.exports.proofs.genduwal_audit.Goals as goal
 
 pub returns : goal.returns
 returns c =
-    record { result_value = c.audit_code.ensures ∙ c.audit-audited.ensures.answer; store_after = c.audit-audited.ensures.store; work_after = c.audit-audited.ensures.work }
+    record { result_value = c.code_of.ensures ∙ c.audit-audited.ensures.answer; store_after = c.audit-audited.ensures.store; work_after = c.audit-audited.ensures.work }

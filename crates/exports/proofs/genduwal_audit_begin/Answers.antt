@@ -4,4 +4,4 @@ use Rattle.exports.proofs.genduwal_audit_begin.Goals as goal
 
 pub returns : goal.returns
 returns c =
-    record { result_value = c.begin_code.ensures ∙ c.audit_begin-begun.ensures.answer; store_after = c.audit_begin-begun.ensures.store }
+    record { result_value = c.code_of.ensures ∙ c.audit_begin-begun.ensures.answer; store_after = c.audit_begin-begun.ensures.store }

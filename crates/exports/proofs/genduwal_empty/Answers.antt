@@ -4,4 +4,4 @@ use Rattle.exports.proofs.genduwal_empty.Goals as goal
 
 pub returns : goal.returns
 returns c =
-    record { result_value = c.empty_code.ensures ∙ c.empty-emptied.ensures.answer; store_after = c.empty-emptied.ensures.store }
+    record { result_value = c.code_of.ensures ∙ c.empty-emptied.ensures.answer; store_after = c.empty-emptied.ensures.store }

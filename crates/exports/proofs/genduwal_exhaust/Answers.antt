@@ -4,4 +4,4 @@ use Rattle.exports.proofs.genduwal_exhaust.Goals as goal
 
 pub returns : goal.returns
 returns c =
-    record { answered = answered-by c.exhaust-shown.ensures.answer c.exhaust_code.ensures; store_after = c.exhaust-shown.ensures.store; pairs_work = c.exhaust-shown.ensures.work }
+    record { answered = answered-by c.exhaust-shown.ensures.answer c.totals_code.ensures; store_after = c.exhaust-shown.ensures.store; pairs_work = c.exhaust-shown.ensures.work }

@@ -4,4 +4,4 @@ use Rattle.exports.proofs.genduwal_number_to_path.Goals as goal
 
 pub returns : goal.returns
 returns c =
-    record { result_value = c.path_code.ensures ∙ c.number_to_path-written.ensures.answer; path_after = c.number_to_path-written.ensures.buffer }
+    record { result_value = c.code_of.ensures ∙ c.number_to_path-written.ensures.answer; path_after = c.number_to_path-written.ensures.buffer }

@@ -1,8 +1,7 @@
 -- `exports::genduwal_survey` meets its contract: code and words are those of the answer of the call beneath.
 use Rattle.c_answer_words.proofs.CodeLaws.{answered-by}
-use Rattle.exports.proofs.CallCases.{survey-is}
 use Rattle.exports.proofs.genduwal_survey.Goals as goal
 
 pub returns : goal.returns
 returns c =
-    answered-by (survey-is c.survey-surveyed.ensures) c.survey_code.ensures
+    answered-by c.survey-surveyed.ensures c.survey_code.ensures

@@ -4,4 +4,4 @@ use Rattle.exports.proofs.genduwal_viewer_runs.Goals as goal
 
 pub returns : goal.returns
 returns c =
-    record { result_value = c.view_code.ensures ∙ c.viewer_runs-written.ensures.answer; view_after = c.viewer_runs-written.ensures.words }
+    record { result_value = c.code_of.ensures ∙ c.viewer_runs-written.ensures.answer; view_after = c.viewer_runs-written.ensures.words }

@@ -4,4 +4,4 @@ use Rattle.exports.proofs.genduwal_write_report.Goals as goal
 
 pub returns : goal.returns
 returns c =
-    record { answered = answered-by c.write_report-written.ensures.answer c.report_code.ensures; report_after = c.write_report-written.ensures.buffer }
+    record { answered = answered-by c.write_report-written.ensures.answer c.count_code.ensures; report_after = c.write_report-written.ensures.buffer }

@@ -47,8 +47,7 @@ pub fn held_row(
 {
     let mut sums = [0u64; 64];
     let runs = words.len() / 2;
-    let mut i = 0;
-    while i < runs {
+    for i in 0..runs {
         add_run(
             netlist,
             positions,
@@ -59,7 +58,6 @@ pub fn held_row(
             words[2 * i + 1],
             &mut sums,
         );
-        i += 1;
     }
     sums
 }

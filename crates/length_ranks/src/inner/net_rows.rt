@@ -24,11 +24,9 @@ pub(crate) fn add_pins(
     requires { PinsIn part.now × (pins ≤ pin_count_in part.now) × Room sums.old (longer by (pin_sums part.now rows.now)) }
     ensures { sums.new ≡ added sums.old (longer by (pin_sums_before part.now rows.now pins)) }
 {
-    let mut pin = 0;
-    while pin < pins {
+    for pin in 0..pins {
         let net = pin_net(part, pin);
         add_longer(sums, &rows[net], by);
-        pin += 1;
     }
 }
 
@@ -60,10 +58,8 @@ pub fn fill_rows(netlist: &[u8], positions: &[u16; 512], shape: Shape, rows: &mu
     ensures { (N : Netlist) → read_netlist netlist.now ≡ value N → NetRows N shape.nets rows.new }
 {
     let nets = shape.nets;
-    let mut net = 0;
-    while net < nets {
+    for net in 0..nets {
         let sums = net_row(netlist, positions, shape, rows, net);
         rows[net] = sums;
-        net += 1;
     }
 }

@@ -36,11 +36,9 @@ fn add_outputs(
     requires { RecordsOfOutputs part.now place × Room sums.old (output_sums part.now place inputs rows.now) }
     ensures { sums.new ≡ added sums.old (output_sums part.now place inputs rows.now) }
 {
-    let mut before = 0;
-    while before < place {
+    for before in 0..place {
         let net = output_net(&part[4 * before..]);
         add_output(sums, rows, inputs, net);
-        before += 1;
     }
 }
 

@@ -1,24 +1,29 @@
 -- `length_untested::longest_untested` meets its contract: each return is a case of the store's length, the netlist and the store's words.
-use Rattle.length_untested.proofs.LongestCases.{call-cases}
+use Rattle.model.proofs.AnswerLaws.{exit}
+use Rattle.length_untested.proofs.LongestCases.{call-cases, call-netlist, call-store}
 use Rattle.length_untested.proofs.longest_untested.Goals as goal
 
 pub returns-then-store-ne-STORE_WORDS : goal.returns-then-store-ne-STORE_WORDS
 returns-then-store-ne-STORE_WORDS c = search call-cases
 
-pub load-answer-requires : goal.load-answer-requires
-load-answer-requires c = search call-cases
+pub load-requires : goal.load-requires
+load-requires c = search call-cases
 
-pub check_words-checked-requires : goal.check_words-checked-requires
-check_words-checked-requires c = search call-cases
+pub check_words-requires : goal.check_words-requires
+check_words-requires c = search (c.in_ok-legal.was, call-cases)
 
 pub longest_on-requires : goal.longest_on-requires
-longest_on-requires c = search call-cases
+longest_on-requires c = search (c.in_ok-legal.was, c.in_ok-check_words.was, call-cases)
 
-pub returns-in-Refused : goal.returns-in-Refused
-returns-in-Refused c = search call-cases
+pub returns-in_err-legal : goal.returns-in_err-legal
+returns-in_err-legal c =
+    rw (exit _ _ c.from_residual.ensures.1)
+    (call-netlist _ _ _ _ _ c.if-store-ne-STORE_WORDS.false _ _ _ c.load.ensures _ c.in_err-legal.was)
 
-pub returns-in-Refused-checked : goal.returns-in-Refused-checked
-returns-in-Refused-checked c = search call-cases
+pub returns-in_err-check_words : goal.returns-in_err-check_words
+returns-in_err-check_words c =
+    rw (exit _ _ c.from_residual-in_err-check_words.ensures.1)
+    (call-store _ _ _ _ _ c.if-store-ne-STORE_WORDS.false _ _ _ c.load.ensures _ c.in_ok-legal.was _ c.check_words.ensures _ c.in_err-check_words.was)
 
-pub returns-in-Sound : goal.returns-in-Sound
-returns-in-Sound c = search call-cases
+pub returns : goal.returns
+returns c = search (c.in_ok-legal.was, c.in_ok-check_words.was, call-cases)

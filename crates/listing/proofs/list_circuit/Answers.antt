@@ -1,5 +1,4 @@
 -- `listing::list_circuit` is safe: the first line lies in the buffer, and a netlist that passed has its tables.
-use Rattle.model.proofs.Prelude.{rules}
 use Rattle.listing.proofs.ListCases.{List-cases}
 use Rattle.listing.proofs.list_circuit.Goals as goal
 

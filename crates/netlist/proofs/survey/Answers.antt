@@ -1,15 +1,13 @@
 -- `netlist::survey` meets its contract: the survey is made of the tables of a legal netlist.
-use Rattle.netlist.proofs.LoadCases.{survey-cases}
+use Rattle.model.proofs.AnswerLaws.{exit}
+use Rattle.netlist.proofs.LoadCases.{survey-cases, survey-refused}
 use Rattle.netlist.proofs.survey.Goals as goal
 
-pub load-answer-requires : goal.load-answer-requires
-load-answer-requires c = search survey-cases
+pub load-requires : goal.load-requires
+load-requires c = search survey-cases
 
-pub overflow_sub-gates : goal.overflow_sub-gates
-overflow_sub-gates c = search survey-cases
+pub returns-in_err-legal : goal.returns-in_err-legal
+returns-in_err-legal c = rw (exit _ _ c.from_residual.ensures.1) (survey-refused _ _ _ _ c.load.ensures _ c.in_err-legal.was)
 
-pub returns-in-Refused : goal.returns-in-Refused
-returns-in-Refused c = search survey-cases
-
-pub returns-in-Legal : goal.returns-in-Legal
-returns-in-Legal c = search survey-cases
+pub returns : goal.returns
+returns c = search (c.in_ok-legal.was, survey-cases)

@@ -11,8 +11,8 @@ slice_bounds-netlist-end c = search bench-cases
 pub slice_bounds-put_path-end : goal.slice_bounds-put_path-end
 slice_bounds-put_path-end c = search bench-cases
 
-pub returns-in-Refused : goal.returns-in-Refused
-returns-in-Refused c = search bench-cases
+pub returns-in-Err : goal.returns-in-Err
+returns-in-Err c = search bench-cases
 
-pub returns-in-Written : goal.returns-in-Written
-returns-in-Written c = search bench-cases
+pub returns-in-Ok : goal.returns-in-Ok
+returns-in-Ok c = search bench-cases

@@ -5,8 +5,8 @@ use Rattle.path_lines.proofs.put_path.Goals as goal
 pub returns-then-out-lt-PATH_BYTES : goal.returns-then-out-lt-PATH_BYTES
 returns-then-out-lt-PATH_BYTES c = search path-cases
 
-pub returns-in-Refused : goal.returns-in-Refused
-returns-in-Refused c = search path-cases
+pub returns-in-Err : goal.returns-in-Err
+returns-in-Err c = search path-cases
 
-pub returns-in-Written : goal.returns-in-Written
-returns-in-Written c = search path-cases
+pub returns-in-Ok : goal.returns-in-Ok
+returns-in-Ok c = search path-cases

@@ -47,11 +47,9 @@ pub fn outputs_before(part: &[u8], counts: &[u64; 512], inputs: usize, place: us
     ensures { result ≡ sum_of (output_counts_in part.now place inputs counts.now) }
 {
     let mut total: u64 = 0;
-    let mut before = 0;
-    while before < place {
+    for before in 0..place {
         let net = output_net(&part[4 * before..]);
         total += output_paths(counts, inputs, net);
-        before += 1;
     }
     total
 }

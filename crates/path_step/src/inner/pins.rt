@@ -51,11 +51,9 @@ pub fn count_before(part: &[u8], counts: &[u64; 512], pin: usize) -> u64
     ensures { result ≡ counts_before pin (pin_counts_in part.now counts.now) }
 {
     let mut sum: u64 = 0;
-    let mut before = 0;
-    while before < pin {
+    for before in 0..pin {
         let net = pin_net(part, before);
         sum += counts[net];
-        before += 1;
     }
     sum
 }

@@ -14,12 +14,10 @@ pub fn same_words(report: &[u8], at: usize, words: &[u64]) -> bool
     requires { at + 8 * length words.now ≤ length report.now }
     ensures { result ≡ same_bytes (take (8 * length words.now) (drop at report.now)) (word_bytes words.now) }
 {
-    let mut i = 0;
-    while i < words.len() {
-        if !same(report, at + WORD_BYTES * i, WORD_BYTES, words[i]) {
+    for (i, word) in words.iter().enumerate() {
+        if !same(report, at + WORD_BYTES * i, WORD_BYTES, *word) {
             return false;
         }
-        i += 1;
     }
     true
 }

@@ -14,10 +14,8 @@ pub fn put_words(report: &mut [u8], at: usize, words: &[u64])
     requires { at + 8 * length words.now ≤ length report.old }
     ensures { report.new ≡ sets report.old at (word_bytes words.now) }
 {
-    let mut i = 0;
-    while i < words.len() {
-        put(report, at + WORD_BYTES * i, WORD_BYTES, words[i]);
-        i += 1;
+    for (i, word) in words.iter().enumerate() {
+        put(report, at + WORD_BYTES * i, WORD_BYTES, *word);
     }
 }
 

@@ -5,7 +5,7 @@ ghost use Rattle.report_runs.specs.ReportRuns.{runs_of_bytes, Ascends};
 ghost use Rattle.report_differences.specs.Differences.{outside};
 ghost use Rattle.report_differences.specs.FirstClaim.{first_claim_of, each_held_of, all_held_of, first_in_of, claims_held_of, told_of};
 
-use crate::inner::walk::{Piece, next_piece};
+use crate::inner::walk::{FaultRange, next_piece};
 use report_bytes::layout::HEAD_BYTES;
 use report_runs::ascending;
 use report_runs::inner::{falling_runs, rising_runs};
@@ -30,8 +30,8 @@ fn first_number(a: &[u8], b: &[u8], paths: u64) -> u64
     let found = next_piece(a, 0, b, 0, 1);
     let piece = found.piece;
     match piece {
-        Piece::Nothing => 0,
-        Piece::Range { low, .. } => {
+        None => 0,
+        Some(FaultRange { low, .. }) => {
             if paths < low {
                 return 0;
             }
@@ -60,8 +60,8 @@ fn each_held(a: &[u8], b: &[u8]) -> bool
     let found = next_piece(a, 0, b, 0, 0);
     let piece = found.piece;
     match piece {
-        Piece::Nothing => true,
-        Piece::Range { .. } => false,
+        None => true,
+        Some(FaultRange { .. }) => false,
     }
 }
 

@@ -29,17 +29,10 @@ enum Step {
     End,
 }
 
-// The first number of a kind.
-#[derive(Drop)]
-enum First {
-    At(u64),
-    Nothing,
-}
-
 // The first number of a kind, with a place in the runs of each.
 #[derive(Drop)]
 struct Start {
-    first: First,
+    first: Option<u64>,
     i: usize,
     j: usize,
 }
@@ -54,15 +47,15 @@ struct Last {
 
 // A longest range of numbers.
 #[derive(Drop)]
-pub enum Piece {
-    Range { low: u64, high: u64 },
-    Nothing,
+pub struct FaultRange {
+    pub low: u64,
+    pub high: u64,
 }
 
 // A range, with the place in the runs of each from which the next is looked for.
 #[derive(Drop)]
 pub struct Found {
-    pub piece: Piece,
+    pub piece: Option<FaultRange>,
     pub i: usize,
     pub j: usize,
 }
@@ -73,14 +66,12 @@ fn seek(runs: &[u8], from: usize, number: u64) -> usize
     ensures { Reached runs.now result number }
 {
     let count = runs.len() / RUN_BYTES;
-    let mut at = from;
-    while at < count {
+    for at in from..count {
         if number <= number_at(runs, RUN_BYTES * at + 8) {
             return at;
         }
-        at += 1;
     }
-    at
+    count
 }
 
 // Where a number stands among runs of which those before a place end before it and the one at the place does not.
@@ -143,7 +134,7 @@ fn first_only(a: &[u8], i: usize, b: &[u8], j: usize, from: u64) -> Start
         match found {
             Step::Only(_) => {
                 return Start {
-                    first: First::At(number),
+                    first: Some(number),
                     i: here,
                     j: there,
                 };
@@ -151,7 +142,7 @@ fn first_only(a: &[u8], i: usize, b: &[u8], j: usize, from: u64) -> Start
             Step::Not(next) => number = next,
             Step::End => {
                 return Start {
-                    first: First::Nothing,
+                    first: None,
                     i: here,
                     j: there,
                 };
@@ -193,18 +184,18 @@ pub fn next_piece(a: &[u8], i: usize, b: &[u8], j: usize, from: u64) -> Found
     let start = first_only(a, i, b, j, from);
     let first = start.first;
     match first {
-        First::Nothing => Found {
-            piece: Piece::Nothing,
+        None => Found {
+            piece: None,
             i: start.i,
             j: start.j,
         },
-        First::At(low) => {
+        Some(low) => {
             let last = last_only(a, start.i, b, start.j, low);
             Found {
-                piece: Piece::Range {
+                piece: Some(FaultRange {
                     low,
                     high: last.high,
-                },
+                }),
                 i: last.i,
                 j: last.j,
             }

@@ -3,8 +3,8 @@ use Rattle.model.proofs.Prelude.{rules}
 use Rattle.report_runs.proofs.AscendLaws.{ordered-all, ordered-not}
 use Rattle.report_runs.proofs.ascending.Goals as goal
 
-pub returns-in-Ascending : goal.returns-in-Ascending
-returns-in-Ascending c = search (ordered-all, ordered-not, rules)
+pub returns-in-Ok : goal.returns-in-Ok
+returns-in-Ok c = search (ordered-all, ordered-not, rules)
 
-pub returns-in-OutOfOrder : goal.returns-in-OutOfOrder
-returns-in-OutOfOrder c = search (ordered-all, ordered-not, rules)
+pub returns-in-Err : goal.returns-in-Err
+returns-in-Err c = search (ordered-all, ordered-not, rules)

@@ -9,6 +9,3 @@ invariant-loop-at l =
     (l.at ≤ length l.runs / 16)
     × Ascends 0 (take l.at (runs_of_bytes l.runs))
     × (least_after 0 (take l.at (runs_of_bytes l.runs)) ≡ least_at_of l.at l.last)
-
-abbrev pub decreases-loop-at : goal.decreases-loop-at
-decreases-loop-at l = l.count - l.at

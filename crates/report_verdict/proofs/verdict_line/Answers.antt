@@ -3,8 +3,8 @@ use Rattle.model.proofs.Prelude.{rules}
 use Rattle.report_verdict.proofs.VerdictLaws.{line-cases}
 use Rattle.report_verdict.proofs.verdict_line.Goals as goal
 
-pub returns-in-Accepted : goal.returns-in-Accepted
-returns-in-Accepted c = search line-cases
+pub returns-in-Ok : goal.returns-in-Ok
+returns-in-Ok c = search line-cases
 
-pub returns-in-Refused : goal.returns-in-Refused
-returns-in-Refused c = search (line-cases, rules)
+pub returns-in-Err : goal.returns-in-Err
+returns-in-Err c = search (line-cases, rules)

@@ -9,7 +9,6 @@ use detection::inner::digit;
 use model::MAX_RUNS;
 use netlist::inner::pin_net;
 use record_bytes::inner::wide;
-use run_lists::inner::Added;
 
 // Makes the runs of a gate's net, pin by pin.
 pub fn gate_runs(
@@ -19,18 +18,17 @@ pub fn gate_runs(
     starts: &[u16; 513],
     words: &mut [u64],
     start: usize,
-) -> Added
+) -> Option<usize>
     requires { GateReady part.now mask counts.now starts.now words.old start }
     ensures { Adds words.old words.new start (max_runs - start)
         (gate_runs_of part.now mask counts.now starts.now words.old) result }
 {
     let pins = wide(part[3]);
-    let mut pin = 0;
     let mut count = 0;
     let mut offset: u64 = 0;
-    while pin < pins {
+    for pin in 0..pins {
         let net = pin_net(part, pin);
-        match add_net(
+        count = add_net(
             digit(mask as u64, pin as u64),
             starts,
             net,
@@ -39,16 +37,8 @@ pub fn gate_runs(
             count,
             MAX_RUNS - start,
             offset,
-        ) {
-            Added::Count(c) => {
-                count = c;
-            }
-            Added::Full => {
-                return Added::Full;
-            }
-        }
+        )?;
         offset += counts[net];
-        pin += 1;
     }
-    Added::Count(count)
+    Some(count)
 }

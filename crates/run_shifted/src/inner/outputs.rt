@@ -8,7 +8,6 @@ use crate::inner::add_net;
 use model::MAX_RUNS;
 use netlist::inner::output_net;
 use netlist_outputs::inner::output_paths;
-use run_lists::inner::Added;
 
 // 1 where a net is a gate's. An output at an input's net, a wire without a gate, has no path and adds no run.
 fn at_gate(inputs: usize, net: usize) -> usize
@@ -28,17 +27,16 @@ pub fn out_runs(
     counts: &[u64; 512],
     starts: &[u16; 513],
     words: &mut [u64],
-) -> Added
+) -> Option<usize>
     requires { OutputsReady part.now inputs outputs counts.now starts.now words.old }
     ensures { Adds words.old words.new max_runs max_runs
         (output_runs part.now inputs outputs counts.now starts.now words.old) result }
 {
-    let mut place = 0;
     let mut count = 0;
     let mut offset: u64 = 0;
-    while place < outputs {
+    for place in 0..outputs {
         let net = output_net(&part[4 * place..]);
-        match add_net(
+        count = add_net(
             at_gate(inputs, net),
             starts,
             net,
@@ -47,16 +45,8 @@ pub fn out_runs(
             count,
             MAX_RUNS,
             offset,
-        ) {
-            Added::Count(c) => {
-                count = c;
-            }
-            Added::Full => {
-                return Added::Full;
-            }
-        }
+        )?;
         offset += output_paths(counts, inputs, net);
-        place += 1;
     }
-    Added::Count(count)
+    Some(count)
 }

@@ -5,7 +5,7 @@ ghost use Rattle.run_lists.specs.Answers.{Room, Adds};
 ghost use Rattle.run_union.specs.Unions.{left_first_of, least_after, BeginsOver, Unites};
 
 use crate::inner::append;
-use run_lists::inner::{Added, first_reaching};
+use run_lists::inner::first_reaching;
 
 // Whether the next run by ascending low is the left list's.
 fn left_first(a: &[u64], i: usize, m: usize, b: &[u64], j: usize, n: usize) -> bool
@@ -29,7 +29,7 @@ fn append_run(
     start: usize,
     count: usize,
     capacity: usize,
-) -> Added
+) -> Option<usize>
     requires room { Room out.old start count capacity }
     requires i_in_bounds { 2 * i + 1 < length from.now }
     requires run_within { RunWithin (2 ^ 62) (run_at from.now i) }
@@ -39,7 +39,13 @@ fn append_run(
 }
 
 // Adds run i of the same words.
-fn append_own(words: &mut [u64], i: usize, start: usize, count: usize, capacity: usize) -> Added
+fn append_own(
+    words: &mut [u64],
+    i: usize,
+    start: usize,
+    count: usize,
+    capacity: usize,
+) -> Option<usize>
     requires room { Room words.old start count capacity }
     requires i_lt_start { i < start }
     requires run_within { RunWithin (2 ^ 62) (run_at words.old i) }
@@ -60,7 +66,7 @@ pub fn union(
     b_to: usize,
     start: usize,
     capacity: usize,
-) -> Added
+) -> Option<usize>
     requires a_from_le_a_to { (a_from ≤ a_to) × (2 * a_to ≤ length a.now) × (b_from ≤ b_to) × (b_to ≤ start) }
     requires room { Room words.old start 0 capacity }
     requires sound { Sound (2 ^ 62) (runs_in_words a.now a_from (a_to - a_from)) × Sound (2 ^ 62) (runs_in_words words.old b_from (b_to - b_from)) }
@@ -71,20 +77,20 @@ pub fn union(
     let mut k = 0;
     while i + j < a_to + b_to {
         if left_first(a, i, a_to, words, j, b_to) {
-            let Added::Count(c) = append_run(a, i, words, start, k, capacity) else {
-                return Added::Full;
+            let Some(c) = append_run(a, i, words, start, k, capacity) else {
+                return None;
             };
             k = c;
             i += 1;
         } else {
-            let Added::Count(c) = append_own(words, j, start, k, capacity) else {
-                return Added::Full;
+            let Some(c) = append_own(words, j, start, k, capacity) else {
+                return None;
             };
             k = c;
             j += 1;
         }
     }
-    Added::Count(k)
+    Some(k)
 }
 
 // A place up to which no run reaches one that begins with `low`: the first that does, found by search. What is found is asked at the place itself.
@@ -104,12 +110,10 @@ pub fn first_apart(words: &[u64], from: usize, to: usize, high: u64) -> usize
     requires { (from ≤ to) × (2 * to ≤ length words.now) × (high ≤ 2 ^ 62) }
     ensures { (from ≤ result) × (result ≤ to) × BeginsOver high (runs_in_words words.now result (to - result)) }
 {
-    let mut i = from;
-    while i < to {
+    for i in from..to {
         if high + 1 < words[2 * i] {
             return i;
         }
-        i += 1;
     }
-    i
+    to
 }

@@ -7,15 +7,13 @@ fn move_down(words: &mut [u64], from: usize, count: usize, to: usize)
     requires { (to ≤ from) × (2 * (from + count) ≤ length words.old) }
     ensures { words.new ≡ write_runs_of words.old to (runs_in_words words.old from count) }
 {
-    let mut k = 0;
-    while k < count {
+    for k in 0..count {
         let s = 2 * (from + k);
         let w = 2 * (to + k);
         let low = words[s];
         let high = words[s + 1];
         words[w] = low;
         words[w + 1] = high;
-        k += 1;
     }
 }
 
@@ -24,9 +22,7 @@ fn move_up(words: &mut [u64], from: usize, count: usize, to: usize)
     requires { (from ≤ to) × (2 * (to + count) ≤ length words.old) }
     ensures { words.new ≡ write_runs_of words.old to (runs_in_words words.old from count) }
 {
-    let mut k = count;
-    while 0 < k {
-        k -= 1;
+    for k in (0..count).rev() {
         let s = 2 * (from + k);
         let w = 2 * (to + k);
         let low = words[s];

@@ -36,10 +36,8 @@ fn input_states(v1: u64, v2: u64, inputs: usize) -> [u32; 512]
     ensures { InputStates v1 v2 inputs result }
 {
     let mut states = [0u32; 512];
-    let mut i = 0;
-    while i < inputs {
+    for i in 0..inputs {
         states[i] = input_state(v1, v2, i);
-        i += 1;
     }
     states
 }
@@ -59,8 +57,7 @@ pub fn open_masks(
 {
     let mut states = input_states(v1, v2, shape.inputs);
     let mut masks = [0u8; 512];
-    let mut net = shape.inputs;
-    while net < shape.nets {
+    for net in shape.inputs..shape.nets {
         let part = gate_part(netlist, positions, net);
         let kind = part[2];
         let pins = part[3];
@@ -68,7 +65,6 @@ pub fn open_masks(
         let at_pins = packing::pin_states(packed);
         masks[net] = class_pins(class, kind, pins, at_pins);
         states[net] = evaluate(kind, pins, at_pins);
-        net += 1;
     }
     masks
 }

@@ -24,9 +24,7 @@ pub(crate) fn pack_states(part: &[u8], pins: usize, states: &[u32; 512]) -> u32
         return pack_two(part, states);
     }
     let mut packed: u32 = 0;
-    let mut k = pins;
-    while 0 < k {
-        k -= 1;
+    for k in (0..pins).rev() {
         let net = pin_net(part, k);
         packed = 2 * packed + states[net];
     }

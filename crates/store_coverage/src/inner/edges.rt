@@ -2,14 +2,14 @@
 ghost use Rattle.std.specs.Prelude.{◌≡◌, List, ℕ, ◌≤◌};
 ghost use Rattle.model.specs.Netlist.{path_total};
 ghost use Rattle.run_lists.specs.RunLists.{Sound};
-ghost use Rattle.run_lists.specs.declared.inner.Added.TheVariants.{Count};
 ghost use Rattle.detection.specs.Cases.{Case};
 ghost use Rattle.detection.specs.Walks.{Detects};
 ghost use Rattle.store_coverage.specs.Covers.{held_runs, JoinReady, Covers};
 ghost use Rattle.store_coverage.specs.Both.{joined};
+ghost use Rattle.std.specs.Prelude.{Some};
 
 use model::MAX_RUNS;
-use run_lists::inner::{Added, inside};
+use run_lists::inner::inside;
 use run_union::inner::merging::{first_apart, first_joined, union};
 use store_writing::inner::Change;
 
@@ -18,19 +18,18 @@ pub const RISING_UNION: usize = 2048;
 
 pub const FALLING_UNION: usize = 3072;
 
-// What a test makes of one edge: its runs are kept or made anew, or why they may not be.
-#[derive(Drop)]
-pub enum EdgeAnswer {
-    Covered(Change),
-    OverWork,
-    OverStore,
+// Which memory does not hold the runs: the working memory those that a test detects, or the store those of an edge after it.
+#[derive(Clone, Copy)]
+pub enum Over {
+    Work,
+    Store,
 }
 
 // Joins detected runs of which some are new. Only those that an edge holds between the first and the last of them are united with them, at run `target`.
-fn join_new(found: usize, held: &[u64], words: &mut [u64], target: usize) -> EdgeAnswer
-    requires join_ready { JoinReady (Count found) held.now words.old target }
+fn join_new(found: usize, held: &[u64], words: &mut [u64], target: usize) -> Result<Change, Over>
+    requires join_ready { JoinReady (Some found) held.now words.old target }
     requires le_found { 1 ≤ found }
-    ensures { (K : Case) (ws : List ℕ) → Detects K ws words.old (Count found)
+    ensures { (K : Case) (ws : List ℕ) → Detects K ws words.old (Some found)
         → Sound (path_total K.netlist) (held_runs held.now) → Covers K (held_runs held.now) ws words.new target result }
 {
     let count = held.len() / 2;
@@ -38,61 +37,60 @@ fn join_new(found: usize, held: &[u64], words: &mut [u64], target: usize) -> Edg
     let from = first_joined(held, count, words[2 * MAX_RUNS]);
     let to = first_apart(held, from, count, words[2 * end - 1]);
     match union(held, from, to, words, MAX_RUNS, end, target, MAX_RUNS) {
-        Added::Count(n) => {
+        Some(n) => {
             if MAX_RUNS < from + n + (count - to) {
-                return EdgeAnswer::OverStore;
+                return Err(Over::Store);
             }
-            EdgeAnswer::Covered(Change::Made(from, to, n))
+            Ok(Change::Made(from, to, n))
         }
-        Added::Full => EdgeAnswer::OverStore,
+        None => Err(Over::Store),
     }
 }
 
 // Joins the detected runs of the second quarter of the words to the runs that an edge holds. Where something is new a union is made at run `target`.
-pub fn join_edge(detected: Added, held: &[u64], words: &mut [u64], target: usize) -> EdgeAnswer
+pub fn join_edge(
+    detected: Option<usize>,
+    held: &[u64],
+    words: &mut [u64],
+    target: usize,
+) -> Result<Change, Over>
     requires { JoinReady detected held.now words.old target }
     ensures { (K : Case) (ws : List ℕ) → Detects K ws words.old detected
         → Sound (path_total K.netlist) (held_runs held.now) → Covers K (held_runs held.now) ws words.new target result }
 {
     match detected {
-        Added::Full => EdgeAnswer::OverWork,
-        Added::Count(found) => {
+        None => Err(Over::Work),
+        Some(found) => {
             if found == 0 {
-                return EdgeAnswer::Covered(Change::Kept);
+                return Ok(Change::Kept);
             }
             let count = held.len() / 2;
             let end = MAX_RUNS + found;
             if inside(held, 0, count, words, MAX_RUNS, end) {
-                return EdgeAnswer::Covered(Change::Kept);
+                return Ok(Change::Kept);
             }
             join_new(found, held, words, target)
         }
     }
 }
 
-// What a test makes of both edges, the rising one first, or why the store may not hold it.
-#[derive(Clone, Copy)]
-pub enum BothAnswer {
-    Fits(Change, Change),
-    WorkOver,
-    StoreOver,
-}
-
-// The answers of two edges as one.
-pub fn join_answers(rising: EdgeAnswer, falling: EdgeAnswer) -> BothAnswer
+// What a test makes of both edges, the rising one first: the answers of two edges as one.
+pub fn join_answers(
+    rising: Result<Change, Over>,
+    falling: Result<Change, Over>,
+) -> Result<(Change, Change), Over>
     ensures { result ≡ joined rising falling }
 {
     match rising {
-        EdgeAnswer::Covered(r) => match falling {
-            EdgeAnswer::Covered(f) => BothAnswer::Fits(r, f),
-            EdgeAnswer::OverWork => BothAnswer::WorkOver,
-            EdgeAnswer::OverStore => BothAnswer::StoreOver,
-        },
-        EdgeAnswer::OverWork => BothAnswer::WorkOver,
-        EdgeAnswer::OverStore => match falling {
-            EdgeAnswer::Covered(f) => BothAnswer::StoreOver,
-            EdgeAnswer::OverWork => BothAnswer::WorkOver, // before the rising edge's 51
-            EdgeAnswer::OverStore => BothAnswer::StoreOver,
+        Ok(r) => {
+            let f = falling?;
+            Ok((r, f))
+        }
+        Err(Over::Work) => Err(Over::Work),
+        Err(Over::Store) => match falling {
+            Ok(f) => Err(Over::Store),
+            Err(Over::Work) => Err(Over::Work), // before the rising edge's 51
+            Err(Over::Store) => Err(Over::Store),
         },
     }
 }

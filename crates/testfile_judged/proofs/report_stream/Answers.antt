@@ -9,8 +9,8 @@ walk_file-walk-requires c = (search stream-cases, search stream-cases)
 pub true_report-written-requires : goal.true_report-written-requires
 true_report-written-requires c = search stream-cases
 
-pub returns-in-Refused : goal.returns-in-Refused
-returns-in-Refused c = (search stream-cases, search rules)
+pub returns-in-Err : goal.returns-in-Err
+returns-in-Err c = (search stream-cases, search rules)
 
-pub returns-in-Ready : goal.returns-in-Ready
-returns-in-Ready c = (search stream-cases, search rules)
+pub returns-in-Ok : goal.returns-in-Ok
+returns-in-Ok c = (search stream-cases, search rules)

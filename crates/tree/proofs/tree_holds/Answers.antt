@@ -1,6 +1,6 @@
 -- `tree::tree_holds` meets its contract: the checks come first, in their order.
 use Rattle.model.proofs.Prelude.{rules}
-use Rattle.tree.proofs.TreeCallCases.{holds-short, holds-bad, holds-zero, holds-high, holds-yes, holds-no}
+use Rattle.tree.proofs.TreeCallCases.{holds-short, holds-bad, holds-zero, holds-high, holds-taken}
 use Rattle.tree.proofs.tree_holds.Goals as goal
 
 pub returns-then-words-lt-TREE_WORDS : goal.returns-then-words-lt-TREE_WORDS
@@ -15,8 +15,5 @@ returns-then-number-lt1 c = search (holds-zero, rules)
 pub returns-then-number-gt-MAX_COUNT : goal.returns-then-number-gt-MAX_COUNT
 returns-then-number-gt-MAX_COUNT c = search (holds-high, rules)
 
-pub returns-then-v : goal.returns-then-v
-returns-then-v c = search (holds-yes, rules)
-
 pub returns : goal.returns
-returns c = search (holds-no, rules)
+returns c = search (holds-taken, rules)

@@ -16,5 +16,5 @@ returns-then-not-run_legal c = search (search_range, rules)
 pub returns : goal.returns
 returns c = search (search_taken, rules)
 
-pub search_runs-requires : goal.search_runs-requires
-search_runs-requires c = search (legal-low, legal-both, legal-high, sound-tree, rules)
+pub search_runs-found-requires : goal.search_runs-found-requires
+search_runs-found-requires c = search (legal-low, legal-both, legal-high, sound-tree, rules)

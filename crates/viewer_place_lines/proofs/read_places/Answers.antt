@@ -1,5 +1,5 @@
 -- `viewer_place_lines::read_places` meets its contract: the lines that are left, after the places so far, give the whole.
-use Rattle.model.proofs.Prelude.{◌-◌, rules}
+use Rattle.model.proofs.Prelude.{rules}
 use Rattle.bench_lines.proofs.TextLineLaws.{line_low, line-stop-in, line-less, line-counted}
 use Rattle.viewer_place_lines.proofs.PlaceListLaws.{text-cases}
 use Rattle.viewer_place_lines.proofs.read_places.Goals as goal
@@ -28,5 +28,5 @@ loop-at-preserved c = (search text-cases, search (line-counted, rules))
 pub returns-clause-list_value : goal.returns-clause-list_value
 returns-clause-list_value c = search (line_low, line-stop-in, line-less, line-counted, text-cases, rules)
 
-pub returns-in-Other-clause-list_value : goal.returns-in-Other-clause-list_value
-returns-in-Other-clause-list_value c = search (line_low, line-stop-in, line-less, line-counted, text-cases, rules)
+pub returns-in-None-clause-list_value : goal.returns-in-None-clause-list_value
+returns-in-None-clause-list_value c = search (line_low, line-stop-in, line-less, line-counted, text-cases, rules)

@@ -5,6 +5,3 @@ use Rattle.ask_text.proofs.inner.put_answers.Given as goal
 
 abbrev pub invariant-loop-i : goal.invariant-loop-i
 invariant-loop-i l = AnsweringPiece l.initial.at l.paths l.rising l.falling l.piece l.initial.out l.out l.at l.i
-
-abbrev pub decreases-loop-i : goal.decreases-loop-i
-decreases-loop-i l = length l.piece - l.i

@@ -9,14 +9,14 @@ pub apply_tests-applied-requires : goal.apply_tests-applied-requires
 apply_tests-applied-requires c =
     read-ready c.requires c.read_block-read.ensures.1
 
-pub returns-in-Refused : goal.returns-in-Refused
-returns-in-Refused c =
-    block_refused c.requires c.read_block-read.ensures.1 c.apply_tests-applied.ensures c.in-Refused.is
+pub returns-in-Err : goal.returns-in-Err
+returns-in-Err c =
+    block_refused c.requires c.read_block-read.ensures.1 c.apply_tests-applied.ensures c.in-Err.is
 
-pub returns-in-Refused-after : goal.returns-in-Refused-after
-returns-in-Refused-after c =
-    block-next c.requires c.read_block-read.ensures.1 c.apply_tests-applied.ensures c.in-Taken.is c.in-Refused-after.is
+pub returns-in-Err-after : goal.returns-in-Err-after
+returns-in-Err-after c =
+    block-next c.requires c.read_block-read.ensures.1 c.apply_tests-applied.ensures c.in-Ok.is c.in-Err-after.is
 
-pub returns-in-Legal : goal.returns-in-Legal
-returns-in-Legal c =
-    block-onward c.requires c.read_block-read.ensures.1 c.apply_tests-applied.ensures c.in-Taken.is c.in-Legal.is
+pub returns-in-Ok-after : goal.returns-in-Ok-after
+returns-in-Ok-after c =
+    block-onward c.requires c.read_block-read.ensures.1 c.apply_tests-applied.ensures c.in-Ok.is c.in-Ok-after.is

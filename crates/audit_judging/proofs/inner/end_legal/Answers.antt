@@ -11,11 +11,11 @@ returns-then-first-ne0 c = search legal-cases
 pub compare-compared-requires : goal.compare-compared-requires
 compare-compared-requires c = search legal-cases
 
-pub returns-in-Refused : goal.returns-in-Refused
-returns-in-Refused c = search legal-cases
+pub returns-in-Err : goal.returns-in-Err
+returns-in-Err c = search legal-cases
 
-pub returns-in-Equal : goal.returns-in-Equal
-returns-in-Equal c = search legal-cases
+pub returns-in-Ok-compared : goal.returns-in-Ok-compared
+returns-in-Ok-compared c = search legal-cases
 
-pub returns-in-Refused-compared : goal.returns-in-Refused-compared
-returns-in-Refused-compared c = search legal-cases
+pub returns-in-Err-compared : goal.returns-in-Err-compared
+returns-in-Err-compared c = search legal-cases

@@ -2,8 +2,8 @@
 use Rattle.audit_judging.proofs.JudgingCases.{judge-cases}
 use Rattle.audit_judging.proofs.inner.judge.Goals as goal
 
-pub returns-in-Equal : goal.returns-in-Equal
-returns-in-Equal c = search judge-cases
+pub returns-in-Ok : goal.returns-in-Ok
+returns-in-Ok c = search judge-cases
 
-pub returns-in-Refused : goal.returns-in-Refused
-returns-in-Refused c = search judge-cases
+pub returns-in-Err : goal.returns-in-Err
+returns-in-Err c = search judge-cases

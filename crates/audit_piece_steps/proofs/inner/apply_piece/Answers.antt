@@ -5,8 +5,8 @@ use Rattle.audit_piece_steps.proofs.inner.apply_piece.Goals as goal
 pub apply_records-more-requires : goal.apply_records-more-requires
 apply_records-more-requires c = search piece-cases
 
-pub returns-in-Refused : goal.returns-in-Refused
-returns-in-Refused c = search piece-cases
+pub returns-in-Err : goal.returns-in-Err
+returns-in-Err c = search piece-cases
 
-pub returns-in-Taken : goal.returns-in-Taken
-returns-in-Taken c = search piece-cases
+pub returns-in-Ok : goal.returns-in-Ok
+returns-in-Ok c = search piece-cases

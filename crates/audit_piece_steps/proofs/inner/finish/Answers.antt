@@ -11,8 +11,8 @@ returns-then-not-whole_length c = search end-cases
 pub judge-requires : goal.judge-requires
 judge-requires c = search end-cases
 
-pub returns-in-Refused : goal.returns-in-Refused
-returns-in-Refused c = search end-cases
+pub returns-in-Err : goal.returns-in-Err
+returns-in-Err c = search end-cases
 
-pub returns-in-Taken : goal.returns-in-Taken
-returns-in-Taken c = search end-cases
+pub returns-in-Ok : goal.returns-in-Ok
+returns-in-Ok c = search end-cases

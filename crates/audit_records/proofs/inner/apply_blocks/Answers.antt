@@ -15,8 +15,8 @@ take_block-block-requires c = search blocks-cases
 pub overflow_add-result : goal.overflow_add-result
 overflow_add-result c = search blocks-cases
 
-pub returns-in-Refused : goal.returns-in-Refused
-returns-in-Refused c = search blocks-cases
+pub returns-in-Err : goal.returns-in-Err
+returns-in-Err c = search blocks-cases
 
 pub overflow_mul-at : goal.overflow_mul-at
 overflow_mul-at c =
@@ -30,12 +30,12 @@ overflow_add-taken c = search blocks-cases
 
 pub loop-at-smaller : goal.loop-at-smaller
 loop-at-smaller c =
-    taking_less _ _ _ _ _ _ _ _ c.requires c.loop-at.invariant c.record_length-bytes.ensures.0 c.take_block-block.ensures c.in-Taken.is
+    taking_less _ _ _ _ _ _ _ _ c.requires c.loop-at.invariant c.record_length-bytes.ensures.0 c.take_block-block.ensures c.in-Ok.is
     (omega (arith, c.loop-at-test.true))
 
 pub loop-at-preserved : goal.loop-at-preserved
 loop-at-preserved c =
-    taking_next _ _ _ _ _ _ _ _ c.requires c.loop-at.invariant c.record_length-bytes.ensures.0 c.take_block-block.ensures c.in-Taken.is
+    taking_next _ _ _ _ _ _ _ _ c.requires c.loop-at.invariant c.record_length-bytes.ensures.0 c.take_block-block.ensures c.in-Ok.is
 
 pub returns : goal.returns
 returns c = search blocks-cases

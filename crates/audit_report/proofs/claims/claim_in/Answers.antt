@@ -12,8 +12,8 @@ returns-then-low-first c = search claim-cases
 pub returns-then-high-last : goal.returns-then-high-last
 returns-then-high-last c = search claim-cases
 
-pub returns-in-Nothing : goal.returns-in-Nothing
-returns-in-Nothing c = search claim-cases
+pub returns-in-None : goal.returns-in-None
+returns-in-None c = search claim-cases
 
 pub returns-else-high-last : goal.returns-else-high-last
 returns-else-high-last c = search claim-cases

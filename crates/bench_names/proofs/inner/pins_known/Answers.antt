@@ -10,8 +10,8 @@ loop-more-init c = search (known_start, rules)
 pub read_pin-pin-requires : goal.read_pin-pin-requires
 read_pin-pin-requires c = search (known-inside, rules)
 
-pub returns-in-Other : goal.returns-in-Other
-returns-in-Other c = search (known-stop, rules)
+pub returns-in-None : goal.returns-in-None
+returns-in-None c = search (known-stop, rules)
 
 pub net_at-net-requires : goal.net_at-net-requires
 net_at-net-requires c = search (pin-name, rules)

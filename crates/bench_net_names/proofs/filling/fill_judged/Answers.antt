@@ -11,11 +11,11 @@ overflow_mul-gate_words c = search fill-cases
 pub copy_words-requires : goal.copy_words-requires
 copy_words-requires c = search fill-cases
 
-pub copy_words-requires-in-Sound : goal.copy_words-requires-in-Sound
-copy_words-requires-in-Sound c = search fill-cases
+pub copy_words-requires-in-Ok : goal.copy_words-requires-in-Ok
+copy_words-requires-in-Ok c = search fill-cases
 
-pub returns-in-Refused : goal.returns-in-Refused
-returns-in-Refused c = search fill-cases
+pub returns-in-Err : goal.returns-in-Err
+returns-in-Err c = search fill-cases
 
-pub returns-in-Sound : goal.returns-in-Sound
-returns-in-Sound c = search fill-cases
+pub returns-in-Ok : goal.returns-in-Ok
+returns-in-Ok c = search fill-cases

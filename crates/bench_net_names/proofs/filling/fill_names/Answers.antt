@@ -5,5 +5,5 @@ use Rattle.bench_net_names.proofs.filling.fill_names.Goals as goal
 pub fill_judged-requires : goal.fill_judged-requires
 fill_judged-requires c = search fill-cases
 
-pub returns-in-Refused : goal.returns-in-Refused
-returns-in-Refused c = search fill-cases
+pub returns-in-Err : goal.returns-in-Err
+returns-in-Err c = search fill-cases

@@ -10,11 +10,11 @@ loop-more-init c = search (put-start, rules)
 pub read_pin-pin-requires : goal.read_pin-pin-requires
 read_pin-pin-requires c = search (put-inside, rules)
 
-pub shape_of-out-in-Other : goal.shape_of-out-in-Other
-shape_of-out-in-Other c = search (put-length, rules)
+pub shape_of-out-in-None : goal.shape_of-out-in-None
+shape_of-out-in-None c = search (put-length, rules)
 
-pub returns-in-Other : goal.returns-in-Other
-returns-in-Other c = search (put-stop, rules)
+pub returns-in-None : goal.returns-in-None
+returns-in-None c = search (put-stop, rules)
 
 pub net_at-net-requires : goal.net_at-net-requires
 net_at-net-requires c = search (pin-name, rules)

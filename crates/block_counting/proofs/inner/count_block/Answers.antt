@@ -52,14 +52,6 @@ renew_sections-requires c =
     c.count_both-answer.ensures c.answer_words.ensures c.totals_after-held.ensures c.put_answer.ensures made.ensures.0 in
     (counted-few next, made.ensures.0.room)
 
-pub overflow_add-t : goal.overflow_add-t
-overflow_add-t c =
-    omega (arith, c.loop-t-test.true, c.loop-t.invariant.few)
-
-pub loop-t-smaller : goal.loop-t-smaller
-loop-t-smaller c =
-    omega (arith, c.loop-t-test.true)
-
 pub loop-t-preserved : goal.loop-t-preserved
 loop-t-preserved c =
     let made = c.cover_listed-made in

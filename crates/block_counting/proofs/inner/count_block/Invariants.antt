@@ -6,6 +6,3 @@ use Rattle.block_counting.proofs.inner.count_block.Given as goal
 abbrev pub invariant-loop-t : goal.invariant-loop-t
 invariant-loop-t l =
     CountingBlock l.table l.offsets l.rising_lists l.falling_lists l.marks l.initial.store l.initial.work l.inputs l.records l.store l.work l.spans l.answers l.held l.t
-
-abbrev pub decreases-loop-t : goal.decreases-loop-t
-decreases-loop-t l = l.records - l.t

@@ -3,5 +3,5 @@ use Rattle.model.proofs.Prelude.{ap, sym}
 use Rattle.block_counting.specs.Counts.{totals_after_of}
 use Rattle.block_counting.proofs.inner.totals_after.Goals as goal
 
-pub returns-in-Taken : goal.returns-in-Taken
-returns-in-Taken c = let start = c.args in sym (ap (totals_after_of start.before) c.in-Taken.is)
+pub returns-in-Ok : goal.returns-in-Ok
+returns-in-Ok c = let start = c.args in sym (ap (totals_after_of start.before) c.in-Ok.is)

@@ -36,14 +36,6 @@ pub put_net-requires : goal.put_net-requires
 put_net-requires c =
     (omega (arith, few-nets c.requires.0, c.loop-net-test.true), omega (arith, c.loop-net.invariant.0.kept.same_length_of, c.requires.1))
 
-pub overflow_add-net : goal.overflow_add-net
-overflow_add-net c =
-    omega (arith, few-nets c.requires.0, c.loop-net-test.true)
-
-pub loop-net-smaller : goal.loop-net-smaller
-loop-net-smaller c =
-    omega (arith, c.loop-net-test.true)
-
 pub loop-net-preserved : goal.loop-net-preserved
 loop-net-preserved c = (
   words_step c.requires.0 c.loop-net.invariant.0 c.loop-net-test.true c.gate_at-gate.ensures c.scan_pins-scan.ensures c.active_words-live.ensures

@@ -5,7 +5,4 @@ use Rattle.block_detection.proofs.inner.gate_words.Given as goal
 
 abbrev pub invariant-loop-net : goal.invariant-loop-net
 invariant-loop-net l =
-    Stating l.table l.shape l.class l.initial.words l.words l.net × (length l.rising_rows ≡ 8) × (length l.falling_rows ≡ 8)
-
-abbrev pub decreases-loop-net : goal.decreases-loop-net
-decreases-loop-net l = l.shape.nets - l.net
+    Stating l.table l.fn.shape l.class l.initial.words l.words l.net × (length l.rising_rows ≡ 8) × (length l.falling_rows ≡ 8)

@@ -32,12 +32,6 @@ offset_bounds-spans-input-in-loop-input-2 c = search input-span-cases
 pub bounds-spans-input-in-loop-input-2 : goal.bounds-spans-input-in-loop-input-2
 bounds-spans-input-in-loop-input-2 c = search input-span-cases
 
-pub overflow_add-input : goal.overflow_add-input
-overflow_add-input c = search input-span-cases
-
-pub loop-input-smaller : goal.loop-input-smaller
-loop-input-smaller c = search input-span-cases
-
 pub loop-input-preserved : goal.loop-input-preserved
 loop-input-preserved c = search input-span-cases
 

@@ -5,6 +5,3 @@ use Rattle.block_intervals.proofs.inner.input_spans.Given as goal
 
 abbrev pub invariant-loop-input : goal.invariant-loop-input
 invariant-loop-input l = InputsSpanned l.inputs l.spans l.input
-
-abbrev pub decreases-loop-input : goal.decreases-loop-input
-decreases-loop-input l = l.inputs - l.input

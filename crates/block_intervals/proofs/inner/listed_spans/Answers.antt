@@ -11,7 +11,7 @@ pub net_spans-requires : goal.net_spans-requires
 net_spans-requires c = search listed-cases
 
 pub over_working-requires : goal.over_working-requires
-over_working-requires c = search listed-cases
+over_working-requires c = search (c.in_ok-total.was, listed-cases)
 
 pub shape_of-words-then-over_working : goal.shape_of-words-then-over_working
 shape_of-words-then-over_working c = search listed-cases
@@ -19,20 +19,17 @@ shape_of-words-then-over_working c = search listed-cases
 pub returns-then-over_working : goal.returns-then-over_working
 returns-then-over_working c =
     let made = c.net_spans.ensures in
-    (listed-spans made c.requires, λ K outs a. listed-over made a c.in-Count.is c.over_working.ensures c.if-over_working.true)
+    (listed-spans made c.requires, λ K outs a. listed-over made a c.in_ok-total.was c.over_working.ensures c.if-over_working.true)
 
-pub shape_of-words-in-Full : goal.shape_of-words-in-Full
-shape_of-words-in-Full c = search listed-cases
-
-pub returns-in-Full : goal.returns-in-Full
-returns-in-Full c =
+pub returns-in_err-total : goal.returns-in_err-total
+returns-in_err-total c =
     let made = c.net_spans.ensures in
-    (listed-spans made c.requires, λ K outs a. listed-full made a c.in-Full.is)
+    rw c.from_residual.ensures (listed-spans made c.requires, λ K outs a. listed-full made a c.in_err-total.was)
 
-pub shape_of-words-else-over_working : goal.shape_of-words-else-over_working
-shape_of-words-else-over_working c = search listed-cases
+pub shape_of-words : goal.shape_of-words
+shape_of-words c = search listed-cases
 
-pub returns-else-over_working : goal.returns-else-over_working
-returns-else-over_working c =
+pub returns : goal.returns
+returns c =
     let made = c.net_spans.ensures in
-    (listed-spans made c.requires, λ K outs a. listed-fits made a c.in-Count.is c.over_working.ensures c.if-over_working.false)
+    (listed-spans made c.requires, λ K outs a. listed-fits made a c.in_ok-total.was c.over_working.ensures c.if-over_working.false)

@@ -14,11 +14,8 @@ overflow_add-first c = search pin-cases
 pub add_pin-requires : goal.add_pin-requires
 add_pin-requires c = search pin-cases
 
-pub shape_of-words-in-Full : goal.shape_of-words-in-Full
-shape_of-words-in-Full c = search pin-cases
-
-pub returns-in-Full : goal.returns-in-Full
-returns-in-Full c = search pin-cases
+pub returns-in_err-count : goal.returns-in_err-count
+returns-in_err-count c = rw c.from_residual.ensures (search (c.in_err-count.was, pin-cases))
 
 pub overflow_sub-left : goal.overflow_sub-left
 overflow_sub-left c = search pin-cases
@@ -27,7 +24,7 @@ pub loop-left-smaller : goal.loop-left-smaller
 loop-left-smaller c = search pin-cases
 
 pub loop-left-preserved : goal.loop-left-preserved
-loop-left-preserved c = search pin-cases
+loop-left-preserved c = search (c.in_ok-count.was, pin-cases)
 
 pub shape_of-words : goal.shape_of-words
 shape_of-words c = search pin-cases

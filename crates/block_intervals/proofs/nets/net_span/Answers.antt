@@ -23,8 +23,8 @@ returns-then-byte-eq0 c = search span-cases
 pub overflow_add-after : goal.overflow_add-after
 overflow_add-after c = search span-cases
 
-pub returns-in-Count : goal.returns-in-Count
-returns-in-Count c = search span-cases
+pub returns : goal.returns
+returns c = search (c.in_ok-count.was, span-cases)
 
-pub returns-in-Full : goal.returns-in-Full
-returns-in-Full c = search span-cases
+pub returns-in_err-count : goal.returns-in_err-count
+returns-in_err-count c = rw c.from_residual.ensures (search (c.in_err-count.was, span-cases))

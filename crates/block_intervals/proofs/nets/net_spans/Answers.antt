@@ -14,26 +14,14 @@ bounds-entries-i c = search spans-cases
 pub net_span-requires : goal.net_span-requires
 net_span-requires c = search spans-cases
 
-pub enum_known-count : goal.enum_known-count
-enum_known-count c = search spans-cases
-
 pub overflow_add-total : goal.overflow_add-total
-overflow_add-total c = search spans-cases
+overflow_add-total c = search (c.in_ok-count.was, spans-cases)
 
-pub shape_of-words-in-Over : goal.shape_of-words-in-Over
-shape_of-words-in-Over c = search spans-cases
-
-pub returns-in-Over : goal.returns-in-Over
-returns-in-Over c = search spans-cases
-
-pub overflow_add-i : goal.overflow_add-i
-overflow_add-i c = search spans-cases
-
-pub loop-i-smaller : goal.loop-i-smaller
-loop-i-smaller c = search spans-cases
+pub returns-in_err-count : goal.returns-in_err-count
+returns-in_err-count c = rw c.from_residual.ensures (search (c.in_err-count.was, spans-cases))
 
 pub loop-i-preserved : goal.loop-i-preserved
-loop-i-preserved c = search spans-cases
+loop-i-preserved c = search (c.in_ok-count.was, spans-cases)
 
 pub shape_of-words : goal.shape_of-words
 shape_of-words c = search spans-cases

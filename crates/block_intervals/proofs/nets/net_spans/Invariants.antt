@@ -5,6 +5,3 @@ use Rattle.block_intervals.proofs.nets.net_spans.Given as goal
 
 abbrev pub invariant-loop-i : goal.invariant-loop-i
 invariant-loop-i l = NetsSpanned l.table l.offsets l.entries l.initial.spans l.initial.words l.spans l.words l.i l.made l.total
-
-abbrev pub decreases-loop-i : goal.decreases-loop-i
-decreases-loop-i l = length l.entries - l.i

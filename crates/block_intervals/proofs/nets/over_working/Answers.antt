@@ -17,12 +17,6 @@ overflow_shr-sum c = search working-cases
 pub overflow_add-sum : goal.overflow_add-sum
 overflow_add-sum c = search working-cases
 
-pub overflow_add-input : goal.overflow_add-input
-overflow_add-input c = search working-cases
-
-pub loop-input-smaller : goal.loop-input-smaller
-loop-input-smaller c = search working-cases
-
 pub loop-input-preserved : goal.loop-input-preserved
 loop-input-preserved c = search working-cases
 

@@ -5,6 +5,3 @@ use Rattle.block_intervals.proofs.nets.over_working.Given as goal
 
 abbrev pub invariant-loop-input : goal.invariant-loop-input
 invariant-loop-input l = InputsSummed l.total l.edges l.inputs l.input l.sum
-
-abbrev pub decreases-loop-input : goal.decreases-loop-input
-decreases-loop-input l = l.inputs - l.input

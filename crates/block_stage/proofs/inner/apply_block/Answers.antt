@@ -29,9 +29,9 @@ pub apply_listed-stage-requires : goal.apply_listed-stage-requires
 apply_listed-stage-requires c =
     some-listed c.loop-t.invariant c.loop-t-test.true c.edges_at-edges.ensures
 
-pub returns-in-Refused : goal.returns-in-Refused
-returns-in-Refused c =
-    let why = c.in-Refused.is in
+pub returns-in-Err : goal.returns-in-Err
+returns-in-Err c =
+    let why = c.in-Err.is in
     let stage = c.apply_listed-stage in
     let edges = c.edges_at-edges.ensures in
     let more = c.loop-t-test.true in
@@ -41,7 +41,7 @@ returns-in-Refused c =
 pub loop-t-preserved : goal.loop-t-preserved
 loop-t-preserved c =
     let stage = c.apply_listed-stage.ensures in
-    record_taken c.loop-t.invariant c.loop-t-test.true c.edges_at-edges.ensures stage.1 c.in-Taken.is stage.0
+    record_taken c.loop-t.invariant c.loop-t-test.true c.edges_at-edges.ensures stage.1 c.in-Ok.is stage.0
 
 pub returns : goal.returns
 returns c =

@@ -6,9 +6,6 @@ use Rattle.block_transpose.proofs.inner.gather_8x8.Goals as goal
 pub loop-t-init : goal.loop-t-init
 loop-t-init c = gather_start
 
-pub overflow_sub-t : goal.overflow_sub-t
-overflow_sub-t c = omega (arith, c.loop-t-test.true)
-
 pub overflow_add-first : goal.overflow_add-first
 overflow_add-first c = omega (arith, c.requires, c.loop-t.invariant.within)
 
@@ -23,9 +20,6 @@ overflow_shr-vectors c = omega (arith, c.requires)
 
 pub spread_bits-requires : goal.spread_bits-requires
 spread_bits-requires c = search (byte_fits, rules)
-
-pub loop-t-smaller : goal.loop-t-smaller
-loop-t-smaller c = omega (arith, c.loop-t-test.true)
 
 pub loop-t-preserved : goal.loop-t-preserved
 loop-t-preserved c = gather_step c.loop-t.invariant c.loop-t-test.true c.spread_bits.ensures

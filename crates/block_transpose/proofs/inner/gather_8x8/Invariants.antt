@@ -4,6 +4,3 @@ use Rattle.block_transpose.proofs.inner.gather_8x8.Given as goal
 
 abbrev pub invariant-loop-t : goal.invariant-loop-t
 invariant-loop-t l = Gathering l.vectors l.first l.shift l.word l.t
-
-abbrev pub decreases-loop-t : goal.decreases-loop-t
-decreases-loop-t l = l.t

@@ -1,5 +1,5 @@
 -- `block_transpose::inner::scatter_bytes` meets its contract. The loop's invariant: the bytes below i are put, those from i on are left.
-use Rattle.model.proofs.Prelude.{◌-◌, arith}
+use Rattle.model.proofs.Prelude.{arith}
 use Rattle.block_transpose.proofs.ScatterBytesCases.{scatter_bytes-start, scatter_bytes-step, scatter_bytes-end}
 use Rattle.block_transpose.proofs.inner.scatter_bytes.Goals as goal
 
@@ -26,12 +26,6 @@ offset_bounds-words-first-in-loop-i c = omega (arith, c.requires.0, c.loop-i-tes
 
 pub bounds-words-first-in-loop-i : goal.bounds-words-first-in-loop-i
 bounds-words-first-in-loop-i c = omega (arith, c.requires.0, c.loop-i-test.true)
-
-pub overflow_add-i : goal.overflow_add-i
-overflow_add-i c = omega (arith, c.loop-i-test.true)
-
-pub loop-i-smaller : goal.loop-i-smaller
-loop-i-smaller c = omega (arith, c.loop-i-test.true)
 
 pub loop-i-preserved : goal.loop-i-preserved
 loop-i-preserved c =

@@ -1,5 +1,5 @@
 -- `block_transpose::inner::transpose_column` meets its contract. The loop's invariant: the records below t stand in the eight words, and nothing above them.
-use Rattle.model.proofs.Prelude.{◌-◌, ◌∙◌, arith}
+use Rattle.model.proofs.Prelude.{◌∙◌, arith}
 use Rattle.block_transpose.proofs.TransposeCases.{transpose_column-start, transpose_column-step, transpose_column-end}
 use Rattle.block_transpose.proofs.inner.transpose_column.Goals as goal
 
@@ -27,16 +27,6 @@ scatter_bytes-requires c =
     let start = c.requires in
     (omega (arith, start), omega (arith, start, loop.invariant.eights, c.loop-t-test.true), loop.invariant.same_length_of ∙ start.3)
 
-pub overflow_add-t : goal.overflow_add-t
-overflow_add-t c =
-    let start = c.requires in
-    omega (arith, start, c.loop-t-test.true)
-
-pub loop-t-smaller : goal.loop-t-smaller
-loop-t-smaller c =
-    let start = c.requires in
-    omega (arith, start, c.loop-t-test.true)
-
 pub loop-t-preserved : goal.loop-t-preserved
 loop-t-preserved c =
     let start = c.requires in
@@ -45,3 +35,10 @@ loop-t-preserved c =
 
 pub returns : goal.returns
 returns c = transpose_column-end c.loop-t.invariant c.loop-t-test.false
+
+-- no record is left after these eight
+pub returns-2 : goal.returns-2
+returns-2 c =
+    let start = c.requires in
+    let last = transpose_column-step c.loop-t.invariant c.gather_8x8-word.ensures c.scatter_bytes.ensures (omega (arith, start, c.loop-t-test.true)) in
+    transpose_column-end last (omega arith)

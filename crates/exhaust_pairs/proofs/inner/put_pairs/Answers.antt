@@ -28,11 +28,5 @@ bounds-vectors-pairs-then-second-first c = search held-cases
 pub overflow_add-pairs : goal.overflow_add-pairs
 overflow_add-pairs c = search held-cases
 
-pub overflow_add-second : goal.overflow_add-second
-overflow_add-second c = search held-cases
-
-pub loop-second-smaller : goal.loop-second-smaller
-loop-second-smaller c = search held-cases
-
 pub loop-second-preserved : goal.loop-second-preserved
 loop-second-preserved c = search (held-skip, held-put, held-end, held-cases, rules)

@@ -6,6 +6,3 @@ use Rattle.exhaust_pairs.proofs.inner.put_pairs.Given as goal
 abbrev pub invariant-loop-second : goal.invariant-loop-second
 invariant-loop-second l =
     HeldSoFar l.first l.count l.vectors l.pairs l.second
-
-abbrev pub decreases-loop-second : goal.decreases-loop-second
-decreases-loop-second l = l.count - l.second

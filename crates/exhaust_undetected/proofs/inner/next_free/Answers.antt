@@ -1,5 +1,4 @@
 -- `exhaust_undetected::inner::next_free` meets its contract: what is first from the run at hand on is first of all runs.
-use Rattle.model.proofs.Prelude.{◌-◌}
 use Rattle.exhaust_undetected.proofs.FreeLaws.{walk-cases}
 use Rattle.exhaust_undetected.proofs.inner.next_free.Goals as goal
 
@@ -8,9 +7,6 @@ loop-i-init c = search walk-cases
 
 pub overflow_mul-i : goal.overflow_mul-i
 overflow_mul-i c = search walk-cases
-
-pub overflow_add-i : goal.overflow_add-i
-overflow_add-i c = search walk-cases
 
 pub offset_bounds-words-i : goal.offset_bounds-words-i
 offset_bounds-words-i c = search walk-cases
@@ -47,12 +43,6 @@ returns-then-words-i c = search walk-cases
 
 pub returns-then-x-words : goal.returns-then-x-words
 returns-then-x-words c = search walk-cases
-
-pub overflow_add-i-in-loop-i : goal.overflow_add-i-in-loop-i
-overflow_add-i-in-loop-i c = search walk-cases
-
-pub loop-i-smaller : goal.loop-i-smaller
-loop-i-smaller c = search walk-cases
 
 pub loop-i-preserved : goal.loop-i-preserved
 loop-i-preserved c = search walk-cases

@@ -4,4 +4,4 @@ use Rattle.exports.proofs.tree_calls.genduwal_tree_empty.Goals as goal
 
 pub returns : goal.returns
 returns c =
-    record { result_value = c.emptied_code.ensures ∙ c.tree_empty-emptied.ensures.answer; tree_after = c.tree_empty-emptied.ensures.words }
+    record { result_value = c.code_of.ensures ∙ c.tree_empty-emptied.ensures.answer; tree_after = c.tree_empty-emptied.ensures.words }

@@ -4,4 +4,4 @@ use Rattle.exports.proofs.tree_calls.genduwal_tree_holds_each.Goals as goal
 
 pub returns : goal.returns
 returns c =
-    record { answered = answered-by c.tree_holds_each-asked.ensures.answer c.each_code.ensures; answers_after = c.tree_holds_each-asked.ensures.words }
+    record { answered = answered-by c.tree_holds_each-asked.ensures.answer c.count_code.ensures; answers_after = c.tree_holds_each-asked.ensures.words }

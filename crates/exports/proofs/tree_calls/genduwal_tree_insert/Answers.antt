@@ -4,4 +4,4 @@ use Rattle.exports.proofs.tree_calls.genduwal_tree_insert.Goals as goal
 
 pub returns : goal.returns
 returns c =
-    record { result_value = c.changed_code.ensures ∙ c.tree_insert-changed.ensures.answer; holding = c.tree_insert-changed.ensures.holding }
+    record { result_value = c.code_of.ensures ∙ c.tree_insert-changed.ensures.answer; holding = c.tree_insert-changed.ensures.holding }

@@ -7,6 +7,3 @@ use Rattle.length_chart.proofs.bars.put_lengths.Given as goal
 abbrev pub invariant-loop-i : goal.invariant-loop-i
 invariant-loop-i l =
     (l.i ≤ 64) × (l.at ≤ l.start + 500 * l.i) × Written l.initial.out l.out l.start (each_below_of (bars_at l.paths l.rising l.falling) l.i) l.at
-
-abbrev pub decreases-loop-i : goal.decreases-loop-i
-decreases-loop-i l = 64 - l.i

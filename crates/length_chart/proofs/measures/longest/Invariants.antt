@@ -6,6 +6,3 @@ use Rattle.length_chart.proofs.measures.longest.Given as goal
 
 abbrev pub invariant-loop-left : goal.invariant-loop-left
 invariant-loop-left l = (l.left ≤ 64) × (longest_below l.paths l.left ≡ longest_below l.paths 64)
-
-abbrev pub decreases-loop-left : goal.decreases-loop-left
-decreases-loop-left l = l.left

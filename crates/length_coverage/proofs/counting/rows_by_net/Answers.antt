@@ -13,7 +13,7 @@ row_sum-short-requires c =
 
 pub returns-then-short-total : goal.returns-then-short-total
 returns-then-short-total c =
-    one-too_long c.requires c.rank_row-paths.ensures c.row_sum-short.ensures c.if-short-total.true _ c.no_rows.ensures
+    one-too_long c.requires c.rank_row-paths.ensures c.row_sum-short.ensures c.if-short-total.true
 
 pub held_row-rising-requires : goal.held_row-rising-requires
 held_row-rising-requires c =
@@ -25,6 +25,5 @@ held_row-falling-requires c =
 
 pub returns : goal.returns
 returns c =
-    rw c.rows_with.ensures
-    (all-counted c.requires c.rank_row-paths.ensures c.row_sum-short.ensures c.if-short-total.false c.edge_runs-up.ensures c.edge_runs-down.ensures
-    c.held_row-rising.ensures c.held_row-falling.ensures)
+    all-counted c.requires c.rank_row-paths.ensures c.row_sum-short.ensures c.if-short-total.false c.edge_runs-up.ensures c.edge_runs-down.ensures
+    c.held_row-rising.ensures c.held_row-falling.ensures

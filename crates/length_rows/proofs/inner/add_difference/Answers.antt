@@ -1,5 +1,4 @@
 -- `length_rows::inner::add_difference` meets its contract: the numbers before the place at hand are added to, the others are as found.
-use Rattle.model.proofs.Prelude.{◌-◌}
 use Rattle.length_rows.proofs.RowCases.{over-cases, summed-end}
 use Rattle.length_rows.proofs.inner.add_difference.Goals as goal
 
@@ -35,12 +34,6 @@ offset_bounds-sums-at-in-loop-at c = search over-cases
 
 pub bounds-sums-at-in-loop-at : goal.bounds-sums-at-in-loop-at
 bounds-sums-at-in-loop-at c = search over-cases
-
-pub overflow_add-at : goal.overflow_add-at
-overflow_add-at c = search over-cases
-
-pub loop-at-smaller : goal.loop-at-smaller
-loop-at-smaller c = search over-cases
 
 pub loop-at-preserved : goal.loop-at-preserved
 loop-at-preserved c = search over-cases

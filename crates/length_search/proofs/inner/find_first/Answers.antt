@@ -1,5 +1,4 @@
 -- `length_search::inner::find_first` meets its contract: the two numbers draw together, with the first path of the length between them.
-use Rattle.model.proofs.Prelude.{◌-◌}
 use Rattle.length_search.proofs.FindCases.{find_cases}
 use Rattle.length_search.proofs.inner.find_first.Goals as goal
 

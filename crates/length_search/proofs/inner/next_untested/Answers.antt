@@ -1,5 +1,4 @@
 -- `length_search::inner::next_untested` meets its contract: what is first from the number at hand on, with the runs that are left, is first of all.
-use Rattle.model.proofs.Prelude.{◌-◌}
 use Rattle.length_search.proofs.RunCases.{go-cases}
 use Rattle.length_search.proofs.inner.next_untested.Goals as goal
 
@@ -27,12 +26,6 @@ offset_bounds-words-i-in-loop-i c = search go-cases
 pub bounds-words-i-in-loop-i : goal.bounds-words-i-in-loop-i
 bounds-words-i-in-loop-i c = search go-cases
 
-pub overflow_add-i : goal.overflow_add-i
-overflow_add-i c = search go-cases
-
-pub loop-i-smaller-then-high-at : goal.loop-i-smaller-then-high-at
-loop-i-smaller-then-high-at c = search go-cases
-
 pub loop-i-preserved-then-high-at : goal.loop-i-preserved-then-high-at
 loop-i-preserved-then-high-at c = search go-cases
 
@@ -47,9 +40,6 @@ returns-then-found-ne0 c = search go-cases
 
 pub overflow_add-at : goal.overflow_add-at
 overflow_add-at c = search go-cases
-
-pub loop-i-smaller : goal.loop-i-smaller
-loop-i-smaller c = search go-cases
 
 pub loop-i-preserved : goal.loop-i-preserved
 loop-i-preserved c = search go-cases

@@ -1,5 +1,5 @@
 -- `length_text::rows::put_rows` meets its contract. The invariant: the lines of the lengths below `i` are written, of at most 129 bytes each.
-use Rattle.model.proofs.Prelude.{◌-◌, ◌≡◌, ap, arith}
+use Rattle.model.proofs.Prelude.{◌≡◌, ap, arith}
 use Rattle.text_buffer.specs.Written.{each_below_of}
 use Rattle.text_buffer.proofs.WrittenLaws.{none_below, one-more-below, written_as, written-length}
 use Rattle.length_text.specs.LengthTable.{row_at}

@@ -1,5 +1,6 @@
 -- `length_untested::downward::search_down` meets its contract: what it finds from the length at hand on is what it finds from the first.
-use Rattle.length_untested.proofs.DownCases.{down-cases, down-looked}
+use Rattle.model.proofs.Prelude.{arith}
+use Rattle.length_untested.proofs.DownCases.{down-cases, down-looked, down-end}
 use Rattle.length_untested.proofs.downward.search_down.Goals as goal
 
 pub held_row-held-requires : goal.held_row-held-requires
@@ -20,12 +21,6 @@ offset_bounds-held-gates c = search down-cases
 pub bounds-held-gates : goal.bounds-held-gates
 bounds-held-gates c = search down-cases
 
-pub overflow_sub-gates : goal.overflow_sub-gates
-overflow_sub-gates c = search down-cases
-
-pub loop-gates-smaller-then-paths-gates : goal.loop-gates-smaller-then-paths-gates
-loop-gates-smaller-then-paths-gates c = search down-cases
-
 pub loop-gates-preserved-then-paths-gates : goal.loop-gates-preserved-then-paths-gates
 loop-gates-preserved-then-paths-gates c = search down-cases
 
@@ -35,14 +30,8 @@ next_untested-path-requires c = down-looked c.loop-gates.invariant
 pub returns-then-path-ne0 : goal.returns-then-path-ne0
 returns-then-path-ne0 c = search down-cases
 
-pub overflow_sub-gates-in-loop-gates : goal.overflow_sub-gates-in-loop-gates
-overflow_sub-gates-in-loop-gates c = search down-cases
-
-pub loop-gates-smaller : goal.loop-gates-smaller
-loop-gates-smaller c = search down-cases
-
 pub loop-gates-preserved : goal.loop-gates-preserved
 loop-gates-preserved c = search down-cases
 
 pub returns : goal.returns
-returns c = search down-cases
+returns c = down-end c.loop-gates.invariant (omega arith)

@@ -3,7 +3,4 @@ use Rattle.length_untested.proofs.DownCases.{Down}
 use Rattle.length_untested.proofs.downward.search_down.Given as goal
 
 abbrev pub invariant-loop-gates : goal.invariant-loop-gates
-invariant-loop-gates l = Down l.netlist l.positions l.counts l.shape l.rows l.words l.paths l.held l.total l.initial.gates l.initial.from l.gates l.from
-
-abbrev pub decreases-loop-gates : goal.decreases-loop-gates
-decreases-loop-gates l = l.gates
+invariant-loop-gates l = Down l.netlist l.positions l.counts l.shape l.rows l.words l.paths l.held l.total l.fn.wanted.gates l.fn.wanted.from l.gates l.from

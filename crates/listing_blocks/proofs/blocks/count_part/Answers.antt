@@ -27,18 +27,18 @@ overflow_mul-bytes c =
 
 pub overflow_add-answers : goal.overflow_add-answers
 overflow_add-answers c =
-    omega (arith, (c.next_answer-next.ensures.some _ c.in-Refused.is).0)
+    omega (arith, (c.next_answer-next.ensures.some _ c.in-Err.is).0)
 
 pub offset_bounds-answers-records : goal.offset_bounds-answers-records
 offset_bounds-answers-records c =
-    omega (arith, (c.next_answer-next.ensures.some _ c.in-Refused.is).0)
+    omega (arith, (c.next_answer-next.ensures.some _ c.in-Err.is).0)
 
 pub bounds-answers-records : goal.bounds-answers-records
 bounds-answers-records c =
-    omega (arith, (c.next_answer-next.ensures.some _ c.in-Refused.is).0)
+    omega (arith, (c.next_answer-next.ensures.some _ c.in-Err.is).0)
 
-pub overflow_mul-bytes-in-Refused : goal.overflow_mul-bytes-in-Refused
-overflow_mul-bytes-in-Refused c =
+pub overflow_mul-bytes-in-Err : goal.overflow_mul-bytes-in-Err
+overflow_mul-bytes-in-Err c =
     omega (arith, part-fits c.requires c.read_block-read.ensures.1 c.record_length-bytes.ensures.0 c.record_length-bytes.ensures.2)
 
 pub record_end-used-requires : goal.record_end-used-requires
@@ -47,7 +47,7 @@ record_end-used-requires c =
 
 pub overflow_add-lines : goal.overflow_add-lines
 overflow_add-lines c =
-    omega (arith, (c.next_answer-next.ensures.some _ c.in-Refused.is).0)
+    omega (arith, (c.next_answer-next.ensures.some _ c.in-Err.is).0)
 
 pub enum_told-1 : goal.enum_told-1
 enum_told-1 c = search rules
@@ -56,12 +56,12 @@ pub overflow_mul-used : goal.overflow_mul-used
 overflow_mul-used c =
     omega (arith, part-fits c.requires c.read_block-read.ensures.1 c.record_length-bytes.ensures.0 c.record_length-bytes.ensures.2)
 
-pub returns-in-Refused : goal.returns-in-Refused
-returns-in-Refused c =
+pub returns-in-Err : goal.returns-in-Err
+returns-in-Err c =
     part-more c.requires c.read_block-read.ensures.1 c.fill_block.ensures.3 c.fill_block.ensures.4 c.count_block-answers.ensures.0 c.count_block-answers.ensures.1 c.fill_block.ensures.0 c.fill_block.ensures.1 c.record_length-bytes.ensures.0 c.next_answer-next.ensures
-    c.in-Refused.is c.record_end-used.ensures c.refusal_number.ensures
+    c.in-Err.is c.record_end-used.ensures c.refusal_number.ensures
 
-pub returns-in-Legal : goal.returns-in-Legal
-returns-in-Legal c =
+pub returns-in-Ok : goal.returns-in-Ok
+returns-in-Ok c =
     part-ended c.requires c.read_block-read.ensures.1 c.fill_block.ensures.3 c.fill_block.ensures.4 c.count_block-answers.ensures.0 c.count_block-answers.ensures.1 c.fill_block.ensures.0 c.fill_block.ensures.1 c.record_length-bytes.ensures.0 c.next_answer-next.ensures
-    c.in-Legal.is
+    c.in-Ok.is

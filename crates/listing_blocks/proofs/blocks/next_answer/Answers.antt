@@ -6,8 +6,5 @@ use Rattle.listing_blocks.proofs.blocks.next_answer.Goals as goal
 pub returns-then-records-ge64 : goal.returns-then-records-ge64
 returns-then-records-ge64 c = next-none (inl c.if-records-ge64.true)
 
-pub enum_told-1 : goal.enum_told-1
-enum_told-1 c = search rules
-
-pub returns-else-used-length : goal.returns-else-used-length
-returns-else-used-length c = next-none (inr (omega (arith, c.if-used-length.false)))
+pub returns : goal.returns
+returns c = next-none (inr (omega (arith, c.if-used-length.false)))

@@ -2,8 +2,8 @@
 use Rattle.listing_head.proofs.HeadCases.{head-cases}
 use Rattle.listing_head.proofs.inner.put_head.Goals as goal
 
-pub returns-in-Refused : goal.returns-in-Refused
-returns-in-Refused c = search head-cases
+pub returns-in-Err : goal.returns-in-Err
+returns-in-Err c = search head-cases
 
-pub returns-in-Legal : goal.returns-in-Legal
-returns-in-Legal c = search head-cases
+pub returns-in-Ok : goal.returns-in-Ok
+returns-in-Ok c = search head-cases

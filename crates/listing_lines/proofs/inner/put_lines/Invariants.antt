@@ -6,6 +6,3 @@ use Rattle.listing_lines.proofs.inner.put_lines.Given as goal
 abbrev pub invariant-loop-t : goal.invariant-loop-t
 invariant-loop-t l =
     PuttingLines l.initial.out l.start l.first l.answers l.lines l.out l.at l.place l.t
-
-abbrev pub decreases-loop-t : goal.decreases-loop-t
-decreases-loop-t l = l.lines - l.t

@@ -1,12 +1,8 @@
 -- `load::inner::put_vector` meets its contract. The invariant: what is written, and the records of the inputs that are left, written from here on, give
 -- the whole.
-use Rattle.model.proofs.Prelude.{◌-◌}
 use Rattle.load.proofs.VectorSteps.{Writing}
 use Rattle.load.proofs.inner.put_vector.Given as goal
 
 abbrev pub invariant-loop-input : goal.invariant-loop-input
 invariant-loop-input l =
     Writing l.inputs l.state l.size l.at l.initial.records l.records l.place l.input
-
-abbrev pub decreases-loop-input : goal.decreases-loop-input
-decreases-loop-input l = l.inputs - l.input

@@ -5,6 +5,3 @@ use Rattle.load_vectors.proofs.inner.draw_vector.Given as goal
 
 abbrev pub invariant-loop-input : goal.invariant-loop-input
 invariant-loop-input l = Drawing l.inputs l.state l.vector l.last l.input
-
-abbrev pub decreases-loop-input : goal.decreases-loop-input
-decreases-loop-input l = l.inputs - l.input

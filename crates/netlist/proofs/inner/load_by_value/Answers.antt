@@ -1,12 +1,13 @@
--- `netlist::inner::load_by_value` meets its contract: the arrays are those that were filled.
-use Rattle.netlist.proofs.LoadCases.{by-value-cases}
+-- `netlist::inner::load_by_value` meets its contract: what loading says of the arrays it says of their values.
+use Rattle.model.proofs.AnswerLaws.{exit}
+use Rattle.netlist.proofs.LoadCases.{survey-cases, load-refused, load-legal}
 use Rattle.netlist.proofs.inner.load_by_value.Goals as goal
 
-pub load-answer-requires : goal.load-answer-requires
-load-answer-requires c = search by-value-cases
+pub load-requires : goal.load-requires
+load-requires c = search survey-cases
 
-pub returns-in-Legal : goal.returns-in-Legal
-returns-in-Legal c = search by-value-cases
+pub returns-in_err-legal : goal.returns-in_err-legal
+returns-in_err-legal c = rw (exit _ _ c.from_residual.ensures.1) (load-refused _ _ _ _ c.load.ensures _ c.in_err-legal.was)
 
-pub returns-in-Refused : goal.returns-in-Refused
-returns-in-Refused c = search by-value-cases
+pub returns : goal.returns
+returns c = load-legal _ _ _ _ c.load.ensures _ c.in_ok-legal.was

@@ -1,5 +1,4 @@
 -- `netlist::inner::set_inputs` meets its contract: the array so far holds a one for each input so far.
-use Rattle.model.proofs.Prelude.{◌-◌}
 use Rattle.netlist.proofs.OnesCases.{ones-cases}
 use Rattle.netlist.proofs.inner.set_inputs.Goals as goal
 
@@ -11,12 +10,6 @@ offset_bounds-counts-i c = search ones-cases
 
 pub bounds-counts-i : goal.bounds-counts-i
 bounds-counts-i c = search ones-cases
-
-pub overflow_add-i : goal.overflow_add-i
-overflow_add-i c = search ones-cases
-
-pub loop-i-smaller : goal.loop-i-smaller
-loop-i-smaller c = search ones-cases
 
 pub loop-i-preserved : goal.loop-i-preserved
 loop-i-preserved c = search ones-cases

@@ -29,8 +29,8 @@ returns-then-not-lower c = search gate-cases
 pub pin_sum-sum-requires : goal.pin_sum-sum-requires
 pin_sum-sum-requires c = search (lower-more, gate-cases)
 
-pub returns-in-Sum : goal.returns-in-Sum
-returns-in-Sum c = search gate-cases
+pub returns-in-Some : goal.returns-in-Some
+returns-in-Some c = search gate-cases
 
-pub returns-in-Over : goal.returns-in-Over
-returns-in-Over c = search gate-cases
+pub returns-in-None : goal.returns-in-None
+returns-in-None c = search gate-cases

@@ -1,60 +1,31 @@
 -- `netlist_gates::inner::read_gates` meets its contract: the readings and the positions that are left, from the state so far, give the whole.
+use Rattle.model.proofs.Prelude.{◌≤◌, ◌<◌, ◌+◌, ◌-◌, arith}
+use Rattle.model.proofs.AnswerLaws.{exit}
+use Rattle.std.proofs.Math.Nat.{sub-add-eq, add-sub_cancel_left}
 use Rattle.netlist_gates.proofs.GateSteps.{read-gates-cases}
 use Rattle.netlist_gates.proofs.inner.read_gates.Goals as goal
 
-pub loop-left-init : goal.loop-left-init
-loop-left-init c = search read-gates-cases
-
-pub slice_bounds-part-count : goal.slice_bounds-part-count
-slice_bounds-part-count c = search read-gates-cases
-
-pub slice_bounds-part-start : goal.slice_bounds-part-start
-slice_bounds-part-start c = search read-gates-cases
-
-pub slice_bounds-part-end : goal.slice_bounds-part-end
-slice_bounds-part-end c = search read-gates-cases
-
-pub read_gate-gate-requires : goal.read_gate-gate-requires
-read_gate-gate-requires c = search read-gates-cases
-
-pub enum_known-gate : goal.enum_known-gate
-enum_known-gate c = search read-gates-cases
-
-pub offset_bounds-counts-net : goal.offset_bounds-counts-net
-offset_bounds-counts-net c = search read-gates-cases
-
-pub bounds-counts-net : goal.bounds-counts-net
-bounds-counts-net c = search read-gates-cases
-
-pub overflow_cast-positions : goal.overflow_cast-positions
-overflow_cast-positions c = search read-gates-cases
-
-pub offset_bounds-positions-net : goal.offset_bounds-positions-net
-offset_bounds-positions-net c = search read-gates-cases
-
-pub bounds-positions-net : goal.bounds-positions-net
-bounds-positions-net c = search read-gates-cases
+pub loop-net-init : goal.loop-net-init
+loop-net-init c = rw (add-sub_cancel_left c.args.inputs c.args.gates) (search read-gates-cases)
 
 pub overflow_add-at : goal.overflow_add-at
-overflow_add-at c = search read-gates-cases
+overflow_add-at c =
+    let more : 0 < c.args.inputs + c.args.gates - c.loop-net.net = omega arith in
+    search (c.in_ok-gate.was, read-gates-cases)
 
-pub enum_known-gate-in-Refused-1 : goal.enum_known-gate-in-Refused-1
-enum_known-gate-in-Refused-1 c = search read-gates-cases
+pub returns-in_err-gate : goal.returns-in_err-gate
+returns-in_err-gate c =
+    let more : 0 < c.args.inputs + c.args.gates - c.loop-net.net = omega arith in
+    rw (exit _ _ c.from_residual.ensures.1) (search (c.in_err-gate.was, read-gates-cases))
 
-pub returns-in-Refused : goal.returns-in-Refused
-returns-in-Refused c = search read-gates-cases
-
-pub overflow_add-net : goal.overflow_add-net
-overflow_add-net c = search read-gates-cases
-
-pub overflow_sub-left : goal.overflow_sub-left
-overflow_sub-left c = search read-gates-cases
-
-pub loop-left-smaller : goal.loop-left-smaller
-loop-left-smaller c = search read-gates-cases
-
-pub loop-left-preserved : goal.loop-left-preserved
-loop-left-preserved c = (search read-gates-cases, search read-gates-cases, search read-gates-cases, search read-gates-cases, search read-gates-cases, search read-gates-cases)
+pub loop-net-preserved : goal.loop-net-preserved
+loop-net-preserved c =
+    let left = c.args.inputs + c.args.gates - c.loop-net.net in
+    let more : 0 < left = omega arith in
+    let few : c.loop-net.net + left ≤ 512 = omega arith in
+    rw (sub-add-eq (c.args.inputs + c.args.gates) c.loop-net.net 1) (search (c.in_ok-gate.was, read-gates-cases))
 
 pub returns : goal.returns
-returns c = search read-gates-cases
+returns c =
+    let none : c.args.inputs + c.args.gates - c.loop-net.net ≤ 0 = omega arith in
+    search read-gates-cases

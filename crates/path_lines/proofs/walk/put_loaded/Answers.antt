@@ -8,5 +8,5 @@ load-answer-requires c = search load-cases
 pub put_walk-requires : goal.put_walk-requires
 put_walk-requires c = search load-cases
 
-pub returns-in-Refused : goal.returns-in-Refused
-returns-in-Refused c = search load-cases
+pub returns-in-Err : goal.returns-in-Err
+returns-in-Err c = search load-cases

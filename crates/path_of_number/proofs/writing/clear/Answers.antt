@@ -12,12 +12,6 @@ offset_bounds-path-i c = search blank-cases
 pub bounds-path-i : goal.bounds-path-i
 bounds-path-i c = search blank-cases
 
-pub overflow_add-i : goal.overflow_add-i
-overflow_add-i c = search blank-cases
-
-pub loop-i-smaller : goal.loop-i-smaller
-loop-i-smaller c = search blank-cases
-
 pub loop-i-preserved : goal.loop-i-preserved
 loop-i-preserved c = search blank-cases
 

@@ -5,6 +5,3 @@ use Rattle.path_of_number.proofs.writing.clear.Given as goal
 
 abbrev pub invariant-loop-i : goal.invariant-loop-i
 invariant-loop-i l = (l.i ≤ 513) × (513 ≤ length l.initial.path) × (length l.path ≡ length l.initial.path) × (l.path ≡ blank l.i l.initial.path)
-
-abbrev pub decreases-loop-i : goal.decreases-loop-i
-decreases-loop-i l = 513 - l.i

@@ -1,5 +1,5 @@
 -- `record_test::inner::some_change` meets its contract. The loop's invariant: the bytes before k are equal.
-use Rattle.model.proofs.Prelude.{◌-◌, arith, rules}
+use Rattle.model.proofs.Prelude.{arith, rules}
 use Rattle.record_test.proofs.ChangeLaws.{equal-more, no_change, changed-byte}
 use Rattle.record_test.proofs.inner.some_change.Goals as goal
 

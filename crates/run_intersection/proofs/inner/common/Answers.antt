@@ -1,5 +1,4 @@
 -- `run_intersection::inner::common` meets its contract: what is put so far, then what the runs that are left have in common, is what the lists have in common.
-use Rattle.model.proofs.Prelude.{◌-◌}
 use Rattle.run_intersection.proofs.MeetCases.{meet-cases}
 use Rattle.run_intersection.proofs.inner.common.Goals as goal
 

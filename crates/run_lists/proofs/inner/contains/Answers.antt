@@ -1,5 +1,5 @@
 -- `run_lists::inner::contains` meets its contract: the number lies in the whole list exactly where it lies in the part lo..hi that is left.
-use Rattle.model.proofs.Prelude.{◌-◌, rules}
+use Rattle.model.proofs.Prelude.{rules}
 use Rattle.run_lists.proofs.ContainsSteps.{left-all, left-none, left-hit, left_up, left_down}
 use Rattle.run_lists.proofs.inner.contains.Goals as goal
 

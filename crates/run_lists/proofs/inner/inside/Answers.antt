@@ -1,5 +1,5 @@
 -- `run_lists::inner::inside` meets its contract: the runs that the walk has passed lie inside.
-use Rattle.model.proofs.Prelude.{◌-◌, rules}
+use Rattle.model.proofs.Prelude.{rules}
 use Rattle.run_lists.proofs.InsideSteps.{walked_none, walked_start, walked_more, walked_end, no_answer}
 use Rattle.run_lists.proofs.inner.inside.Goals as goal
 

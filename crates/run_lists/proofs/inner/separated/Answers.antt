@@ -1,5 +1,5 @@
 -- `run_lists::inner::separated` meets its contract: the list is separated as what is left of it is, from the least low that may follow.
-use Rattle.model.proofs.Prelude.{◌-◌, rules}
+use Rattle.model.proofs.Prelude.{rules}
 use Rattle.run_lists.proofs.SeparatedSteps.{separated_low, separated_empty, separated_high, separated_next, separated_end}
 use Rattle.run_lists.proofs.inner.separated.Goals as goal
 

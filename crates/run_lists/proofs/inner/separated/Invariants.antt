@@ -6,6 +6,3 @@ use Rattle.run_lists.proofs.inner.separated.Given as goal
 
 abbrev pub invariant-loop-i : goal.invariant-loop-i
 invariant-loop-i l = (l.i ≤ l.to) × (separated_runs_of l.limit 1 (runs_in_words l.words l.from (l.to - l.from)) ≡ separated_runs_of l.limit l.least (runs_in_words l.words l.i (l.to - l.i)))
-
-abbrev pub decreases-loop-i : goal.decreases-loop-i
-decreases-loop-i l = l.to - l.i

@@ -1,5 +1,5 @@
 -- `run_lists::inner::size` meets its contract: the sum so far and the size of what is left are the whole, which is at most 2^62.
-use Rattle.model.proofs.Prelude.{◌-◌, rules}
+use Rattle.model.proofs.Prelude.{rules}
 use Rattle.run_lists.proofs.SizeSteps.{size-order, size-one, size-sum, size-next, size-end}
 use Rattle.run_lists.proofs.inner.size.Goals as goal
 

@@ -6,6 +6,3 @@ use Rattle.run_lists.proofs.inner.size.Given as goal
 
 abbrev pub invariant-loop-i : goal.invariant-loop-i
 invariant-loop-i l = (l.from ≤ l.i) × (l.i ≤ l.to) × (l.sum + size (runs_in_words l.words l.i (l.to - l.i)) ≡ size (runs_in_words l.words l.from (l.to - l.from)))
-
-abbrev pub decreases-loop-i : goal.decreases-loop-i
-decreases-loop-i l = l.to - l.i

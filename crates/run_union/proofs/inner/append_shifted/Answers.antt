@@ -6,11 +6,11 @@ use Rattle.run_union.proofs.inner.append_shifted.Goals as goal
 pub returns-then-to-from : goal.returns-then-to-from
 returns-then-to-from c = search (nothing-more, rules)
 
-pub returns-in-Count : goal.returns-in-Count
-returns-in-Count c = search (all-added, rules)
+pub returns : goal.returns
+returns c = search (c.in_ok-n.was, all-added, rules)
 
-pub returns-in-Full : goal.returns-in-Full
-returns-in-Full c = search (first-full, rules)
+pub returns-in_err-n : goal.returns-in_err-n
+returns-in_err-n c = rw c.from_residual.ensures (search (c.in_err-n.was, first-full, rules))
 
 pub append_rest-requires-clause-sound : goal.append_rest-requires-clause-sound
-append_rest-requires-clause-sound c = search (nothing-more, first_run, first-full, rest-room, rest-sound, all-added, rules)
+append_rest-requires-clause-sound c = search (c.in_ok-n.was, nothing-more, first_run, first-full, rest-room, rest-sound, all-added, rules)

@@ -1,5 +1,5 @@
 -- `run_union::inner::copy` meets its contract: the words are those with the runs copied so far written.
-use Rattle.model.proofs.Prelude.{◌-◌, refl, length-set, arith, rules}
+use Rattle.model.proofs.Prelude.{refl, length-set, arith, rules}
 use Rattle.run_union.proofs.CopySteps.{copy_more, copy_end}
 use Rattle.run_union.proofs.inner.copy.Goals as goal
 

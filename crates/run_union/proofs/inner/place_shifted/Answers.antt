@@ -1,5 +1,5 @@
 -- `run_union::inner::place_shifted` meets its contract: the words are those with the runs placed so far written.
-use Rattle.model.proofs.Prelude.{◌-◌, length-set, arith, rules}
+use Rattle.model.proofs.Prelude.{length-set, arith, rules}
 use Rattle.run_union.proofs.PlacingSteps.{placing_start, placing_low, placing_high, placing_more, placing_end}
 use Rattle.run_union.proofs.inner.place_shifted.Goals as goal
 

@@ -16,13 +16,14 @@ pub net_runs-requires : goal.net_runs-requires
 net_runs-requires c = search edge-cases
 
 pub outputs_part-part-requires : goal.outputs_part-part-requires
-outputs_part-part-requires c = search edge-cases
+outputs_part-part-requires c = search (c.in_ok-net_runs.was, edge-cases)
 
 pub out_runs-requires : goal.out_runs-requires
-out_runs-requires c = search edge-cases
+out_runs-requires c = search (c.in_ok-net_runs.was, edge-cases)
 
-pub returns-in-Count : goal.returns-in-Count
-returns-in-Count c = search edge-cases
+pub returns : goal.returns
+returns c = search (c.in_ok-net_runs.was, edge-cases)
 
-pub returns-in-Full : goal.returns-in-Full
-returns-in-Full c = λ K a. edge-full c.input_runs-first.ensures.0 c.input_runs-first.ensures.1 c.net_runs.ensures K a c.in-Full.is
+pub returns-in_err-net_runs : goal.returns-in_err-net_runs
+returns-in_err-net_runs c =
+    rw c.from_residual.ensures (λ K a. edge-full c.input_runs-first.ensures.0 c.input_runs-first.ensures.1 c.net_runs.ensures K a c.in_err-net_runs.was)

@@ -1,5 +1,4 @@
 -- `single_intervals::nets::open_runs` meets its contract: the sum counts the runs of the nets of the open pins so far.
-use Rattle.model.proofs.Prelude.{◌-◌}
 use Rattle.single_intervals.proofs.OpenRunLaws.{open-cases}
 use Rattle.single_intervals.proofs.nets.open_runs.Goals as goal
 
@@ -29,12 +28,6 @@ pin_runs-sum-requires c = search open-cases
 
 pub overflow_add-sum : goal.overflow_add-sum
 overflow_add-sum c = search open-cases
-
-pub overflow_add-pin : goal.overflow_add-pin
-overflow_add-pin c = search open-cases
-
-pub loop-pin-smaller : goal.loop-pin-smaller
-loop-pin-smaller c = search open-cases
 
 pub loop-pin-preserved : goal.loop-pin-preserved
 loop-pin-preserved c = search open-cases

@@ -1,5 +1,4 @@
 -- `store_words::inner::row_bits` meets its contract: the words are all zero as the bits seen and the words that are left of the row are.
-use Rattle.model.proofs.Prelude.{◌-◌}
 use Rattle.store_words.proofs.ZeroSteps.{row-cases}
 use Rattle.store_words.proofs.inner.row_bits.Goals as goal
 
@@ -14,12 +13,6 @@ offset_bounds-words-at c = search row-cases
 
 pub bounds-words-at : goal.bounds-words-at
 bounds-words-at c = search row-cases
-
-pub overflow_add-i : goal.overflow_add-i
-overflow_add-i c = search row-cases
-
-pub loop-i-smaller : goal.loop-i-smaller
-loop-i-smaller c = search row-cases
 
 pub loop-i-preserved : goal.loop-i-preserved
 loop-i-preserved c = search row-cases

@@ -5,6 +5,3 @@ use Rattle.store_words.proofs.inner.row_bits.Given as goal
 
 abbrev pub invariant-loop-i : goal.invariant-loop-i
 invariant-loop-i l = (l.i ≤ row_words) × ((eqb l.seen 0 && zero_words_of l.words (l.at + l.i) (row_words - l.i)) ≡ zero_words_of l.words l.at row_words)
-
-abbrev pub decreases-loop-i : goal.decreases-loop-i
-decreases-loop-i l = row_words - l.i

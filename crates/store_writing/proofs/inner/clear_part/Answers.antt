@@ -1,5 +1,5 @@
 -- `store_writing::inner::clear_part` meets its contract: what is left to be made zero, from here, gives the whole.
-use Rattle.model.proofs.Prelude.{◌-◌, ◌∙◌, sym, length-set}
+use Rattle.model.proofs.Prelude.{◌∙◌, sym, length-set}
 use Rattle.store_writing.proofs.EdgeWriteLaws.{zeroed-next, zeroed-end}
 use Rattle.store_writing.proofs.inner.clear_part.Goals as goal
 

@@ -5,6 +5,3 @@ use Rattle.store_writing.proofs.inner.clear_part.Given as goal
 
 abbrev pub invariant-loop-i : goal.invariant-loop-i
 invariant-loop-i l = (length l.words ≡ length l.initial.words) × (zeroed l.words l.i (l.to - l.i) ≡ zeroed l.initial.words l.from (l.to - l.from))
-
-abbrev pub decreases-loop-i : goal.decreases-loop-i
-decreases-loop-i l = l.to - l.i

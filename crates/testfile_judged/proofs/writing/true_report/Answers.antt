@@ -2,8 +2,8 @@
 use Rattle.testfile_judged.proofs.TrueReportCases.{wrote-cases}
 use Rattle.testfile_judged.proofs.writing.true_report.Goals as goal
 
-pub returns-in-Refused : goal.returns-in-Refused
-returns-in-Refused c = search wrote-cases
+pub returns-in-Err : goal.returns-in-Err
+returns-in-Err c = search wrote-cases
 
-pub returns-in-Taken : goal.returns-in-Taken
-returns-in-Taken c = search wrote-cases
+pub returns-in-Ok : goal.returns-in-Ok
+returns-in-Ok c = search wrote-cases

@@ -2,8 +2,8 @@
 use Rattle.testfile_judged.proofs.TrueReportCases.{answer-cases}
 use Rattle.testfile_judged.proofs.writing.with_length.Goals as goal
 
-pub returns-in-Refused : goal.returns-in-Refused
-returns-in-Refused c = search answer-cases
+pub returns-in-Err : goal.returns-in-Err
+returns-in-Err c = search answer-cases
 
-pub returns-in-Written : goal.returns-in-Written
-returns-in-Written c = search answer-cases
+pub returns-in-Ok : goal.returns-in-Ok
+returns-in-Ok c = search answer-cases

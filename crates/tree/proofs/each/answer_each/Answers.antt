@@ -1,5 +1,5 @@
 -- `tree::each::answer_each` meets its contract: the answers so far, and those that the numbers left are given, are the answers of all numbers.
-use Rattle.model.proofs.Prelude.{◌-◌, rules}
+use Rattle.model.proofs.Prelude.{rules}
 use Rattle.tree.proofs.EachCases.{each_step, each-end}
 use Rattle.tree.proofs.each.answer_each.Goals as goal
 

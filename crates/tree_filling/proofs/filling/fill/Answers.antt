@@ -1,5 +1,5 @@
 -- `tree_filling::filling::fill` meets its contract. The invariant, `FillingTree`: the leaves are the first i runs.
-use Rattle.model.proofs.Prelude.{◌-◌, rules}
+use Rattle.model.proofs.Prelude.{rules}
 use Rattle.tree_filling.proofs.FillSteps.{fill_start, fill_inserts, fill_next, fill_done}
 use Rattle.tree_filling.proofs.filling.fill.Goals as goal
 

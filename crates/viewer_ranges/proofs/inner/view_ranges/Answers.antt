@@ -33,12 +33,6 @@ shape_of-words-in_default c = search view-cases
 pub returns-in_default : goal.returns-in_default
 returns-in_default c = search view-cases
 
-pub overflow_add-i : goal.overflow_add-i
-overflow_add-i c = search view-cases
-
-pub loop-i-smaller : goal.loop-i-smaller
-loop-i-smaller c = search view-cases
-
 pub loop-i-preserved : goal.loop-i-preserved
 loop-i-preserved c = search view-cases
 

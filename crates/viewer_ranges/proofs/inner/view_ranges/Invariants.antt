@@ -5,6 +5,3 @@ use Rattle.viewer_ranges.proofs.inner.view_ranges.Given as goal
 
 abbrev pub invariant-loop-i : goal.invariant-loop-i
 invariant-loop-i l = Viewing l.netlist l.counts l.shape l.places l.part l.initial.words l.words l.i l.count
-
-abbrev pub decreases-loop-i : goal.decreases-loop-i
-decreases-loop-i l = length l.places - l.i

@@ -7,10 +7,10 @@ pub returns-then-out-lt-OUT_BYTES-clause-shown : goal.returns-then-out-lt-OUT_BY
 returns-then-out-lt-OUT_BYTES-clause-shown c =
     (none-shown c.args.out.now (answer_text c.args.answer c.args.second.now) c.if-out-lt-OUT_BYTES.true).0
 
-pub returns-in-Refused-clause-shown : goal.returns-in-Refused-clause-shown
-returns-in-Refused-clause-shown c =
-    (refusal-put _ _ c.args.second.now _ c.args.answer c.if-out-lt-OUT_BYTES.false _ c.in-Refused.is c.put_refusal.ensures).0
+pub returns-in-Err-clause-shown : goal.returns-in-Err-clause-shown
+returns-in-Err-clause-shown c =
+    (refusal-put _ _ c.args.second.now _ c.args.answer c.if-out-lt-OUT_BYTES.false _ c.in-Err.is c.put_refusal.ensures).0
 
-pub returns-in-Written-clause-shown : goal.returns-in-Written-clause-shown
-returns-in-Written-clause-shown c =
-    (store-put _ _ c.args.second.now _ c.args.answer c.if-out-lt-OUT_BYTES.false c.in-Written.is c.put_store.ensures).0
+pub returns-in-Ok-clause-shown : goal.returns-in-Ok-clause-shown
+returns-in-Ok-clause-shown c =
+    (store-put _ _ c.args.second.now _ c.args.answer c.if-out-lt-OUT_BYTES.false c.in-Ok.is c.put_store.ensures).0

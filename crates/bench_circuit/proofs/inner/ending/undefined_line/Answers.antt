@@ -1,5 +1,5 @@
 -- `bench_circuit::inner::ending::undefined_line` meets its contract: the lines that are left give the first line.
-use Rattle.model.proofs.Prelude.{◌-◌, rules, not-true, not-false}
+use Rattle.model.proofs.Prelude.{rules, not-true, not-false}
 use Rattle.bench_circuit.proofs.EndLaws.{undefined_start, undefined_none, undefined_found, undefined_again}
 use Rattle.bench_lines.proofs.TextLineLaws.{line_low, line-stop-in, line-less, line-counted}
 use Rattle.bench_circuit.proofs.inner.ending.undefined_line.Goals as goal

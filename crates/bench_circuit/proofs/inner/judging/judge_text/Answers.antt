@@ -1,5 +1,5 @@
 -- `bench_circuit::inner::judging::judge_text` meets its contract: the lines that are left, from the circuit so far, give the whole; so does the number of the first bad one.
-use Rattle.model.proofs.Prelude.{◌-◌, rules}
+use Rattle.model.proofs.Prelude.{rules}
 use Rattle.bench_circuit.proofs.TextCases.{text-start, text-room, text-end, text-refused, text-again}
 use Rattle.bench_lines.proofs.TextLineLaws.{line_low, line-stop-in, line-less, line-counted}
 use Rattle.bench_circuit.proofs.inner.judging.judge_text.Goals as goal
@@ -19,8 +19,8 @@ slice_bounds-line-end c = search (line_low, line-stop-in, rules)
 pub judge_line-answer-requires : goal.judge_line-answer-requires
 judge_line-answer-requires c = search (text-room, rules)
 
-pub returns-in-Refused : goal.returns-in-Refused
-returns-in-Refused c = search (text-refused, rules)
+pub returns-in-Err : goal.returns-in-Err
+returns-in-Err c = search (text-refused, rules)
 
 pub loop-at-smaller : goal.loop-at-smaller
 loop-at-smaller c = search (line-less, rules)

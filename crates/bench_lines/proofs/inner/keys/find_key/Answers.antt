@@ -1,5 +1,5 @@
 -- `bench_lines::inner::keys::find_key` meets its contract: the place among the keys that are left gives the whole.
-use Rattle.model.proofs.Prelude.{◌-◌, rules}
+use Rattle.model.proofs.Prelude.{rules}
 use Rattle.bench_lines.proofs.KeyLaws.{find_start, find_again, find_here, find_none}
 use Rattle.bench_lines.proofs.inner.keys.find_key.Goals as goal
 

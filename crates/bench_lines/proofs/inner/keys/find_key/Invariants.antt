@@ -5,6 +5,3 @@ use Rattle.bench_lines.proofs.inner.keys.find_key.Given as goal
 
 abbrev pub invariant-loop-i : goal.invariant-loop-i
 invariant-loop-i l = (l.i ≤ l.n) × (l.i + key_place l.low l.high (l.n - l.i) (2 * l.i) l.words ≡ key_place l.low l.high l.n 0 l.words)
-
-abbrev pub decreases-loop-i : goal.decreases-loop-i
-decreases-loop-i l = l.n - l.i

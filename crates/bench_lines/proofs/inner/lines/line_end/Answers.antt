@@ -1,5 +1,5 @@
 -- `bench_lines::inner::lines::line_end` meets its contract: the bytes passed belong to the line.
-use Rattle.model.proofs.Prelude.{◌-◌, rules}
+use Rattle.model.proofs.Prelude.{rules}
 use Rattle.bench_lines.proofs.TextLineLaws.{line-start, line-more, line-ends, line-last}
 use Rattle.bench_lines.proofs.inner.lines.line_end.Goals as goal
 
@@ -13,4 +13,4 @@ pub loop-i-preserved : goal.loop-i-preserved
 loop-i-preserved c = search (line-more, rules)
 
 pub returns : goal.returns
-returns c = search (line-last, rules)
+returns c = line-last _ _ _ c.loop-i.invariant c.loop-i-test.false

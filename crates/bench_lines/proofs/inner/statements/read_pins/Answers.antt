@@ -1,13 +1,13 @@
 -- `bench_lines::inner::statements::read_pins` meets its contract: the pins so far, with those that are left, are the whole.
-use Rattle.model.proofs.Prelude.{◌-◌, rules}
+use Rattle.model.proofs.Prelude.{rules}
 use Rattle.bench_lines.proofs.StatementLaws.{pins-start, pins-stop, pins-again, pins-end, pins-count, pins-less}
 use Rattle.bench_lines.proofs.inner.statements.read_pins.Goals as goal
 
 pub loop-more-init : goal.loop-more-init
 loop-more-init c = search (pins-start, rules)
 
-pub returns-in-Other : goal.returns-in-Other
-returns-in-Other c = search (pins-stop, rules)
+pub returns-in-None : goal.returns-in-None
+returns-in-None c = search (pins-stop, rules)
 
 pub overflow_add-pins : goal.overflow_add-pins
 overflow_add-pins c = search (pins-count, rules)

@@ -1,5 +1,5 @@
 -- `bench_lines::inner::tokens::word_end` meets its contract: the bytes passed belong to the word.
-use Rattle.model.proofs.Prelude.{◌-◌, rules, not-true, not-false}
+use Rattle.model.proofs.Prelude.{rules, not-true, not-false}
 use Rattle.bench_lines.proofs.TokenLaws.{word-start, word_more, word-stop, word-last}
 use Rattle.bench_lines.proofs.inner.tokens.word_end.Goals as goal
 
@@ -13,4 +13,4 @@ pub loop-i-preserved : goal.loop-i-preserved
 loop-i-preserved c = search (word_more, not-false, rules)
 
 pub returns : goal.returns
-returns c = search (word-last, rules)
+returns c = word-last _ _ _ c.loop-i.invariant c.loop-i-test.false

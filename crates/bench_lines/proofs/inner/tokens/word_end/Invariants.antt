@@ -1,10 +1,6 @@
 -- `bench_lines::inner::tokens::word_end` meets its contract: the bytes passed belong to the word.
-use Rattle.model.proofs.Prelude.{◌-◌, length}
 use Rattle.bench_lines.proofs.TokenLaws.{WordSoFar}
 use Rattle.bench_lines.proofs.inner.tokens.word_end.Given as goal
 
 abbrev pub invariant-loop-i : goal.invariant-loop-i
 invariant-loop-i l = WordSoFar l.line l.at l.i
-
-abbrev pub decreases-loop-i : goal.decreases-loop-i
-decreases-loop-i l = length l.line - l.i

@@ -7,9 +7,6 @@ use Rattle.block_activity.proofs.inner.marks.live_outputs.Goals as goal
 pub loop-o-init : goal.loop-o-init
 loop-o-init c = outputs-start _ _ _ _
 
-pub overflow_add-o : goal.overflow_add-o
-overflow_add-o c = omega (arith, c.loop-o-test.true, c.requires.0)
-
 pub offset_bounds-offsets-o : goal.offset_bounds-offsets-o
 offset_bounds-offsets-o c = omega (arith, c.loop-o-test.true, c.requires.0)
 
@@ -26,13 +23,6 @@ overflow_shl-o c =
 
 pub flip-requires : goal.flip-requires
 flip-requires c = c.loop-o.invariant.room
-
-pub overflow_add-o-in-loop-o : goal.overflow_add-o-in-loop-o
-overflow_add-o-in-loop-o c =
-    omega (arith, c.loop-o-test.true, c.requires.0)
-
-pub loop-o-smaller : goal.loop-o-smaller
-loop-o-smaller c = omega (arith, c.loop-o-test.true)
 
 pub loop-o-preserved : goal.loop-o-preserved
 loop-o-preserved c =

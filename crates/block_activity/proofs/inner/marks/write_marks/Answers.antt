@@ -11,9 +11,6 @@ overflow_cast-marks c =
     let given = c.requires in
     omega (arith, given.0, given.3 c.loop-t.t (omega (arith, c.loop-t-test.true, given.0)))
 
-pub loop-t-smaller : goal.loop-t-smaller
-loop-t-smaller c = omega (arith, c.loop-t-test.true)
-
 pub loop-t-preserved : goal.loop-t-preserved
 loop-t-preserved c = (
   omega (arith, c.loop-t-test.true),

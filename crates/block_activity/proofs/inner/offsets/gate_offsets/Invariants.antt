@@ -1,10 +1,6 @@
 -- `block_activity::inner::offsets::gate_offsets` meets its contract. The invariant, `GatesDone`: the gates that drive the nets before `net` have their offsets.
-use Rattle.model.proofs.Prelude.{◌-◌}
 use Rattle.block_activity.proofs.OffsetCases.{GatesDone}
 use Rattle.block_activity.proofs.inner.offsets.gate_offsets.Given as goal
 
 abbrev pub invariant-loop-net : goal.invariant-loop-net
 invariant-loop-net l = GatesDone l.counts l.table l.low l.offsets l.net
-
-abbrev pub decreases-loop-net : goal.decreases-loop-net
-decreases-loop-net l = l.high - l.net

@@ -60,11 +60,8 @@ append_shifted-requires c = record {
   sound = search output-cases;
 }
 
-pub shape_of-words-in-Full : goal.shape_of-words-in-Full
-shape_of-words-in-Full c = search output-cases
-
-pub returns-in-Full : goal.returns-in-Full
-returns-in-Full c = search output-cases
+pub returns-in_err-count : goal.returns-in_err-count
+returns-in_err-count c = rw c.from_residual.ensures (search (c.in_err-count.was, output-cases))
 
 pub overflow_sub-left : goal.overflow_sub-left
 overflow_sub-left c = search output-cases
@@ -73,7 +70,7 @@ pub loop-left-smaller : goal.loop-left-smaller
 loop-left-smaller c = search output-cases
 
 pub loop-left-preserved : goal.loop-left-preserved
-loop-left-preserved c = search output-cases
+loop-left-preserved c = search (c.in_ok-count.was, output-cases)
 
 pub shape_of-words : goal.shape_of-words
 shape_of-words c = search output-cases

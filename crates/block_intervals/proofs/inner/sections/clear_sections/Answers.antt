@@ -14,12 +14,6 @@ offset_bounds-spans-o c = search clear-cases
 pub bounds-spans-o : goal.bounds-spans-o
 bounds-spans-o c = search clear-cases
 
-pub overflow_add-o : goal.overflow_add-o
-overflow_add-o c = search clear-cases
-
-pub loop-o-smaller : goal.loop-o-smaller
-loop-o-smaller c = search clear-cases
-
 pub loop-o-preserved : goal.loop-o-preserved
 loop-o-preserved c = search clear-cases
 

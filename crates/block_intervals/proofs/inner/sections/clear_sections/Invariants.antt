@@ -5,6 +5,3 @@ use Rattle.block_intervals.proofs.inner.sections.clear_sections.Given as goal
 
 abbrev pub invariant-loop-o : goal.invariant-loop-o
 invariant-loop-o l = Cleared l.spans l.o
-
-abbrev pub decreases-loop-o : goal.decreases-loop-o
-decreases-loop-o l = 132 - l.o

@@ -30,12 +30,6 @@ offset_bounds-spans-base-in-loop-output c = search find_cases
 pub bounds-spans-base-in-loop-output : goal.bounds-spans-base-in-loop-output
 bounds-spans-base-in-loop-output c = search find_cases
 
-pub overflow_add-output : goal.overflow_add-output
-overflow_add-output c = search find_cases
-
-pub loop-output-smaller : goal.loop-output-smaller
-loop-output-smaller c = search find_cases
-
 pub loop-output-preserved : goal.loop-output-preserved
 loop-output-preserved c = search find_cases
 

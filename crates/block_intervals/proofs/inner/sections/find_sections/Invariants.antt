@@ -6,6 +6,3 @@ use Rattle.block_intervals.proofs.inner.sections.find_sections.Given as goal
 
 abbrev pub invariant-loop-output : goal.invariant-loop-output
 invariant-loop-output l = Finding l.initial.spans l.base (length l.held / 2) l.spans l.at l.output
-
-abbrev pub decreases-loop-output : goal.decreases-loop-output
-decreases-loop-output l = 64 - l.output

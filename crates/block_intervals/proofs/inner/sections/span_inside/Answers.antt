@@ -20,9 +20,6 @@ overflow_add-words c = search span-held-cases
 pub overflow_mul-i-in-loop-i : goal.overflow_mul-i-in-loop-i
 overflow_mul-i-in-loop-i c = search span-held-cases
 
-pub overflow_add-i : goal.overflow_add-i
-overflow_add-i c = search span-held-cases
-
 pub offset_bounds-words-i-in-loop-i : goal.offset_bounds-words-i-in-loop-i
 offset_bounds-words-i-in-loop-i c = search span-held-cases
 
@@ -37,12 +34,6 @@ run_inside-requires c = search span-held-cases
 
 pub returns-then-not-run_inside : goal.returns-then-not-run_inside
 returns-then-not-run_inside c = search span-held-cases
-
-pub overflow_add-i-in-loop-i : goal.overflow_add-i-in-loop-i
-overflow_add-i-in-loop-i c = search span-held-cases
-
-pub loop-i-smaller : goal.loop-i-smaller
-loop-i-smaller c = search span-held-cases
 
 pub loop-i-preserved : goal.loop-i-preserved
 loop-i-preserved c = search span-held-cases

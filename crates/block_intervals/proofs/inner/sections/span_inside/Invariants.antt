@@ -5,6 +5,3 @@ use Rattle.block_intervals.proofs.inner.sections.span_inside.Given as goal
 
 abbrev pub invariant-loop-i : goal.invariant-loop-i
 invariant-loop-i l = SpanWalk l.words l.from l.to l.shift l.held l.i
-
-abbrev pub decreases-loop-i : goal.decreases-loop-i
-decreases-loop-i l = l.to - l.i

@@ -4,6 +4,3 @@ use Rattle.block_words.proofs.inner.gates.scan_pins.Given as goal
 
 abbrev pub invariant-loop-k : goal.invariant-loop-k
 invariant-loop-k l = ScannedFrom l.table l.gate l.words l.k l.first l.last l.unsteady l.steady_controlling
-
-abbrev pub decreases-loop-k : goal.decreases-loop-k
-decreases-loop-k l = l.k

@@ -33,9 +33,6 @@ overflow_add-byte c =
           c.bit_of-in-loop-k.ensures,
     )
 
-pub loop-k-smaller : goal.loop-k-smaller
-loop-k-smaller c = omega (arith, c.loop-k-test.true)
-
 pub loop-k-preserved : goal.loop-k-preserved
 loop-k-preserved c =
     pack_step _ _ _ c.loop-k.invariant c.loop-k-test.true _ c.bit_of-in-loop-k.ensures

@@ -4,6 +4,3 @@ use Rattle.block_words.proofs.inner.lists.byte_of.Given as goal
 
 abbrev pub invariant-loop-k : goal.invariant-loop-k
 invariant-loop-k l = Packing l.rows l.pins l.place l.byte l.k
-
-abbrev pub decreases-loop-k : goal.decreases-loop-k
-decreases-loop-k l = l.k

@@ -6,6 +6,3 @@ use Rattle.block_words.proofs.inner.robust.active_words.Given as goal
 abbrev pub invariant-loop-k : goal.invariant-loop-k
 invariant-loop-k l =
     ActiveFrom (class_of l.class) l.table l.gate l.scan l.words l.k l.rising_rows l.falling_rows l.up l.down
-
-abbrev pub decreases-loop-k : goal.decreases-loop-k
-decreases-loop-k l = l.k

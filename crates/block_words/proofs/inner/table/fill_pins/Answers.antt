@@ -25,9 +25,6 @@ pub bounds-table-first : goal.bounds-table-first
 bounds-table-first c =
     omega (arith, c.loop-k.invariant.within, c.loop-k-test.true, c.requires.0.few, c.requires.1)
 
-pub loop-k-smaller : goal.loop-k-smaller
-loop-k-smaller c = omega (arith, c.loop-k-test.true)
-
 pub loop-k-preserved : goal.loop-k-preserved
 loop-k-preserved c =
     fill_step c.loop-k.invariant c.loop-k-test.true (omega (arith, c.requires.0.few, c.requires.1, c.requires.2)) _ c.pin_net.ensures

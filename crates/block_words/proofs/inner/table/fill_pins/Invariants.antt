@@ -6,6 +6,3 @@ use Rattle.block_words.proofs.inner.table.fill_pins.Given as goal
 
 abbrev pub invariant-loop-k : goal.invariant-loop-k
 invariant-loop-k l = Filling l.first l.pins (λ p w. w ≡ pin_in l.part p) l.initial.table l.table l.k
-
-abbrev pub decreases-loop-k : goal.decreases-loop-k
-decreases-loop-k l = l.k

@@ -4,7 +4,4 @@ use Rattle.block_words.proofs.GateTableLaws.{Tabling}
 use Rattle.block_words.proofs.inner.table.fill_table.Given as goal
 
 abbrev pub invariant-loop-net : goal.invariant-loop-net
-invariant-loop-net l = Tabling l.netlist l.positions l.shape l.table l.net
-
-abbrev pub decreases-loop-net : goal.decreases-loop-net
-decreases-loop-net l = l.shape.nets - l.net
+invariant-loop-net l = Tabling l.netlist l.positions l.fn.shape l.table l.net

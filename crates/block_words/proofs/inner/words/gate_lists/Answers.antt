@@ -41,15 +41,6 @@ put_net-requires c =
     let k = gate-known c.requires.0 c.loop-net.invariant.0 c.loop-net-test.true c.gate_at-gate.ensures in
     (k.is_net, k.words_room)
 
-pub overflow_add-net : goal.overflow_add-net
-overflow_add-net c =
-    let k = gate-known c.requires.0 c.loop-net.invariant.0 c.loop-net-test.true c.gate_at-gate.ensures in
-    omega (arith, k.is_net)
-
-pub loop-net-smaller : goal.loop-net-smaller
-loop-net-smaller c =
-    omega (arith, c.loop-net-test.true)
-
 pub loop-net-preserved : goal.loop-net-preserved
 loop-net-preserved c = (
   lists-step c.requires.0 c.loop-net.invariant.0 c.loop-net-test.true c.gate_at-gate.ensures c.scan_pins-scan.ensures

@@ -6,9 +6,6 @@ use Rattle.block_words.proofs.inner.words.gate_lists.Given as goal
 
 abbrev pub invariant-loop-net : goal.invariant-loop-net
 invariant-loop-net l =
-    Listing l.table l.shape l.class l.initial.words l.words l.initial.rising_lists l.rising_lists l.rising_lens
+    Listing l.table l.fn.shape l.class l.initial.words l.words l.initial.rising_lists l.rising_lists l.rising_lens
     l.initial.falling_lists l.falling_lists l.falling_lens l.net
     × (length l.rising_rows ≡ 8) × (length l.falling_rows ≡ 8)
-
-abbrev pub decreases-loop-net : goal.decreases-loop-net
-decreases-loop-net l = l.shape.nets - l.net

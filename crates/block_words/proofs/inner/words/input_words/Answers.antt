@@ -25,14 +25,6 @@ pub put_net-requires : goal.put_net-requires
 put_net-requires c =
     (omega (arith, c.loop-input-test.true, c.requires.0), omega (arith, c.loop-input.invariant.0.kept.same_length_of, c.requires.2))
 
-pub overflow_add-input : goal.overflow_add-input
-overflow_add-input c =
-    omega (arith, c.loop-input-test.true, c.requires.0)
-
-pub loop-input-smaller : goal.loop-input-smaller
-loop-input-smaller c =
-    omega (arith, c.loop-input-test.true)
-
 pub loop-input-preserved : goal.loop-input-preserved
 loop-input-preserved c = (
   input-step _ c.loop-input.invariant.0 (omega (arith, c.loop-input-test.true, c.requires.0)) c.first_records-within.ensures

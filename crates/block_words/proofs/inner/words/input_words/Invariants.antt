@@ -5,6 +5,3 @@ use Rattle.block_words.proofs.inner.words.input_words.Given as goal
 
 abbrev pub invariant-loop-input : goal.invariant-loop-input
 invariant-loop-input l = InputWords l.firsts l.lasts l.input l.n l.initial.words l.words × (l.input ≤ l.inputs)
-
-abbrev pub decreases-loop-input : goal.decreases-loop-input
-decreases-loop-input l = l.inputs - l.input

@@ -18,9 +18,6 @@ bounds-words-i c = search held-cases
 pub overflow_mul-i-in-loop-i : goal.overflow_mul-i-in-loop-i
 overflow_mul-i-in-loop-i c = search held-cases
 
-pub overflow_add-i : goal.overflow_add-i
-overflow_add-i c = search held-cases
-
 pub offset_bounds-words-i-in-loop-i : goal.offset_bounds-words-i-in-loop-i
 offset_bounds-words-i-in-loop-i c = search held-cases
 
@@ -29,12 +26,6 @@ bounds-words-i-in-loop-i c = search held-cases
 
 pub add_run-requires : goal.add_run-requires
 add_run-requires c = search held-cases
-
-pub overflow_add-i-in-loop-i : goal.overflow_add-i-in-loop-i
-overflow_add-i-in-loop-i c = search held-cases
-
-pub loop-i-smaller : goal.loop-i-smaller
-loop-i-smaller c = search held-cases
 
 pub loop-i-preserved : goal.loop-i-preserved
 loop-i-preserved c = search held-cases

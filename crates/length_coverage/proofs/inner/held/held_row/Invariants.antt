@@ -5,6 +5,3 @@ use Rattle.length_coverage.proofs.inner.held.held_row.Given as goal
 
 abbrev pub invariant-loop-i : goal.invariant-loop-i
 invariant-loop-i l = Added l.netlist l.positions l.counts l.shape l.rows l.words l.sums l.runs l.i
-
-abbrev pub decreases-loop-i : goal.decreases-loop-i
-decreases-loop-i l = l.runs - l.i

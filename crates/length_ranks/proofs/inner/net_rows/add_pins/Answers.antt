@@ -20,12 +20,6 @@ add_longer-requires c =
     let start = c.requires in
     pins-room _ _ _ _ start.2 start.0 _ start.1 _ c.loop-pin-test.true _ c.pin_net-net.ensures _ c.loop-pin.invariant.1
 
-pub overflow_add-pin : goal.overflow_add-pin
-overflow_add-pin c = search pins-cases
-
-pub loop-pin-smaller : goal.loop-pin-smaller
-loop-pin-smaller c = search pins-cases
-
 pub loop-pin-preserved : goal.loop-pin-preserved
 loop-pin-preserved c = search pins-cases
 

@@ -6,6 +6,3 @@ use Rattle.length_ranks.proofs.inner.net_rows.add_pins.Given as goal
 
 abbrev pub invariant-loop-pin : goal.invariant-loop-pin
 invariant-loop-pin l = (l.pin ≤ l.pins) × (l.sums ≡ added l.initial.sums (longer l.by (pin_sums_before l.part l.rows l.pin)))
-
-abbrev pub decreases-loop-pin : goal.decreases-loop-pin
-decreases-loop-pin l = l.pins - l.pin

@@ -15,12 +15,6 @@ offset_bounds-rows-net c = search fill-cases
 pub bounds-rows-net : goal.bounds-rows-net
 bounds-rows-net c = search fill-cases
 
-pub overflow_add-net : goal.overflow_add-net
-overflow_add-net c = search fill-cases
-
-pub loop-net-smaller : goal.loop-net-smaller
-loop-net-smaller c = search fill-cases
-
 pub loop-net-preserved : goal.loop-net-preserved
 loop-net-preserved c = search fill-cases
 

@@ -5,6 +5,3 @@ use Rattle.length_ranks.proofs.inner.net_rows.fill_rows.Given as goal
 
 abbrev pub invariant-loop-net : goal.invariant-loop-net
 invariant-loop-net l = (l.nets ≡ l.shape.nets) × RowsBefore l.netlist l.positions l.shape l.net l.rows
-
-abbrev pub decreases-loop-net : goal.decreases-loop-net
-decreases-loop-net l = l.nets - l.net

@@ -24,12 +24,6 @@ output_net-net-requires c = search outputs-cases
 pub add_output-requires : goal.add_output-requires
 add_output-requires c = search outputs-cases
 
-pub overflow_add-before : goal.overflow_add-before
-overflow_add-before c = search outputs-cases
-
-pub loop-before-smaller : goal.loop-before-smaller
-loop-before-smaller c = search outputs-cases
-
 pub loop-before-preserved : goal.loop-before-preserved
 loop-before-preserved c = search outputs-cases
 

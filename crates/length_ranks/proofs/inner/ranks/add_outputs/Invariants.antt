@@ -6,6 +6,3 @@ use Rattle.length_ranks.proofs.inner.ranks.add_outputs.Given as goal
 
 abbrev pub invariant-loop-before : goal.invariant-loop-before
 invariant-loop-before l = (l.before ≤ l.place) × (l.sums ≡ added l.initial.sums (sums_before l.part l.place l.inputs l.rows l.before))
-
-abbrev pub decreases-loop-before : goal.decreases-loop-before
-decreases-loop-before l = l.place - l.before

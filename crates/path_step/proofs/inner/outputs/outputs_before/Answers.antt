@@ -1,5 +1,4 @@
 -- `path_step::inner::outputs::outputs_before` meets its contract: the sum so far is that of the counts of the outputs before the one at hand.
-use Rattle.model.proofs.Prelude.{◌-◌}
 use Rattle.path_step.proofs.OutputPicks.{outputs-before-cases}
 use Rattle.path_step.proofs.inner.outputs.outputs_before.Goals as goal
 
@@ -26,12 +25,6 @@ output_paths-total-requires c = search outputs-before-cases
 
 pub overflow_add-total : goal.overflow_add-total
 overflow_add-total c = search outputs-before-cases
-
-pub overflow_add-before : goal.overflow_add-before
-overflow_add-before c = search outputs-before-cases
-
-pub loop-before-smaller : goal.loop-before-smaller
-loop-before-smaller c = search outputs-before-cases
 
 pub loop-before-preserved : goal.loop-before-preserved
 loop-before-preserved c = search outputs-before-cases

@@ -1,5 +1,4 @@
 -- `path_step::inner::outputs::pick_output` meets its contract: of the number, the rest is left after the outputs that were passed.
-use Rattle.model.proofs.Prelude.{◌-◌}
 use Rattle.path_step.proofs.OutputPicks.{output-cases}
 use Rattle.path_step.proofs.inner.outputs.pick_output.Goals as goal
 

@@ -1,5 +1,4 @@
 -- `path_step::inner::pins::count_before` meets its contract: the sum so far is that of the counts before the pin at hand.
-use Rattle.model.proofs.Prelude.{◌-◌}
 use Rattle.path_step.proofs.PinCases.{pins-before-cases}
 use Rattle.path_step.proofs.inner.pins.count_before.Goals as goal
 
@@ -17,12 +16,6 @@ bounds-counts-net c = search pins-before-cases
 
 pub overflow_add-sum : goal.overflow_add-sum
 overflow_add-sum c = search pins-before-cases
-
-pub overflow_add-before : goal.overflow_add-before
-overflow_add-before c = search pins-before-cases
-
-pub loop-before-smaller : goal.loop-before-smaller
-loop-before-smaller c = search pins-before-cases
 
 pub loop-before-preserved : goal.loop-before-preserved
 loop-before-preserved c = search pins-before-cases

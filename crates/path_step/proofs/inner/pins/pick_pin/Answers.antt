@@ -1,5 +1,4 @@
 -- `path_step::inner::pins::pick_pin` meets its contract: the choice among the pins that are left, at the number that is left, is the whole choice.
-use Rattle.model.proofs.Prelude.{◌-◌}
 use Rattle.path_step.proofs.PinCases.{pick-cases}
 use Rattle.path_step.proofs.inner.pins.pick_pin.Goals as goal
 

@@ -1,5 +1,5 @@
 -- `report_bytes::inner::comparing::same_words` meets its contract. The invariant: the words that are left, compared from here on, decide the whole.
-use Rattle.model.proofs.Prelude.{◌-◌, rules}
+use Rattle.model.proofs.Prelude.{rules}
 use Rattle.report_bytes.proofs.WordSteps.{same_cases}
 use Rattle.report_bytes.proofs.inner.comparing.same_words.Goals as goal
 

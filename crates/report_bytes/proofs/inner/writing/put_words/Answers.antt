@@ -1,5 +1,5 @@
 -- `report_bytes::inner::writing::put_words` meets its contract. The invariant: the words that are left, written from here on, give the whole.
-use Rattle.model.proofs.Prelude.{◌-◌, rules}
+use Rattle.model.proofs.Prelude.{rules}
 use Rattle.report_bytes.proofs.WordSteps.{put-cases}
 use Rattle.report_bytes.proofs.inner.writing.put_words.Goals as goal
 

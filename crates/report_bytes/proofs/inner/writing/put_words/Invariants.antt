@@ -1,5 +1,5 @@
 -- `report_bytes::inner::writing::put_words` meets its contract. The invariant: the words that are left, written from here on, give the whole.
-use Rattle.model.proofs.Prelude.{◌≤◌, ◌+◌, ◌-◌, ◌*◌, ◌≡◌, length, drop, sets}
+use Rattle.model.proofs.Prelude.{◌≤◌, ◌+◌, ◌*◌, ◌≡◌, length, drop, sets}
 use Rattle.report_bytes.specs.Layout.{word_bytes}
 use Rattle.report_bytes.proofs.inner.writing.put_words.Given as goal
 
@@ -7,6 +7,3 @@ abbrev pub invariant-loop-i : goal.invariant-loop-i
 invariant-loop-i l =
     (length l.report ≡ length l.initial.report) × (l.i ≤ length l.words)
     × (sets l.report (l.at + 8 * l.i) (word_bytes (drop l.i l.words)) ≡ sets l.initial.report l.at (word_bytes l.words))
-
-abbrev pub decreases-loop-i : goal.decreases-loop-i
-decreases-loop-i l = length l.words - l.i

@@ -7,8 +7,8 @@ use Rattle.report_differences.proofs.inner.first.each_held.Goals as goal
 pub next_piece-found-requires : goal.next_piece-found-requires
 next_piece-found-requires c = search (passed_none, rules)
 
-pub returns-in-Nothing : goal.returns-in-Nothing
-returns-in-Nothing c = search held-cases
+pub returns-in-None : goal.returns-in-None
+returns-in-None c = search held-cases
 
-pub returns-in-Range : goal.returns-in-Range
-returns-in-Range c = search held-cases
+pub returns-in-Some : goal.returns-in-Some
+returns-in-Some c = search held-cases

@@ -10,8 +10,8 @@ next_piece-found-requires c = search (passed_none, rules)
 pub returns-then-paths-low : goal.returns-then-paths-low
 returns-then-paths-low c = search number-cases
 
-pub returns-in-Nothing : goal.returns-in-Nothing
-returns-in-Nothing c = search number-cases
+pub returns-in-None : goal.returns-in-None
+returns-in-None c = search number-cases
 
 pub returns-else-paths-low : goal.returns-else-paths-low
 returns-else-paths-low c = search number-cases

@@ -21,29 +21,14 @@ digit-requires c = search place-cases
 pub overflow_sub-start : goal.overflow_sub-start
 overflow_sub-start c = search place-cases
 
-pub enum_known-c : goal.enum_known-c
-enum_known-c c = search place-cases
-
-pub enum_told-1 : goal.enum_told-1
-enum_told-1 c = search place-cases
-
-pub shape_of-words-in-Full : goal.shape_of-words-in-Full
-shape_of-words-in-Full c = search place-cases
-
-pub returns-in-Full : goal.returns-in-Full
-returns-in-Full c = search place-cases
+pub returns-in_err-count : goal.returns-in_err-count
+returns-in_err-count c = rw c.from_residual.ensures (search (c.in_err-count.was, place-cases))
 
 pub bounds-counts-net : goal.bounds-counts-net
 bounds-counts-net c = search place-cases
 
 pub overflow_add-offset : goal.overflow_add-offset
 overflow_add-offset c = search place-cases
-
-pub overflow_add-pin : goal.overflow_add-pin
-overflow_add-pin c = search place-cases
-
-pub loop-pin-smaller : goal.loop-pin-smaller
-loop-pin-smaller c = search place-cases
 
 pub shape_of-words : goal.shape_of-words
 shape_of-words c = search place-cases
@@ -55,4 +40,4 @@ pub add_net-requires-clause-net_ready : goal.add_net-requires-clause-net_ready
 add_net-requires-clause-net_ready c = search (place-cases, places-room, places-small, place-net, place-below, place-more, rules)
 
 pub loop-pin-preserved : goal.loop-pin-preserved
-loop-pin-preserved c = search (place-cases, places-room, places-small, place-net, place-below, place-more, rules)
+loop-pin-preserved c = search (c.in_ok-count.was, place-cases, places-room, places-small, place-net, place-below, place-more, rules)

@@ -8,6 +8,3 @@ use Rattle.run_shifted.proofs.inner.gates.gate_runs.Given as goal
 abbrev pub invariant-loop-pin : goal.invariant-loop-pin
 invariant-loop-pin l =
     PlacesDone (gate_places l.part l.mask l.counts) l.pins l.starts l.initial.words l.start (max_runs - l.start) l.words l.pin l.count l.offset × (length l.words ≡ length l.initial.words)
-
-abbrev pub decreases-loop-pin : goal.decreases-loop-pin
-decreases-loop-pin l = l.pins - l.pin

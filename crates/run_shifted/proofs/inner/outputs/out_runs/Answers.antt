@@ -25,17 +25,8 @@ output_net-net-requires c = search output-cases
 pub at_gate-requires : goal.at_gate-requires
 at_gate-requires c = search output-cases
 
-pub enum_known-c : goal.enum_known-c
-enum_known-c c = search output-cases
-
-pub enum_told-1 : goal.enum_told-1
-enum_told-1 c = search output-cases
-
-pub shape_of-words-in-Full : goal.shape_of-words-in-Full
-shape_of-words-in-Full c = search output-cases
-
-pub returns-in-Full : goal.returns-in-Full
-returns-in-Full c = search output-cases
+pub returns-in_err-count : goal.returns-in_err-count
+returns-in_err-count c = rw c.from_residual.ensures (search (c.in_err-count.was, output-cases))
 
 pub output_paths-offset-requires : goal.output_paths-offset-requires
 output_paths-offset-requires c = search output-cases
@@ -43,14 +34,8 @@ output_paths-offset-requires c = search output-cases
 pub overflow_add-offset : goal.overflow_add-offset
 overflow_add-offset c = search output-cases
 
-pub overflow_add-place : goal.overflow_add-place
-overflow_add-place c = search output-cases
-
-pub loop-place-smaller : goal.loop-place-smaller
-loop-place-smaller c = search output-cases
-
 pub loop-place-preserved : goal.loop-place-preserved
-loop-place-preserved c = (search output-cases, search rules)
+loop-place-preserved c = (search (c.in_ok-count.was, output-cases), search rules)
 
 pub shape_of-words : goal.shape_of-words
 shape_of-words c = search output-cases

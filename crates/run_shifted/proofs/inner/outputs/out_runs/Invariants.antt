@@ -8,6 +8,3 @@ use Rattle.run_shifted.proofs.inner.outputs.out_runs.Given as goal
 abbrev pub invariant-loop-place : goal.invariant-loop-place
 invariant-loop-place l =
     PlacesDone (output_places l.part l.inputs l.counts) l.outputs l.starts l.initial.words max_runs max_runs l.words l.place l.count l.offset × (length l.words ≡ length l.initial.words)
-
-abbrev pub decreases-loop-place : goal.decreases-loop-place
-decreases-loop-place l = l.outputs - l.place

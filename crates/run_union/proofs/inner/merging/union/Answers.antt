@@ -1,5 +1,5 @@
 -- `run_union::inner::merging::union` meets its contract: the runs added so far and those left of both lists, by ascending low, make the runs of the union.
-use Rattle.model.proofs.Prelude.{◌-◌, rules}
+use Rattle.model.proofs.Prelude.{rules}
 use Rattle.run_union.proofs.UnionSteps.{merging_start, merging_room, merging_end, left_below, left-run, left-full, left-more, right-below, right-run, right-full, right-more}
 use Rattle.run_union.proofs.inner.merging.union.Goals as goal
 

@@ -1,5 +1,5 @@
 -- `run_union::inner::moving::move_down` meets its contract: the words are those with the runs moved so far written.
-use Rattle.model.proofs.Prelude.{◌-◌, refl, length-set, arith, rules}
+use Rattle.model.proofs.Prelude.{refl, length-set, arith, rules}
 use Rattle.run_union.proofs.CopySteps.{copy_end}
 use Rattle.run_union.proofs.MoveSteps.{down-more}
 use Rattle.run_union.proofs.inner.moving.move_down.Goals as goal

@@ -4,6 +4,3 @@ use Rattle.run_union.proofs.inner.moving.move_up.Given as goal
 
 abbrev pub invariant-loop-k : goal.invariant-loop-k
 invariant-loop-k l = MovedFrom l.initial.words l.from l.count l.to l.words l.k
-
-abbrev pub decreases-loop-k : goal.decreases-loop-k
-decreases-loop-k l = l.k

@@ -15,12 +15,6 @@ offset_bounds-states-i c = omega (arith, c.loop-i-test.true, c.requires)
 pub bounds-states-i : goal.bounds-states-i
 bounds-states-i c = omega (arith, c.loop-i-test.true, c.requires)
 
-pub overflow_add-i : goal.overflow_add-i
-overflow_add-i c = omega (arith, c.loop-i-test.true, c.requires)
-
-pub loop-i-smaller : goal.loop-i-smaller
-loop-i-smaller c = omega (arith, c.loop-i-test.true)
-
 pub loop-i-preserved : goal.loop-i-preserved
 loop-i-preserved c =
     inputs-more _ _ _ _ _ _ c.requires c.loop-i-test.true c.loop-i.invariant c.input_state.ensures

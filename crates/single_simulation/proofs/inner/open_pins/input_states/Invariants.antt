@@ -5,6 +5,3 @@ use Rattle.single_simulation.proofs.inner.open_pins.input_states.Given as goal
 
 abbrev pub invariant-loop-i : goal.invariant-loop-i
 invariant-loop-i l = InputsTo l.v1 l.v2 l.inputs l.i l.states
-
-abbrev pub decreases-loop-i : goal.decreases-loop-i
-decreases-loop-i l = l.inputs - l.i

@@ -44,12 +44,6 @@ offset_bounds-states-net c = search open-cases
 pub bounds-states-net : goal.bounds-states-net
 bounds-states-net c = search open-cases
 
-pub overflow_add-net : goal.overflow_add-net
-overflow_add-net c = search open-cases
-
-pub loop-net-smaller : goal.loop-net-smaller
-loop-net-smaller c = search open-cases
-
 pub loop-net-preserved : goal.loop-net-preserved
 loop-net-preserved c = search open-cases
 

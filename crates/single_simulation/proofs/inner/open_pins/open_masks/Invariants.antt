@@ -6,7 +6,4 @@ use Rattle.single_simulation.proofs.OpenCases.{Simulating}
 use Rattle.single_simulation.proofs.inner.open_pins.open_masks.Given as goal
 
 abbrev pub invariant-loop-net : goal.invariant-loop-net
-invariant-loop-net l = Simulating l.netlist l.positions l.shape l.class l.v1 l.v2 l.states l.masks l.net
-
-abbrev pub decreases-loop-net : goal.decreases-loop-net
-decreases-loop-net l = l.shape.nets - l.net
+invariant-loop-net l = Simulating l.netlist l.positions l.fn.shape l.class l.v1 l.v2 l.states l.masks l.net

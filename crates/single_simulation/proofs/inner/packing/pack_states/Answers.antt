@@ -34,9 +34,6 @@ pub overflow_add-packed : goal.overflow_add-packed
 overflow_add-packed c =
     omega (arith, states-fit c.requires c.loop-k.invariant c.loop-k-test.true c.pin_net-net.result)
 
-pub loop-k-smaller : goal.loop-k-smaller
-loop-k-smaller c = omega (arith, c.loop-k-test.true)
-
 pub loop-k-preserved : goal.loop-k-preserved
 loop-k-preserved c =
     states-step c.requires c.loop-k.invariant c.loop-k-test.true c.pin_net-net.ensures

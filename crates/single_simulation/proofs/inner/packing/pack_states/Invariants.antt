@@ -4,6 +4,3 @@ use Rattle.single_simulation.proofs.inner.packing.pack_states.Given as goal
 
 abbrev pub invariant-loop-k : goal.invariant-loop-k
 invariant-loop-k l = PackingStates l.part l.pins l.states l.packed l.k
-
-abbrev pub decreases-loop-k : goal.decreases-loop-k
-decreases-loop-k l = l.k

@@ -15,8 +15,8 @@ inside-requires c = (omega arith, omega arith, omega arith, search join-cases)
 pub returns-then-inside : goal.returns-then-inside
 returns-then-inside c = search join-cases
 
-pub returns-in-Full : goal.returns-in-Full
-returns-in-Full c = search join-cases
+pub returns-in-None : goal.returns-in-None
+returns-in-None c = search join-cases
 
 pub returns-else-inside : goal.returns-else-inside
 returns-else-inside c = search join-cases

@@ -18,8 +18,8 @@ bounds-words-end c = search join-new-cases
 pub overflow_add-from : goal.overflow_add-from
 overflow_add-from c = search join-new-cases
 
-pub overflow_add-from-in-Count : goal.overflow_add-from-in-Count
-overflow_add-from-in-Count c = search join-new-cases
+pub overflow_add-from-in-Some : goal.overflow_add-from-in-Some
+overflow_add-from-in-Some c = search join-new-cases
 
 pub returns-then-from-n-gt-MAX_RUNS : goal.returns-then-from-n-gt-MAX_RUNS
 returns-then-from-n-gt-MAX_RUNS c = search join-new-cases
@@ -27,8 +27,8 @@ returns-then-from-n-gt-MAX_RUNS c = search join-new-cases
 pub returns-else-from-n-gt-MAX_RUNS : goal.returns-else-from-n-gt-MAX_RUNS
 returns-else-from-n-gt-MAX_RUNS c = search join-new-cases
 
-pub returns-in-Full : goal.returns-in-Full
-returns-in-Full c = search join-new-cases
+pub returns-in-None : goal.returns-in-None
+returns-in-None c = search join-new-cases
 
 pub first_apart-to-requires : goal.first_apart-to-requires
 first_apart-to-requires c = search (first-low, final_high, union_found, union_held, join-new-cases, rules)
