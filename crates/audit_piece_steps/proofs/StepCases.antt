@@ -37,40 +37,43 @@ module _ (ws work : List ℕ) where
     lent-passed h = rw (eq-eqb (length ws) store_words_count l, le-leb work_words_count (length work) h) refl
 
 -- The beginning
-module _ (netlist : List ℕ) (class : ℕ) (ws work : List ℕ) where
-  pub begin_words : (length ws ≡ store_words_count → ⊥) → BeginTrue (Err why.StoreLength) netlist class ws ws work
+module _ (netlist : List ℕ) (class : ℕ) (ws work : List ℕ) (r : Result Loaded Refusal) (t : LoadedTrue r netlist) where
+  pub begin_words : (length ws ≡ store_words_count → ⊥)
+      → BeginTrue (record { answer = Err why.StoreLength; tables = r }) netlist class ws ws work
   unfolding begin_answer begin_store
-  begin_words d = record { answer = rw (lent-words ws work d) refl; store = rw (lent-words ws work d) refl; tables = tt }
+  begin_words d = record { answer = rw (lent-words ws work d) refl; store = rw (lent-words ws work d) refl; tables = t }
 
   module _ (l : length ws ≡ store_words_count) where
-    pub begin_short : length work < work_words_count → BeginTrue (Err why.WorkLength) netlist class ws ws work
+    pub begin_short : length work < work_words_count
+        → BeginTrue (record { answer = Err why.WorkLength; tables = r }) netlist class ws ws work
     unfolding begin_answer begin_store
-    begin_short h = record { answer = rw (lent-short ws work l h) refl; store = rw (lent-short ws work l h) refl; tables = tt }
+    begin_short h = record { answer = rw (lent-short ws work l h) refl; store = rw (lent-short ws work l h) refl; tables = t }
 
-    module _ (h : work_words_count ≤ length work) (ws' : List ℕ) (z : ws' ≡ replicate (length ws) 0) (r : Result Loaded Refusal) (t : LoadedTrue r netlist) where
-      pub begin_netlist : (w : Refusal) → r ≡ Err w → BeginTrue (Err w) netlist class ws ws' work
+    module _ (h : work_words_count ≤ length work) (ws' : List ℕ) (z : ws' ≡ replicate (length ws) 0) where
+      pub begin_netlist : (w : Refusal) → r ≡ Err w → BeginTrue (record { answer = Err w; tables = r }) netlist class ws ws' work
       unfolding begin_answer begin_store
       begin_netlist w e = record {
         answer = rw (lent-passed ws work l h, loaded_refused r netlist t w e) refl;
         store = emptied ws' (length ws) z l ∙ rw (lent-passed ws work l h) refl;
-        tables = tt;
+        tables = t;
       }
 
       module _ (loaded : Loaded) (e : r ≡ Ok loaded) (k : Bool) (ek : k ≡ within 1 2 class) where
-        pub begin_class : not k ≡ true → BeginTrue (Err why.UnknownClass) netlist class ws ws' work
+        pub begin_class : not k ≡ true
+            → BeginTrue (record { answer = Err why.UnknownClass; tables = r }) netlist class ws ws' work
         unfolding begin_answer begin_store
         begin_class n = record {
           answer = rw (lent-passed ws work l h, (loaded_legal r netlist t loaded e).tables.legal) (rw (sym ek ∙ not-true k n) refl);
           store = emptied ws' (length ws) z l ∙ rw (lent-passed ws work l h) refl;
-          tables = tt;
+          tables = t;
         }
 
-        pub begin_ready : not k ≡ false → BeginTrue (Ok loaded) netlist class ws ws' work
+        pub begin_ready : not k ≡ false → BeginTrue (record { answer = Ok tt; tables = r }) netlist class ws ws' work
         unfolding begin_answer begin_store
         begin_ready n = record {
           answer = rw (lent-passed ws work l h, (loaded_legal r netlist t loaded e).tables.legal) (rw (sym ek ∙ not-false k n) refl);
           store = emptied ws' (length ws) z l ∙ rw (lent-passed ws work l h) refl;
-          tables = loaded_legal r netlist t loaded e;
+          tables = t;
         }
 
 pub ruleset begin-cases = (begin_words, begin_short, begin_netlist, begin_class, begin_ready, rules)

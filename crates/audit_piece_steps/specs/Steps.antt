@@ -5,15 +5,15 @@ use Rattle.model.specs.Base.{Answer, refused, value, ◌into◌, checks, passes,
 use Rattle.model.specs.Netlist.{Netlist, path_total}
 use Rattle.model.specs.Detect.{Class}
 use Rattle.model.specs.Read.{read_netlist, class_of, record_length}
-use Rattle.model.specs.Refusals.{refusal_number_of}
 use Rattle.model.specs.Store.{empty_store}
 use Rattle.model.specs.Calls.{work_words_count, store_rule, work_rule, before_test}
 use Rattle.model.specs.Report.{file_records, test_all}
-use Rattle.netlist.specs.Answers.{LegalLoad}
+use Rattle.netlist.specs.Answers.{LoadedTrue}
 use Rattle.netlist.specs.declared.inner.Loaded.{Loaded}
 use Rattle.audit_judging.specs.FileJudging.{end_by}
 use Rattle.audit_block.specs.RecordsTaken.{file_of, left_store, taken_of}
 use Rattle.audit_block.specs.declared.inner.TakenRecords.{TakenRecords}
+use Rattle.audit_piece_steps.specs.declared.inner.Begun.{Begun}
 use Rattle.audit_records.specs.FileRecords.{Ready}
 use Rattle.std.specs.Prelude.{Result, Ok, Err}
 use Rattle.model.specs.declared.Refusal.{Refusal}
@@ -30,15 +30,10 @@ begin_answer netlist class ws work = passes (before_test netlist class ws work)
 unfoldable pub begin_store : List ℕ → List ℕ → List ℕ
 begin_store ws work = after (lent_rules ws work) ws (λ u. empty_store)
 
--- where it passed, the tables of the netlist
-abbrev pub TablesOf : Result Loaded Refusal → List ℕ → Type 0
-TablesOf (Ok l) file = LegalLoad file l.counts l.positions l.shape l.total
-TablesOf (Err w) file = Unit {0}
-
-pub record BeginTrue (r : Result Loaded Refusal) (netlist : List ℕ) (class : ℕ) (ws ws' work : List ℕ) : Type 0 where
-  pub answer : passes (answer_of r) ≡ begin_answer netlist class ws work
+pub record BeginTrue (r : Begun) (netlist : List ℕ) (class : ℕ) (ws ws' work : List ℕ) : Type 0 where
+  pub answer : answer_of r.answer ≡ begin_answer netlist class ws work
   pub store : ws' ≡ begin_store ws work
-  pub tables : TablesOf r netlist
+  pub tables : LoadedTrue r.tables netlist
 
 -- the test calls with the records of one piece more
 unfoldable pub with_piece : Netlist → Class → List ℕ → Answer (List ℕ) → Answer (List ℕ)

@@ -1,5 +1,6 @@
 // The three steps, for our own crates: each caller proves what a function requires.
-ghost use Rattle.std.specs.Prelude.{◌+◌, ◌^◌, ◌<◌, length};
+ghost use Rattle.std.specs.Prelude.{◌+◌, ◌^◌, ◌<◌, List, ℕ, length};
+ghost use Rattle.netlist.specs.Answers.{LoadedTrue};
 ghost use Rattle.audit_piece_steps.specs.Steps.{BeginTrue, PieceTaken, Ended};
 ghost use Rattle.audit_records.specs.FileRecords.{Ready};
 
@@ -11,9 +12,22 @@ use netlist::inner::{Loaded, load_by_value};
 use record_test::inner::record_length;
 use store_writing::inner::clear;
 
-// Lent memory, netlist and class, then the tables of the netlist. The store is emptied unread, unless the lent memory is refused.
-pub fn begin(netlist: &[u8], class: u32, store: &mut [u64], work: &[u64]) -> Result<Loaded, Refusal>
-    ensures { BeginTrue result netlist.now class store.old store.new work.now }
+// The answer, and what loading the netlist answers, whatever the answer is: its tables, or its own refusal.
+#[derive(Drop)]
+pub struct Begun {
+    pub answer: Result<(), Refusal>,
+    pub tables: Result<Loaded, Refusal>,
+}
+
+// The answer, with a netlist that was loaded. It is lent: a copy of the tables for each return would take the stack of all.
+fn begin_loaded(
+    tables: &Result<Loaded, Refusal>,
+    class: u32,
+    store: &mut [u64],
+    work: &[u64],
+) -> Result<(), Refusal>
+    ensures { (netlist : List ℕ) → LoadedTrue tables.now netlist
+        → BeginTrue (record { answer = result; tables = tables.now }) netlist class store.old store.new work.now }
 {
     if store.len() != STORE_WORDS {
         return Err(Refusal::StoreLength);
@@ -22,12 +36,25 @@ pub fn begin(netlist: &[u8], class: u32, store: &mut [u64], work: &[u64]) -> Res
         return Err(Refusal::WorkLength);
     }
     clear(store);
-    let loaded = load_by_value(netlist)?;
-    let known = known_class(class);
-    if !known {
-        return Err(Refusal::UnknownClass);
+    match tables {
+        Err(why) => Err(*why),
+        Ok(_) => {
+            let known = known_class(class);
+            if !known {
+                return Err(Refusal::UnknownClass);
+            }
+            Ok(())
+        }
     }
-    Ok(loaded)
+}
+
+// Lent memory, netlist and class. The store is emptied unread, unless the lent memory is refused.
+pub fn begin(netlist: &[u8], class: u32, store: &mut [u64], work: &[u64]) -> Begun
+    ensures { BeginTrue result netlist.now class store.old store.new work.now }
+{
+    let tables = load_by_value(netlist);
+    let answer = begin_loaded(&tables, class, store, work);
+    Begun { answer, tables }
 }
 
 // The test stage with the whole records of a piece in order, judged in a class; after a refused record no other is tried. A refused record empties the store.

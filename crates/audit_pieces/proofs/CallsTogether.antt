@@ -28,7 +28,7 @@ use Rattle.audit_block.proofs.MemoryLaws.{left-memory}
 use Rattle.audit_piece_steps.proofs.JoinedPieceLaws.{pieces-joined}
 use Rattle.audit_pieces.proofs.TogetherHolds.{end-answer, end-store, begun-lent, begun-known, begun-before, begun-empty, begun-memory}
 use Rattle.audit_pieces.proofs.TakenLaws.{taken_withs, taken-whole}
-use Rattle.std.specs.Prelude.{Result, Ok}
+use Rattle.std.specs.Prelude.{Result}
 
 -- One call on a legal netlist and a store that no rule refuses
 module _ (netlist : List ℕ) (N : Netlist) (e : read_netlist netlist ≡ value N) (class : ℕ) (known : within 1 2 class ≡ true)

@@ -12,23 +12,24 @@ use Rattle.model.proofs.ReportsHold.{demand_3}
 use Rattle.audit.specs.Answers.{AuditTrue}
 use Rattle.audit_block.specs.RecordsTaken.{taken_of}
 use Rattle.audit.proofs.PromisesHold.{calls-true}
+use Rattle.audit_piece_steps.specs.declared.inner.Begun.{Begun}
 use Rattle.audit_piece_steps.specs.Steps.{BeginTrue}
 use Rattle.audit_pieces.specs.Calls.{BegunTrue}
 use Rattle.audit_judging.specs.FileJudging.{ended_of}
 use Rattle.audit_piece_steps.specs.JoinedPieces.{joined}
 use Rattle.audit_pieces.specs.Together.{MadePiece, bytes_of, no_records, last_answer, StepsMade, WholeAudit, PiecesTrue}
-use Rattle.audit_pieces.proofs.TogetherHolds.{calls-joined, pieces-made, begun-ready, begun-empty, begun-refused, untouched}
+use Rattle.audit_pieces.proofs.TogetherHolds.{calls-joined, pieces-made, told-ready, told-refused, begun-ready, begun-empty, begun-refused, untouched}
 use Rattle.audit_pieces.proofs.TakenLaws.{taken_withs, taken-whole, last_taken}
 use Rattle.audit_pieces.proofs.CallsTogether.{calls-made, never-for_store, call-places}
 use Rattle.std.specs.Prelude.{Result, Ok, Err}
-use Rattle.model.specs.Returned.{answer_of}
 
 -- a beginning that was refused
-refused-at-once : (netlist : List ℕ) (class : ℕ) (test_file report ws ws₀ work : List ℕ) (w : Refusal) → BeginTrue (Err w) netlist class ws ws₀ work
-    → AuditTrue (Err w) netlist class test_file report ws ws₀ work work
-refused-at-once netlist class test_file report ws ws₀ work w t =
-    let x = begun-refused netlist class test_file report ws ws₀ work (refusal_number_of w) t.answer t.store in
-    record { answer = x.0; store = x.1; work = untouched netlist class test_file report ws ws₀ work (refusal_number_of w) t.answer t.store }
+refused-at-once : (netlist : List ℕ) (class : ℕ) (test_file report ws ws₀ work : List ℕ) (b : Begun) → BeginTrue b netlist class ws ws₀ work
+    → (w : Refusal) → b.answer ≡ Err w → AuditTrue (Err w) netlist class test_file report ws ws₀ work work
+refused-at-once netlist class test_file report ws ws₀ work b t w q =
+    let a = told-refused netlist class ws ws₀ work b t w q in
+    let x = begun-refused netlist class test_file report ws ws₀ work (refusal_number_of w) a t.store in
+    record { answer = x.0; store = x.1; work = untouched netlist class test_file report ws ws₀ work (refusal_number_of w) a t.store }
 
 call-refused-at-once : (netlist : List ℕ) (class : ℕ) (test_file report ws ws₀ work : List ℕ) (w : Refusal)
     → BegunTrue (Err w) netlist class ws ws₀ work → WholeAudit (Err (refusal_number_of w)) netlist class test_file report ws ws₀ work
@@ -44,7 +45,7 @@ step-places netlist class ms report ws ws' work r s =
     let ws₀ : List ℕ = s.emptied in
     last_taken netlist s.loaded class s.circuit s.legal no_records ws₀ ms s.takes
     ∙ ap (λ (x : List ℕ). taken_withs s.circuit (class_of class) (bytes_of ms) (value x) 0)
-    (begun-empty netlist class ws ws₀ work s.begins.answer s.begins.store)
+    (begun-empty netlist class ws ws₀ work (told-ready netlist class ws ws₀ work s.begun s.begins s.is_ready) s.begins.store)
     ∙ taken-whole s.circuit (class_of class) (bytes_of ms) s.whole empty_store
 
 -- an audit whose answer is a number accepts exactly the true report

@@ -14,6 +14,7 @@ use Rattle.model.proofs.BeforeLaws.{Reached, reached→}
 use Rattle.model.proofs.RefusalLaws.{audit_found, audit_emptied}
 use Rattle.model.proofs.ReportLaws.{length-records}
 use Rattle.netlist.specs.declared.inner.Loaded.{Loaded}
+use Rattle.netlist.proofs.LoadLaws.{loaded_legal, loaded_refused}
 use Rattle.store_coverage.specs.Stage.{MemoryReady}
 use Rattle.audit.specs.Answers.{AuditTrue}
 use Rattle.audit_block.specs.RecordsTaken.{file_of, left_store}
@@ -21,12 +22,12 @@ use Rattle.audit.specs.TestFile.{audit_file}
 use Rattle.audit_block.specs.declared.inner.TakenRecords.{TakenRecords}
 use Rattle.audit_block.proofs.MemoryLaws.{empty-memory}
 use Rattle.audit.proofs.AuditCases.{audit_left}
+use Rattle.audit_piece_steps.specs.declared.inner.Begun.{Begun}
 use Rattle.audit_piece_steps.specs.Steps.{BeginTrue, lent_rules, begin_answer, begin_store, with_piece, end_of}
-use Rattle.audit_records.specs.FileRecords.{Ready}
 use Rattle.audit_judging.specs.FileJudging.{end_by}
 use Rattle.audit_piece_steps.specs.JoinedPieces.{joined, WholeButLast, with_pieces}
 use Rattle.audit_piece_steps.proofs.JoinedPieceLaws.{pieces-joined}
-use Rattle.audit_pieces.specs.Together.{pieces_call, MadePiece, bytes_of, no_records, Promised, last_answer, last_left, StepsMade}
+use Rattle.audit_pieces.specs.Together.{pieces_call, MadePiece, bytes_of, no_records, Promised, last_answer, last_left, ReadyTables, StepsMade}
 use Rattle.std.specs.Prelude.{Result, Ok, Err}
 use Rattle.model.specs.declared.Refusal.{Refusal}
 use Rattle.model.specs.Returned.{answer_of}
@@ -117,6 +118,15 @@ module _ (netlist : List ℕ) (class : ℕ) (ws ws₀ work : List ℕ) (a : valu
       let p = checks→ (store_rule ws ∷ work_rule work ∷ []) (record { got = tt; is = begun-lent }) in
       subst (λ (x : List ℕ). MemoryReady N x work) (sym (begun-empty s)) (empty-memory N work (leb→le work_words_count (length work) p.1.0))
 
+-- what a beginning answers
+pub told-ready : (netlist : List ℕ) (class : ℕ) (ws ws₀ work : List ℕ) (b : Begun) → BeginTrue b netlist class ws ws₀ work → b.answer ≡ Ok tt
+    → value tt ≡ begin_answer netlist class ws work
+told-ready netlist class ws ws₀ work b t q = sym (ap (λ (x : Result (Unit {0}) Refusal). answer_of x) q) ∙ t.answer
+
+pub told-refused : (netlist : List ℕ) (class : ℕ) (ws ws₀ work : List ℕ) (b : Begun) → BeginTrue b netlist class ws ws₀ work
+    → (w : Refusal) → b.answer ≡ Err w → refused (refusal_number_of w) ≡ begin_answer netlist class ws work
+told-refused netlist class ws ws₀ work b t w q = sym (ap (λ (x : Result (Unit {0}) Refusal). answer_of x) q) ∙ t.answer
+
 -- The steps that were made
 pub pieces-made : (netlist : List ℕ) (class : ℕ) (ms : List MadePiece) (report ws ws' work : List ℕ) (r : Result (Unit {0}) Refusal)
     → StepsMade netlist class ms report ws ws' work r → AuditTrue r netlist class (joined (bytes_of ms)) report ws ws' work work
@@ -126,9 +136,10 @@ pieces-made netlist class ms report ws ws' work r m =
     let test_file : List ℕ = joined (bytes_of ms) in
     let ws₀ : List ℕ = m.emptied in
     let loaded : Loaded = m.loaded in
-    let lent = begun-lent netlist class ws ws₀ work m.begins.answer in
-    let before = begun-before netlist class ws ws₀ work m.begins.answer N m.legal in
-    let empty = begun-empty netlist class ws ws₀ work m.begins.answer m.begins.store in
+    let told = told-ready netlist class ws ws₀ work m.begun m.begins m.is_ready in
+    let lent = begun-lent netlist class ws ws₀ work told in
+    let before = begun-before netlist class ws ws₀ work told N m.legal in
+    let empty = begun-empty netlist class ws ws₀ work told m.begins.store in
     let s : file_of (last_answer no_records ms).answer (last_left ws₀ ms) ≡ with_piece N c test_file (value empty_store) =
     last-state netlist loaded class N m.legal no_records ws₀ ms m.takes
     ∙ pieces-joined N c (bytes_of ms) m.whole (value ws₀)
@@ -142,16 +153,30 @@ pieces-made netlist class ms report ws ws' work r m =
     }
 
 -- The other steps can then be made
-pub begun-ready : (netlist : List ℕ) (class : ℕ) (ws ws₀ work : List ℕ) (loaded : Loaded) → BeginTrue (Ok loaded) netlist class ws ws₀ work
-    → Ready netlist loaded ws₀ work
-begun-ready netlist class ws ws₀ work loaded t =
-    let d = t.tables in
-    record {
-      circuit = d.circuit;
-      tables = d.tables;
-      total_is = d.total_is;
-      memory = begun-memory netlist class ws ws₀ work t.answer d.circuit t.store;
-    }
+pub begun-ready : (netlist : List ℕ) (class : ℕ) (ws ws₀ work : List ℕ) (b : Begun) → BeginTrue b netlist class ws ws₀ work → b.answer ≡ Ok tt
+    → ReadyTables b netlist ws₀ work
+unfolding begin_answer
+begun-ready netlist class ws ws₀ work b t q = go b.tables refl
+  where
+    go : (x : Result Loaded Refusal) → b.tables ≡ x → ReadyTables b netlist ws₀ work
+    go (Err w) e =
+        let a = told-ready netlist class ws ws₀ work b t q in
+        let l = begun-lent netlist class ws ws₀ work a in
+        let z : value tt ≡ refused (refusal_number_of w) = a ∙ rw (l, loaded_refused b.tables netlist t.tables w e) refl in
+        absurd (not_refused (sym z))
+    go (Ok d) e =
+        let a = told-ready netlist class ws ws₀ work b t q in
+        let g = loaded_legal b.tables netlist t.tables d e in
+        record {
+          loaded = d;
+          tables_are = e;
+          ready = record {
+            circuit = g.circuit;
+            tables = g.tables;
+            total_is = g.total_is;
+            memory = begun-memory netlist class ws ws₀ work a g.circuit t.store;
+          };
+        }
 
 -- a beginning that was refused, with the number `n`
 module _ (netlist : List ℕ) (class : ℕ) (test_file report ws ws₀ work : List ℕ) (n : ℕ) (a : refused n ≡ begin_answer netlist class ws work) (s : ws₀ ≡ begin_store ws work) where

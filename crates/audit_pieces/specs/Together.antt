@@ -15,6 +15,7 @@ use Rattle.audit_block.specs.RecordsTaken.{taken_of}
 use Rattle.audit_block.specs.declared.inner.TakenRecords.{TakenRecords}
 use Rattle.audit_pieces.specs.declared.PieceAnswer.{PieceAnswer}
 use Rattle.audit_pieces.specs.declared.PieceAnswer.TheVariants as piece
+use Rattle.audit_piece_steps.specs.declared.inner.Begun.{Begun}
 use Rattle.audit_piece_steps.specs.Steps.{BeginTrue, PieceTaken, Ended, end_of}
 use Rattle.audit_records.specs.FileRecords.{Ready}
 use Rattle.audit_piece_steps.specs.JoinedPieces.{joined, WholeButLast, with_pieces}
@@ -61,13 +62,22 @@ abbrev pub last_left : List ℕ → List MadePiece → List ℕ
 last_left ws [] = ws
 last_left ws (m ∷ ms) = last_left m.left ms
 
+-- The tables of a beginning: the other steps can be made with them
+pub record ReadyTables (b : Begun) (netlist ws work : List ℕ) : Type 0 where
+  pub loaded : Loaded
+  pub tables_are : b.tables ≡ Ok loaded
+  pub ready : Ready netlist loaded ws work
+
 -- Steps that were made: a beginning that is ready, the pieces `ms` in order, all in one class, and an end that returned `r`, each as promised
 pub record StepsMade (netlist : List ℕ) (class : ℕ) (ms : List MadePiece) (report ws ws' work : List ℕ) (r : Result (Unit {0}) Refusal) : Type 0 where
   pub circuit : Netlist
   pub legal : read_netlist netlist ≡ value circuit
+  pub begun : Begun
   pub loaded : Loaded
   pub emptied : List ℕ
-  pub begins : BeginTrue (Ok loaded) netlist class ws emptied work
+  pub begins : BeginTrue begun netlist class ws emptied work
+  pub is_ready : begun.answer ≡ Ok tt
+  pub has_tables : begun.tables ≡ Ok loaded
   pub takes : Promised netlist loaded class no_records emptied ms
   pub whole : WholeButLast circuit (bytes_of ms)
   pub ends : Ended r netlist (last_answer no_records ms).answer (length (joined (bytes_of ms))) report (last_left emptied ms) ws'
@@ -162,10 +172,10 @@ pub record PiecesTrue : Type 0 where
   pub accepts : (netlist : List ℕ) (class : ℕ) (ms : List MadePiece) (report ws ws' work : List ℕ) (r : Result (Unit {0}) Refusal) → StepsMade netlist class ms report ws ws' work r
       → (r ≡ Ok tt) ↔ Acceptable netlist class (joined (bytes_of ms)) report ws work
   -- a refusal at the beginning is the audit's, whatever the file and the report; else the other steps can be made
-  pub refused_at_once : (netlist : List ℕ) (class : ℕ) (test_file report ws ws₀ work : List ℕ) (w : Refusal) → BeginTrue (Err w) netlist class ws ws₀ work
-      → AuditTrue (Err w) netlist class test_file report ws ws₀ work work
-  pub ready_then : (netlist : List ℕ) (class : ℕ) (ws ws₀ work : List ℕ) (loaded : Loaded) → BeginTrue (Ok loaded) netlist class ws ws₀ work
-      → Ready netlist loaded ws₀ work
+  pub refused_at_once : (netlist : List ℕ) (class : ℕ) (test_file report ws ws₀ work : List ℕ) (b : Begun) → BeginTrue b netlist class ws ws₀ work
+      → (w : Refusal) → b.answer ≡ Err w → AuditTrue (Err w) netlist class test_file report ws ws₀ work work
+  pub ready_then : (netlist : List ℕ) (class : ℕ) (ws ws₀ work : List ℕ) (b : Begun) → BeginTrue b netlist class ws ws₀ work → b.answer ≡ Ok tt
+      → ReadyTables b netlist ws₀ work
   -- the same of the values that the public calls return, whatever is in the working memory that each piece is handed
   pub calls_made : (netlist : List ℕ) (class : ℕ) (ms : List MadeCall) (report ws ws' work : List ℕ) (r : Result (Unit {0}) ℕ) → CallsMade netlist class ms report ws ws' work r
       → WholeAudit r netlist class (joined (call_bytes ms)) report ws ws' work

@@ -37,8 +37,8 @@ pub fn audit_begin(
 ) -> Result<(), Refusal>
     ensures { BegunTrue result netlist.now test_class store.old store.new work.now }
 {
-    begin(netlist, test_class, store, work)?;
-    Ok(())
+    let begun = begin(netlist, test_class, store, work);
+    begun.answer
 }
 
 // A piece: lent memory, netlist, class, store, then the test stage with its whole records in order. Refused with a number over 2 it leaves the

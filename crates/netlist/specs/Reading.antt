@@ -1,4 +1,4 @@
--- What reading the header of a netlist file answers, and the survey of a refused netlist.
+-- What reading the header of a netlist file answers.
 use Rattle.std.specs.Prelude.{ℕ, ◌+◌, ◌≤◌, ◌≡◌, List, length}
 use Rattle.model.specs.Base.{Answer, value, checks, ◌then◌}
 use Rattle.model.specs.Netlist.{max_nets}

@@ -20,7 +20,7 @@ pub struct Shape {
     pub outputs: usize,
 }
 
-// The netlist is legal and its tables are in the arrays, or the reason for refusing it.
+// What a legal netlist whose tables are in the arrays has besides.
 #[derive(Drop)]
 pub struct LegalNetlist {
     pub shape: Shape,

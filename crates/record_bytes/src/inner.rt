@@ -61,8 +61,8 @@ pub fn put(s: &mut [u8], at: usize, k: usize, number: u64)
     ensures { s.new ≡ sets s.old at (little_endian k number) }
 {
     let mut rest = number;
-    for place in at..at + k {
-        s[place] = (rest % 256) as u8;
+    for i in 0..k {
+        s[at + i] = (rest % 256) as u8;
         rest = rest / 256;
     }
 }
@@ -73,8 +73,8 @@ pub fn same(s: &[u8], at: usize, k: usize, number: u64) -> bool
     ensures { result ≡ same_bytes (take k (drop at s.now)) (little_endian k number) }
 {
     let mut rest = number;
-    for place in at..at + k {
-        if s[place] as u64 != rest % 256 {
+    for i in 0..k {
+        if s[at + i] as u64 != rest % 256 {
             return false;
         }
         rest = rest / 256;

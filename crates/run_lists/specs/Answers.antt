@@ -4,7 +4,7 @@ use Rattle.model.specs.Runs.{Run}
 use Rattle.run_lists.specs.RunLists.{run_at, write_runs_of}
 use Rattle.std.specs.Prelude.{Option, Some, None}
 
--- the number of runs of a list, or Full where they are over the capacity (document 01's 50 and 51: "runs over 1,024")
+-- the number of runs of a list, or none where they are over the capacity (document 01's 50 and 51: "runs over 1,024")
 abbrev pub answer : ℕ → List Run → Option ℕ
 answer cap s = cond (nat_le (length s) cap) (Some (length s)) None
 

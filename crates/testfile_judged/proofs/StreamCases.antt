@@ -11,13 +11,16 @@ use Rattle.model.specs.Report.{file_records, whole_records, test_all, writer_cal
 use Rattle.model.specs.Demand3.{Acceptable}
 use Rattle.model.specs.declared.Refusal.{Refusal}
 use Rattle.audit_block.specs.RecordsTaken.{file_of, left_store}
+use Rattle.model.proofs.AnswerLaws.{not_refused, value_inj}
 use Rattle.store_coverage.proofs.TestCallLaws.{refused-by}
 use Rattle.audit.proofs.PromisesHold.{calls-true}
 use Rattle.netlist.specs.declared.inner.Loaded.{Loaded}
 use Rattle.audit_records.specs.FileRecords.{Ready}
+use Rattle.audit_piece_steps.specs.declared.inner.Begun.{Begun}
 use Rattle.audit_piece_steps.specs.Steps.{lent_rules, begin_answer, begin_store, BeginTrue, Ended, with_piece, end_of}
 use Rattle.audit_judging.specs.FileJudging.{end_by}
-use Rattle.audit_pieces.proofs.TogetherHolds.{begun-ready, begun-empty, begun-lent, begun-known, begun-before, end-answer, end-store, end-work}
+use Rattle.audit_pieces.specs.Together.{ReadyTables}
+use Rattle.audit_pieces.proofs.TogetherHolds.{told-ready, told-refused, begun-ready, begun-empty, begun-lent, begun-known, begun-before, end-answer, end-store, end-work}
 use Rattle.audit_pieces.proofs.PiecesHold.{pieces-true}
 use Rattle.testfile_walk.specs.declared.inner.Walk.{Walk}
 use Rattle.testfile_judged.specs.declared.writing.Written.{Written}
@@ -42,14 +45,11 @@ end-again N c test_file report =
     (λ left. checks (report_rules report (report_record (length test_file / record_length N) (path_total N) (runs_by_edge left))) then value left)
 
 -- A refusal at the beginning: there is no file, and nothing is read
-module _ (netlist : List ℕ) (class : ℕ) (ws ws₀ work : List ℕ) (b : Result Loaded Refusal) (t : BeginTrue b netlist class ws ws₀ work)
-    (w : Refusal) (q : b ≡ Err w) (truth space : List ℕ) where
-  refused_begin : BeginTrue (Err w) netlist class ws ws₀ work
-  refused_begin = subst (λ (x : Result Loaded Refusal). BeginTrue x netlist class ws ws₀ work) q t
-
+module _ (netlist : List ℕ) (class : ℕ) (ws ws₀ work : List ℕ) (b : Begun) (t : BeginTrue b netlist class ws ws₀ work)
+    (w : Refusal) (q : b.answer ≡ Err w) (truth space : List ℕ) where
   before-refused : before_test netlist class ws work ≡ refused (refusal_number_of w)
   unfolding begin_answer
-  before-refused = refused-by (before_test netlist class ws work) (refusal_number_of w) refused_begin.answer
+  before-refused = refused-by (before_test netlist class ws work) (refusal_number_of w) (told-refused netlist class ws ws₀ work b t w q)
 
   no-file : file_call netlist class [] ws work ≡ refused (refusal_number_of w)
   unfolding file_call
@@ -71,7 +71,7 @@ module _ (netlist : List ℕ) (class : ℕ) (ws ws₀ work : List ℕ) (b : Resu
 
   pub audit_refused : (report : List ℕ)
       → StreamAudited (record { answer = Err w; length = 0; bytes = 0; taken = 0; whole = true }) netlist report class truth truth space ws ws₀ work work
-  audit_refused report = record { read = nothing_read; is_audit = pieces-true.refused_at_once netlist class [] report ws ws₀ work w refused_begin }
+  audit_refused report = record { read = nothing_read; is_audit = pieces-true.refused_at_once netlist class [] report ws ws₀ work b t w q }
 
   pub report-refused :
       StreamReported (record { answer = Err w; length = 0; bytes = 0; taken = 0; whole = true }) netlist class truth truth space ws ws₀ work work
@@ -84,16 +84,40 @@ module _ (netlist : List ℕ) (class : ℕ) (ws ws₀ work : List ℕ) (b : Resu
   }
 
 -- A beginning that passed, then a file that was walked over
-module _ (netlist : List ℕ) (class : ℕ) (ws ws₀ work : List ℕ) (b : Result Loaded Refusal) (t : BeginTrue b netlist class ws ws₀ work)
-    (loaded : Loaded) (q : b ≡ Ok loaded) where
-  begun : BeginTrue (Ok loaded) netlist class ws ws₀ work
-  begun = subst (λ (x : Result Loaded Refusal). BeginTrue x netlist class ws ws₀ work) q t
+module _ (netlist : List ℕ) (class : ℕ) (ws ws₀ work : List ℕ) (b : Begun) (t : BeginTrue b netlist class ws ws₀ work)
+    (q : b.answer ≡ Ok tt) where
+  told : value tt ≡ begin_answer netlist class ws work
+  told = told-ready netlist class ws ws₀ work b t q
+
+  with_tables : ReadyTables b netlist ws₀ work
+  with_tables = begun-ready netlist class ws ws₀ work b t q
+
+  -- it has its tables
+  never : (w : Refusal) → b.tables ≡ Err w → ⊥
+  never w z = not_refused (ap (λ (x : Result Loaded Refusal). answer_of x) (sym z ∙ with_tables.tables_are))
+
+  pub audit_never : (w : Refusal) → b.tables ≡ Err w → (truth space report : List ℕ)
+      → StreamAudited (record { answer = Err w; length = 0; bytes = 0; taken = 0; whole = true }) netlist report class truth truth space ws ws₀ work work
+  audit_never w z truth space report = absurd (never w z)
+
+  pub report-never : (w : Refusal) → b.tables ≡ Err w → (truth space : List ℕ)
+      → StreamReported (record { answer = Err w; length = 0; bytes = 0; taken = 0; whole = true }) netlist class truth truth space ws ws₀ work work
+  report-never w z truth space = absurd (never w z)
+
+-- A beginning that passed, and its tables
+module _ (netlist : List ℕ) (class : ℕ) (ws ws₀ work : List ℕ) (b : Begun) (t : BeginTrue b netlist class ws ws₀ work)
+    (q : b.answer ≡ Ok tt) (loaded : Loaded) (z : b.tables ≡ Ok loaded) where
+  told-passed : value tt ≡ begin_answer netlist class ws work
+  told-passed = told-ready netlist class ws ws₀ work b t q
+
+  same : (begun-ready netlist class ws ws₀ work b t q).loaded ≡ loaded
+  same = value_inj (ap (λ (x : Result Loaded Refusal). answer_of x) (sym (begun-ready netlist class ws ws₀ work b t q).tables_are ∙ z))
 
   pub stream-ready : Ready netlist loaded ws₀ work
-  stream-ready = begun-ready netlist class ws ws₀ work loaded begun
+  stream-ready = subst (λ (d : Loaded). Ready netlist d ws₀ work) same (begun-ready netlist class ws ws₀ work b t q).ready
 
   pub stream-empty : ws₀ ≡ empty_store
-  stream-empty = begun-empty netlist class ws ws₀ work begun.answer begun.store
+  stream-empty = begun-empty netlist class ws ws₀ work told-passed t.store
 
   module _ (walk : Walk) (space ws₁ work₁ : List ℕ) (v : Walked file_taken walk netlist loaded class space ws₁ work work₁)
       (r : Written) (truth truth' : List ℕ) (y : Wrote r (writer_after netlist (file_of walk.records.answer ws₁) truth) truth truth') where
@@ -107,13 +131,13 @@ module _ (netlist : List ℕ) (class : ℕ) (ws ws₀ work : List ℕ) (b : Resu
     legal = v.ready.tables.legal
 
     lent : lent_rules ws work ≡ value tt
-    lent = begun-lent netlist class ws ws₀ work begun.answer
+    lent = begun-lent netlist class ws ws₀ work told-passed
 
     known : within 1 2 class ≡ true
-    known = begun-known netlist class ws ws₀ work begun.answer
+    known = begun-known netlist class ws ws₀ work told-passed
 
     before : before_test netlist class ws work ≡ value N
-    before = begun-before netlist class ws ws₀ work begun.answer N legal
+    before = begun-before netlist class ws ws₀ work told-passed N legal
 
     report-is : writer_after netlist (file_of walk.records.answer ws₁) truth ≡ true_report netlist class f ws work truth
     unfolding true_report writer_after
@@ -167,4 +191,4 @@ pub stream_accepts : (r : Judged) (netlist report : List ℕ) (class : ℕ) (tru
 stream_accepts r netlist report class truth truth' space ws ws' work work' s =
     calls-true.audits r.answer netlist class s.read.test_file report ws ws' work work' s.is_audit
 
-pub ruleset stream-cases = (stream-ready, stream-empty, audit_refused, audit_done, report-refused, report-done, rules)
+pub ruleset stream-cases = (stream-ready, stream-empty, audit_refused, audit_never, audit_done, report-refused, report-never, report-done, rules)

@@ -3,6 +3,7 @@
 
 mod writing;
 
+ghost use Rattle.std.specs.Prelude.{◌≡◌, Err, true};
 ghost use Rattle.io.specs.Counts.{IsPrefixLen};
 ghost use Rattle.testfile_judged.specs.Streams.{StreamAudited, StreamReported};
 
@@ -35,6 +36,32 @@ pub struct Reported {
     pub whole: bool,
 }
 
+// What is told where the audit does not begin.
+fn not_judged(why: Refusal) -> Judged
+    ensures { result ≡ record { answer = Err why; length = 0; bytes = 0; taken = 0; whole = true } }
+{
+    Judged {
+        answer: Err(why),
+        length: 0,
+        bytes: 0,
+        taken: 0,
+        whole: true,
+    }
+}
+
+// The same for a report.
+fn not_reported(why: Refusal) -> Reported
+    ensures { result ≡ record { answer = Err why; length = 0; bytes = 0; taken = 0; whole = true } }
+{
+    Reported {
+        answer: Err(why),
+        length: 0,
+        bytes: 0,
+        taken: 0,
+        whole: true,
+    }
+}
+
 // The audit of a report, in a class, with a test file that was opened. Where all records are taken, `truth` then begins with the true report. The
 // last piece that was read is left in the space.
 pub fn audit_stream(
@@ -52,30 +79,27 @@ pub fn audit_stream(
         space.new store.old store.new work.old work.new × IsPrefixLen result.length truth.new }
 {
     let begun = begin(netlist, test_class, store, work);
-    match begun {
-        Err(why) => Judged {
-            answer: Err(why),
-            length: 0,
-            bytes: 0,
-            taken: 0,
-            whole: true,
-        },
-        Ok(loaded) => {
-            let walk = walk_file(
-                opened, stderr, netlist, loaded, test_class, space, store, work,
-            );
-            let records = walk.records;
-            let written = true_report(netlist, records, store, truth);
-            let taken = records.answer;
-            let answer = finish(netlist, loaded, taken, walk.bytes, report, store, work);
-            Judged {
-                answer,
-                length: written.length,
-                bytes: walk.bytes,
-                taken: records.taken,
-                whole: walk.whole,
+    match begun.answer {
+        Err(why) => not_judged(why),
+        Ok(()) => match begun.tables {
+            Err(why) => not_judged(why),
+            Ok(loaded) => {
+                let walk = walk_file(
+                    opened, stderr, netlist, loaded, test_class, space, store, work,
+                );
+                let records = walk.records;
+                let written = true_report(netlist, records, store, truth);
+                let taken = records.answer;
+                let answer = finish(netlist, loaded, taken, walk.bytes, report, store, work);
+                Judged {
+                    answer,
+                    length: written.length,
+                    bytes: walk.bytes,
+                    taken: records.taken,
+                    whole: walk.whole,
+                }
             }
-        }
+        },
     }
 }
 
@@ -94,28 +118,25 @@ pub fn report_stream(
         space.new store.old store.new work.old work.new × IsPrefixLen result.length truth.new }
 {
     let begun = begin(netlist, test_class, store, work);
-    match begun {
-        Err(why) => Reported {
-            answer: Err(why),
-            length: 0,
-            bytes: 0,
-            taken: 0,
-            whole: true,
-        },
-        Ok(loaded) => {
-            let walk = walk_file(
-                opened, stderr, netlist, loaded, test_class, space, store, work,
-            );
-            let records = walk.records;
-            let written = true_report(netlist, records, store, truth);
-            let answer = written.answer;
-            Reported {
-                answer,
-                length: written.length,
-                bytes: walk.bytes,
-                taken: records.taken,
-                whole: walk.whole,
+    match begun.answer {
+        Err(why) => not_reported(why),
+        Ok(()) => match begun.tables {
+            Err(why) => not_reported(why),
+            Ok(loaded) => {
+                let walk = walk_file(
+                    opened, stderr, netlist, loaded, test_class, space, store, work,
+                );
+                let records = walk.records;
+                let written = true_report(netlist, records, store, truth);
+                let answer = written.answer;
+                Reported {
+                    answer,
+                    length: written.length,
+                    bytes: walk.bytes,
+                    taken: records.taken,
+                    whole: walk.whole,
+                }
             }
-        }
+        },
     }
 }

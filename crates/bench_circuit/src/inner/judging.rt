@@ -20,7 +20,7 @@ pub struct NameCounts {
     pub outputs: usize,
 }
 
-// The lines of a text: how many names they define, or why the first bad one is refused, and its number from 1.
+// Why a text is refused, and the line of the text, counted from 1, that is refused; 0 where it is no line.
 #[derive(Drop)]
 pub struct LineRefusal {
     pub why: Refusal,

@@ -9,8 +9,11 @@ true_report-written-requires c = search stream-cases
 pub returns-in-Err : goal.returns-in-Err
 returns-in-Err c = (search stream-cases, search rules)
 
-pub returns-in-Ok : goal.returns-in-Ok
-returns-in-Ok c = (search stream-cases, search rules)
+pub returns-in-Err-tables : goal.returns-in-Err-tables
+returns-in-Err-tables c = (search stream-cases, search rules)
+
+pub returns-in-Ok-tables : goal.returns-in-Ok-tables
+returns-in-Ok-tables c = (search stream-cases, search rules)
 
 pub walk_file-walk-requires : goal.walk_file-walk-requires
 walk_file-walk-requires c = (search stream-cases, search stream-cases)

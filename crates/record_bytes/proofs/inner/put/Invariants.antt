@@ -3,6 +3,6 @@ use Rattle.model.proofs.Prelude.{◌+◌, ◌-◌, ◌≡◌, length, sets}
 use Rattle.model.specs.Base.{little_endian}
 use Rattle.record_bytes.proofs.inner.put.Given as goal
 
-abbrev pub invariant-loop-place : goal.invariant-loop-place
-invariant-loop-place l =
-    (length l.s ≡ length l.initial.s) × (sets l.s l.place (little_endian (l.at + l.k - l.place) l.rest) ≡ sets l.initial.s l.at (little_endian l.k l.number))
+abbrev pub invariant-loop-i : goal.invariant-loop-i
+invariant-loop-i l =
+    (length l.s ≡ length l.initial.s) × (sets l.s (l.at + l.i) (little_endian (l.k - l.i) l.rest) ≡ sets l.initial.s l.at (little_endian l.k l.number))

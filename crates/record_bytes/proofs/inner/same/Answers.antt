@@ -1,24 +1,24 @@
 -- `record_bytes::inner::same` meets its contract: what is left decides.
 use Rattle.model.proofs.Prelude.{◌+◌, ◌-◌, ◌∙◌, sym, arith}
-use Rattle.std.proofs.Math.Nat.{sub-add-eq}
+use Rattle.std.proofs.Math.Nat.{add_assoc, sub-add-eq}
 use Rattle.record_bytes.proofs.ByteLaws.{same-yes, same-no, same_none}
 use Rattle.record_bytes.proofs.inner.same.Goals as goal
 
 pub overflow_cast-s : goal.overflow_cast-s
-overflow_cast-s c = omega (arith, c.shared_slice_known-1.given c.loop-place.place)
+overflow_cast-s c = omega (arith, c.shared_slice_known-1.given (c.args.at + c.loop-i.i))
 
-pub returns-then-s-place : goal.returns-then-s-place
-returns-then-s-place c = let a = c.args in
-    let l = c.loop-place in
-    sym (same-no a.s.now l.place (a.at + a.k - l.place) l.rest (omega arith) (omega arith) c.if-s-place.true) ∙ l.invariant
+pub returns-then-s-at : goal.returns-then-s-at
+returns-then-s-at c = let a = c.args in
+    let l = c.loop-i in
+    sym (same-no a.s.now (a.at + l.i) (a.k - l.i) l.rest (omega arith) (omega arith) c.if-s-at.true) ∙ l.invariant
 
-pub loop-place-preserved : goal.loop-place-preserved
-loop-place-preserved c = let a = c.args in
-    let l = c.loop-place in
-    let left = a.at + a.k - l.place in
-    rw (sub-add-eq (a.at + a.k) l.place 1) (sym (same-yes a.s.now l.place left l.rest (omega arith) (omega arith) c.if-s-place.false) ∙ l.invariant)
+pub loop-i-preserved : goal.loop-i-preserved
+loop-i-preserved c = let a = c.args in
+    let l = c.loop-i in
+    rw (sub-add-eq a.k l.i 1, sym (add_assoc a.at l.i 1))
+    (sym (same-yes a.s.now (a.at + l.i) (a.k - l.i) l.rest (omega arith) (omega arith) c.if-s-at.false) ∙ l.invariant)
 
 pub returns : goal.returns
 returns c = let a = c.args in
-    let l = c.loop-place in
-    sym (same_none a.s.now l.place (a.at + a.k - l.place) l.rest (omega arith)) ∙ l.invariant
+    let l = c.loop-i in
+    sym (same_none a.s.now (a.at + l.i) (a.k - l.i) l.rest (omega arith)) ∙ l.invariant
