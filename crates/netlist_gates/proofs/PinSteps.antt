@@ -59,6 +59,26 @@ sum-end counts (suc n) at s sum whole h w = absurd (omega arith)
 pub sum_fits : (counts : List ℕ) (n at : ℕ) (s : List ℕ) (sum whole : ℕ) → n ≤ 0 → sum ≤ 2 ^ 62 → sum + pin_sum_of counts n at s ≡ whole → whole ≤ 2 ^ 62
 sum_fits counts n at s sum whole h l w = omega (arith, sum-end counts n at s sum whole h w)
 
+-- ---- the same by what is left of 2^62
+
+module _ (counts : List ℕ) (n at : ℕ) (s : List ℕ) (room whole pin : ℕ) where
+  pub room-again : 0 < n → pin ≡ field at 2 s → 2 ^ 62 + pin_sum_of counts n at s ≡ room + whole → get_or counts pin 0 ≤ room
+      → 2 ^ 62 + pin_sum_of counts (n - 1) (at + 2) s ≡ room - get_or counts pin 0 + whole
+  room-again h e w l = omega (arith, split counts n at s 0 0 pin h e)
+
+  pub room-stop : 0 < n → pin ≡ field at 2 s → 2 ^ 62 + pin_sum_of counts n at s ≡ room + whole → room < get_or counts pin 0 → 2 ^ 62 < whole
+  room-stop h e w o = omega (arith, split counts n at s 0 0 pin h e)
+
+pub room-end : (counts : List ℕ) (n at : ℕ) (s : List ℕ) (room whole : ℕ) → n ≤ 0 → 2 ^ 62 + pin_sum_of counts n at s ≡ room + whole → 2 ^ 62 - room ≡ whole
+unfolding pin_sum_of
+room-end counts zero at s room whole h w = omega arith
+room-end counts (suc n) at s room whole h w = absurd (omega arith)
+
+pub room-fits : (counts : List ℕ) (n at : ℕ) (s : List ℕ) (room whole : ℕ) → n ≤ 0 → 2 ^ 62 + pin_sum_of counts n at s ≡ room + whole → whole ≤ 2 ^ 62
+unfolding pin_sum_of
+room-fits counts zero at s room whole h w = omega arith
+room-fits counts (suc n) at s room whole h w = absurd (omega arith)
+
 -- ---- a gate of two pins
 
 module _ (net : ℕ) (s : List ℕ) (a b : ℕ) (e : a ≡ field 4 2 s) (d : b ≡ field 6 2 s) where

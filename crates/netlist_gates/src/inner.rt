@@ -120,7 +120,8 @@ fn two_sum(part: &[u8], counts: &[u64; 512]) -> Option<u64>
     Some(first + second)
 }
 
-// The sum of the counts of the nets at the pins, unless it is over the limit. Again, two pins are summed without a loop.
+// The sum of the counts of the nets at the pins, unless it is over the limit. Again, two pins are summed without a loop. It goes by what is left of the limit,
+// so that no turn makes the limit anew.
 fn pin_sum(part: &[u8], pins: usize, counts: &[u64; 512]) -> Option<u64>
     requires { (4 + 2 * pins ≤ length part.now) × (pins_lower_of 512 pins 4 part.now ≡ true) }
     ensures { SumIs result (pin_sum_of counts.now pins 4 part.now) }
@@ -128,14 +129,14 @@ fn pin_sum(part: &[u8], pins: usize, counts: &[u64; 512]) -> Option<u64>
     if pins == 2 {
         return two_sum(part, counts);
     }
-    let mut sum: u64 = 0;
+    let mut room = MAX_COUNT;
     for k in 0..pins {
         let pin = u16_at(part, 4 + 2 * k);
         let count = counts[pin];
-        if MAX_COUNT - sum < count {
+        if room < count {
             return None;
         }
-        sum += count;
+        room -= count;
     }
-    Some(sum)
+    Some(MAX_COUNT - room)
 }
